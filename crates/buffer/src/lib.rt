@@ -1,0 +1,42 @@
+// Writes of a few words into a slice: the only stores that the writers above make.
+ghost use mathlib.Core.List.{[], _∷_};
+ghost use Prim.Native.Nat.{_+_, _≤_};
+ghost use lib.ListN.{length};
+ghost use Rattle.buffer.specs.Over.{Wrote};
+
+pub fn put_u16(out: &mut [u16], at: usize, x: u16) -> usize
+    requires { ⌜ at + 1 ≤ length (now out) ⌝ }
+    ensures { λ r. ⌜ Wrote (now (out .entry)) at (x ∷ []) (now (out .exit)) r ⌝ }
+{
+    out[at] = x;
+    at + 1
+}
+
+pub fn put2_u16(out: &mut [u16], at: usize, x: u16, y: u16) -> usize
+    requires { ⌜ at + 2 ≤ length (now out) ⌝ }
+    ensures { λ r. ⌜ Wrote (now (out .entry)) at (x ∷ y ∷ []) (now (out .exit)) r ⌝ }
+{
+    out[at] = x;
+    out[at + 1] = y;
+    at + 2
+}
+
+pub fn put3_u16(out: &mut [u16], at: usize, x: u16, y: u16, z: u16) -> usize
+    requires { ⌜ at + 3 ≤ length (now out) ⌝ }
+    ensures { λ r. ⌜ Wrote (now (out .entry)) at (x ∷ y ∷ z ∷ []) (now (out .exit)) r ⌝ }
+{
+    out[at] = x;
+    out[at + 1] = y;
+    out[at + 2] = z;
+    at + 3
+}
+
+pub fn put3_u32(out: &mut [u32], at: usize, u: u32, v: u32, w: u32) -> usize
+    requires { ⌜ at + 3 ≤ length (now out) ⌝ }
+    ensures { λ r. ⌜ Wrote (now (out .entry)) at (u ∷ v ∷ w ∷ []) (now (out .exit)) r ⌝ }
+{
+    out[at] = u;
+    out[at + 1] = v;
+    out[at + 2] = w;
+    at + 3
+}

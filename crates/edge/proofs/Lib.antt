@@ -1,0 +1,9 @@
+-- The laws of an edge's positions and of `table`, for the crates above; `Filled` and `Reach` serve this crate only.
+pub mod Table
+pub mod Entries
+pub mod Ends
+pub mod Mirrored
+pub mod Rises
+pub mod Near
+mod Filled
+mod Reach

@@ -1,0 +1,4 @@
+-- The definitions that the contracts and laws of `edge` cite.
+pub mod Positions
+pub mod Near
+pub mod Table

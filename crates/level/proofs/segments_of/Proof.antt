@@ -1,0 +1,24 @@
+-- `level::segments_of` meets its contract: a clamped level is in the range that each callee asks. Assumes nothing.
+use borrow.Author.Needs.{needs}
+use Rattle.level.specs.Segments.{segmentsOf}
+use Rattle.level.proofs.Clamp.{level-from-1-to-64}
+use Rattle.level.proofs.Scale.{level-in-range}
+use Rattle.level.proofs.segments_of.Statement.{statement}
+use Rattle.level.proofs.segments_of.Tie as tie
+
+clamp-level-requires : tie.Need-clamp-level-requires
+clamp-level-requires c κs = search needs
+
+parts-of-requires : tie.Need-parts-of-requires
+parts-of-requires c κs = rw (c .clamp-level .ensures) (level-from-1-to-64 (c .before .args .spacing) (c .before .args .level))
+
+segments-at-requires : tie.Need-segments-at-requires
+segments-at-requires c κs = rw (c .parts-of .ensures, c .before .clamp-level .ensures) (level-in-range (c .before .before .args .spacing) (c .before .before .args .level))
+
+returns : tie.Need-returns
+unfolding segmentsOf
+returns c = rw (c .segments-at .ensures, c .before .parts-of .ensures, c .before .before .clamp-level .ensures)
+
+pub segments-of-spec : {M : Type 1} → statement M
+segments-of-spec =
+    tie.close (tie.spec clamp-level-requires parts-of-requires segments-at-requires returns)

@@ -1,0 +1,36 @@
+-- The range of each spacing's levels, and a level clamped to it. Assumes nothing.
+use mathlib.Core.Bool.{false, cond}
+use lib.IntN.{pos}
+use lib.Dec.{T}
+use lib.Ieee.{Float, fin, lt, le}
+use Rattle.level.specs.declared.Spacing.{Spacing}
+use Rattle.level.specs.declared.Spacing.the-variants.{Equal, FractionalEven, FractionalOdd}
+
+-- the low end of a spacing's range: 1, 2 or 1
+abbrev pub lowest : Spacing → Float
+lowest Equal = fin false 1 (pos 0)
+lowest FractionalEven = fin false 1 (pos 1)
+lowest FractionalOdd = fin false 1 (pos 0)
+
+-- the high end: 64, 64 or 63
+abbrev pub highest : Spacing → Float
+highest Equal = fin false 1 (pos 6)
+highest FractionalEven = fin false 1 (pos 6)
+highest FractionalOdd = fin false 63 (pos 0)
+
+-- x brought into lo .. hi; a NaN, which compares with nothing, takes the low end
+abbrev pub clamped : Float → Float → Float → Float
+clamped lo hi x = cond (lt lo x) (cond (lt hi x) hi x) lo
+
+-- a level clamped to its spacing's range
+abbrev pub clampedLevel : Spacing → Float → Float
+clampedLevel s x = clamped (lowest s) (highest s) x
+
+-- x is a number from lo to hi
+pub record Within (lo hi x : Float) : Type 0 where
+  pub least : T (le lo x)
+  pub most : T (le x hi)
+
+-- x is a number from 1 to 64, which every range lies in
+abbrev pub From1To64 : Float → Type 0
+From1To64 x = Within (fin false 1 (pos 0)) (fin false 1 (pos 6)) x

@@ -1,0 +1,29 @@
+-- A level in whole parts of 1 / 65536, rounded up. Assumes nothing.
+use Prim.Native.Nat.{ℕ, _+_, _-_, _*_, _/_, _≤_}
+use mathlib.Core.Bool.{false}
+use lib.IntN.{negsuc}
+use lib.Dec.{T}
+use lib.Ieee.{Float, fin, le}
+use lib.Ieee.Positive.{num, den}
+
+-- a / b rounded up
+abbrev pub ceil : ℕ → ℕ → ℕ
+ceil a b = (a + (b - 1)) / b
+
+-- L of a clamped level x, the fraction num x / den x: x * 65536 rounded up
+unfoldable pub parts : Float → ℕ
+parts x = ceil (num x * 65536) (den x)
+
+-- the number k / 65536
+abbrev pub ofParts : ℕ → Float
+ofParts k = fin false k (negsuc 15)
+
+-- L is the least whole number not below x * 65536
+pub record LeastParts (x : Float) (L : ℕ) : Type 0 where
+  pub enough : T (le x (ofParts L))
+  pub least : (k : ℕ) → T (le x (ofParts k)) → L ≤ k
+
+-- L of some level from 1 to 64
+pub record InRange (L : ℕ) : Type 0 where
+  pub least : 65536 ≤ L
+  pub most : L ≤ 4194304

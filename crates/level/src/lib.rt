@@ -1,0 +1,133 @@
+// Tessellation levels: which level discards its patch, and how many segments a level gives.
+ghost use mathlib.Core.Path.{_≡_};
+ghost use lib.Ieee.{binary32, ofBits};
+ghost use Rattle.level.specs.Discard.{discarded};
+ghost use Rattle.level.specs.Clamp.{lowest, highest, clampedLevel, From1To64};
+ghost use Rattle.level.specs.Scale.{parts, InRange};
+ghost use Rattle.level.specs.Segments.{segmentsAt, segmentsOf, raised, asInner};
+
+pub enum Spacing {
+    Equal,
+    FractionalEven,
+    FractionalOdd,
+}
+
+// An edge's number of segments n, and its level in parts of 1 / 65536, L.
+pub struct Segments {
+    pub count: u32,
+    pub scaled: u32,
+}
+
+// Whether an outer level discards its patch.
+pub fn discards(level: f32) -> bool
+    ensures { λ r. ⌜ r ≡ discarded level ⌝ }
+{
+    !(level > 0.0)
+}
+
+// The level that a bit pattern stands for; `from_bits` itself takes no NaN.
+pub fn level_of_bits(bits: u32) -> f32
+    ensures { λ r. ⌜ r ≡ ofBits binary32 bits ⌝ }
+{
+    if bits % 0x8000_0000 > 0x7f80_0000 {
+        0.0 / 0.0
+    } else {
+        f32::from_bits(bits)
+    }
+}
+
+// The least and the greatest level of a spacing.
+struct Range {
+    lowest: f32,
+    highest: f32,
+}
+
+fn range_of(spacing: Spacing) -> Range
+    ensures { λ r. ⌜ r ≡ record { lowest = lowest spacing; highest = highest spacing } ⌝ }
+{
+    match spacing {
+        Spacing::Equal => Range {
+            lowest: 1.0,
+            highest: 64.0,
+        },
+        Spacing::FractionalEven => Range {
+            lowest: 2.0,
+            highest: 64.0,
+        },
+        Spacing::FractionalOdd => Range {
+            lowest: 1.0,
+            highest: 63.0,
+        },
+    }
+}
+
+// A level clamped to its spacing's range; a NaN takes the low end.
+fn clamp_level(level: f32, spacing: Spacing) -> f32
+    ensures { λ r. ⌜ r ≡ clampedLevel spacing level ⌝ }
+{
+    let range = range_of(spacing);
+    if range.lowest < level {
+        if range.highest < level {
+            range.highest
+        } else {
+            level
+        }
+    } else {
+        range.lowest
+    }
+}
+
+// L of a clamped level. An f32 from 1 to 64 is a whole number of parts of 2^-23, which an f64 holds.
+fn parts_of(x: f32) -> u32
+    requires { ⌜ From1To64 x ⌝ }
+    ensures { λ r. ⌜ r ≡ parts x ⌝ }
+{
+    let fine = (x as f64) * 8388608.0;
+    let fine_parts = fine as u32;
+    (fine_parts + 127) / 128
+}
+
+// The segments of a scaled level.
+fn segments_at(scaled: u32, spacing: Spacing) -> Segments
+    requires { ⌜ InRange scaled ⌝ }
+    ensures { λ r. ⌜ r ≡ segmentsAt spacing scaled ⌝ }
+{
+    match spacing {
+        Spacing::Equal => {
+            let count = (scaled + 65535) / 65536;
+            Segments {
+                count: count,
+                scaled: 65536 * count,
+            }
+        }
+        Spacing::FractionalEven => Segments {
+            count: 2 * ((scaled + 131071) / 131072),
+            scaled: scaled,
+        },
+        Spacing::FractionalOdd => Segments {
+            count: 2 * ((scaled - 65536 + 131071) / 131072) + 1,
+            scaled: scaled,
+        },
+    }
+}
+
+// The segments of a level.
+pub fn segments_of(level: f32, spacing: Spacing) -> Segments
+    ensures { λ r. ⌜ r ≡ segmentsOf spacing level ⌝ }
+{
+    segments_at(parts_of(clamp_level(level, spacing)), spacing)
+}
+
+// The segments of an inner level that would have one segment only.
+fn raised(spacing: Spacing) -> Segments
+    ensures { λ r. ⌜ r ≡ raised spacing ⌝ }
+{
+    segments_at(65537, spacing)
+}
+
+// An inner level's own segments, or the raised ones where it would have one only.
+pub fn as_inner(own: Segments, spacing: Spacing) -> Segments
+    ensures { λ r. ⌜ r ≡ asInner spacing own ⌝ }
+{
+    if own.count == 1 { raised(spacing) } else { own }
+}

@@ -1,0 +1,3 @@
+-- The laws of `patch`.
+pub mod Every
+pub mod Counts

@@ -1,0 +1,4 @@
+-- The definitions of `patch`.
+pub mod Turn
+pub mod Every
+pub mod Subdivide

@@ -1,0 +1,37 @@
+// How a patch is to be drawn.
+ghost use mathlib.Core.Path.{_≡_};
+ghost use Rattle.patch.specs.Turn.{positive};
+use level::Spacing;
+
+pub enum VertexOrder {
+    Clockwise,
+    CounterClockwise,
+}
+
+pub enum DomainOrigin {
+    UpperLeft,
+    LowerLeft,
+}
+
+pub struct Settings {
+    pub spacing: Spacing,
+    pub order: VertexOrder,
+    pub origin: DomainOrigin,
+    pub point_mode: bool,
+}
+
+// Whether triangles turn as the strips give them: counter-clockwise seen from a lower-left origin.
+pub fn turns_positive(order: VertexOrder, origin: DomainOrigin) -> bool
+    ensures { λ r. ⌜ r ≡ positive order origin ⌝ }
+{
+    match order {
+        VertexOrder::Clockwise => match origin {
+            DomainOrigin::UpperLeft => true,
+            DomainOrigin::LowerLeft => false,
+        },
+        VertexOrder::CounterClockwise => match origin {
+            DomainOrigin::UpperLeft => false,
+            DomainOrigin::LowerLeft => true,
+        },
+    }
+}

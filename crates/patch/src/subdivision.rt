@@ -1,0 +1,162 @@
+// From a patch's levels to the segments of each of its edges, outside and inside.
+ghost use mathlib.Core.Path.{_≡_};
+ghost use mathlib.Core.List.{[], _∷_};
+ghost use Rattle.level.specs.Discard.{discarded};
+ghost use Rattle.patch.specs.Every.{some};
+ghost use Rattle.patch.specs.Subdivide.{subdivision};
+use crate::kinds::Patch;
+use level::Segments;
+use level::Spacing;
+
+pub enum Subdivision {
+    Discarded,
+    PlainTriangle,
+    Triangle {
+        edge0: Segments,
+        edge1: Segments,
+        edge2: Segments,
+        inside: Segments,
+    },
+    PlainQuad,
+    Quad {
+        edge0: Segments,
+        edge1: Segments,
+        edge2: Segments,
+        edge3: Segments,
+        rows: Segments,
+        columns: Segments,
+    },
+    Lines {
+        lines: Segments,
+        along: Segments,
+    },
+}
+
+pub fn subdivide(patch: Patch, spacing: Spacing) -> Subdivision
+    ensures { λ r. ⌜ r ≡ subdivision spacing patch ⌝ }
+{
+    match patch {
+        Patch::Triangles {
+            outer0,
+            outer1,
+            outer2,
+            inner0,
+        } => triangle(spacing, outer0, outer1, outer2, inner0),
+        Patch::Quads {
+            outer0,
+            outer1,
+            outer2,
+            outer3,
+            inner0,
+            inner1,
+        } => quad(spacing, outer0, outer1, outer2, outer3, inner0, inner1),
+        Patch::Isolines { outer0, outer1 } => isolines(spacing, outer0, outer1),
+    }
+}
+
+// Whether one of the outer levels discards the patch.
+fn discards2(a: f32, b: f32) -> bool
+    ensures { λ r. ⌜ r ≡ some discarded (a ∷ b ∷ []) ⌝ }
+{
+    if level::discards(a) {
+        true
+    } else {
+        level::discards(b)
+    }
+}
+
+fn discards3(a: f32, b: f32, c: f32) -> bool
+    ensures { λ r. ⌜ r ≡ some discarded (a ∷ b ∷ c ∷ []) ⌝ }
+{
+    if level::discards(a) {
+        true
+    } else {
+        discards2(b, c)
+    }
+}
+
+fn discards4(a: f32, b: f32, c: f32, d: f32) -> bool
+    ensures { λ r. ⌜ r ≡ some discarded (a ∷ b ∷ c ∷ d ∷ []) ⌝ }
+{
+    if level::discards(a) {
+        true
+    } else {
+        discards3(b, c, d)
+    }
+}
+
+// A count is at least 1, so all of them are 1 where they add up to their number.
+fn triangle(spacing: Spacing, outer0: f32, outer1: f32, outer2: f32, inner0: f32) -> Subdivision
+    ensures { λ r. ⌜ r ≡ subdivision spacing (Patch.Triangles outer0 outer1 outer2 inner0) ⌝ }
+{
+    if discards3(outer0, outer1, outer2) {
+        return Subdivision::Discarded;
+    }
+    let edge0 = level::segments_of(outer0, spacing);
+    let edge1 = level::segments_of(outer1, spacing);
+    let edge2 = level::segments_of(outer2, spacing);
+    let inner = level::segments_of(inner0, spacing);
+    if edge0.count + edge1.count + edge2.count + inner.count == 4 {
+        return Subdivision::PlainTriangle;
+    }
+    let inside = level::as_inner(inner, spacing);
+    Subdivision::Triangle {
+        edge0,
+        edge1,
+        edge2,
+        inside,
+    }
+}
+
+fn quad(
+    spacing: Spacing,
+    outer0: f32,
+    outer1: f32,
+    outer2: f32,
+    outer3: f32,
+    inner0: f32,
+    inner1: f32,
+) -> Subdivision
+    ensures { λ r. ⌜ r ≡ subdivision spacing (Patch.Quads outer0 outer1 outer2 outer3 inner0 inner1) ⌝ }
+{
+    if discards4(outer0, outer1, outer2, outer3) {
+        return Subdivision::Discarded;
+    }
+    let edge0 = level::segments_of(outer0, spacing);
+    let edge1 = level::segments_of(outer1, spacing);
+    let edge2 = level::segments_of(outer2, spacing);
+    let edge3 = level::segments_of(outer3, spacing);
+    let inner_rows = level::segments_of(inner0, spacing);
+    let inner_columns = level::segments_of(inner1, spacing);
+    if edge0.count
+        + edge1.count
+        + edge2.count
+        + edge3.count
+        + inner_rows.count
+        + inner_columns.count
+        == 6
+    {
+        return Subdivision::PlainQuad;
+    }
+    let rows = level::as_inner(inner_rows, spacing);
+    let columns = level::as_inner(inner_columns, spacing);
+    Subdivision::Quad {
+        edge0,
+        edge1,
+        edge2,
+        edge3,
+        rows,
+        columns,
+    }
+}
+
+fn isolines(spacing: Spacing, outer0: f32, outer1: f32) -> Subdivision
+    ensures { λ r. ⌜ r ≡ subdivision spacing (Patch.Isolines outer0 outer1) ⌝ }
+{
+    if discards2(outer0, outer1) {
+        return Subdivision::Discarded;
+    }
+    let lines = level::segments_of(outer0, Spacing::Equal);
+    let along = level::segments_of(outer1, spacing);
+    Subdivision::Lines { lines, along }
+}

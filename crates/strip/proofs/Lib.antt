@@ -1,0 +1,4 @@
+pub mod Lines
+pub mod Rule
+pub mod Walks
+pub mod Strips

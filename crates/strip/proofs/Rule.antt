@@ -1,0 +1,55 @@
+-- The two laws of the strip's rule, which is all that anything above knows of it, and what they give: a walk by it stops at
+-- neither line's end before both are reached.
+-- Assumes nothing.
+use Prim.Native.Nat.{ℕ, suc, _+_, _*_, _≤_, _<_}
+use mathlib.Core.Path.{_≡_}
+use mathlib.Core.Bool.{Bool, true, false}
+use native.Mathlib.Omega.{arith}
+use native.Mathlib.Decide.{decLe}
+use native.Mathlib.Nat.{mul-le-mul, mul-le-mul-right}
+use borrow.Author.Tests.{le-leb, lt-leb}
+use Rattle.strip.specs.Rule.{outerNext, stepOuter, stepInner}
+
+-- at the end of the outer line the inner moves
+pub outer-ended : (p r b : ℕ) → b < r → outerNext p r p b ≡ false
+unfolding outerNext
+outer-ended p r b h = lt-leb ((2 * p + 1) * r) ((2 * b + 1) * p) (omega (arith, mul-le-mul-right p h))
+
+-- at the end of the inner line the outer moves
+pub inner-ended : (p r a : ℕ) → a < p → outerNext p r a r ≡ true
+unfolding outerNext
+inner-ended p r a h = le-leb ((2 * a + 1) * r) ((2 * r + 1) * p) (omega (arith, mul-le-mul-right r h))
+
+-- one step on in all
+pub step-sum : (t : Bool) (a b : ℕ) → stepOuter t a + stepInner t b ≡ suc (a + b)
+step-sum true a b = omega arith
+step-sum false a b = omega arith
+
+-- a rule that keeps to the two lines until both end
+pub record Rule (next : ℕ → ℕ → Bool) (p r : ℕ) : Type 0 where
+  pub outer : (a b : ℕ) → a ≤ p → b ≤ r → a + b < p + r → stepOuter (next a b) a ≤ p
+  pub inner : (a b : ℕ) → a ≤ p → b ≤ r → a + b < p + r → stepInner (next a b) b ≤ r
+
+outer-at-most : (t : Bool) (a : ℕ) → stepOuter t a ≤ suc a
+outer-at-most true a = omega arith
+outer-at-most false a = omega arith
+
+inner-at-most : (t : Bool) (b : ℕ) → stepInner t b ≤ suc b
+inner-at-most true b = omega arith
+inner-at-most false b = omega arith
+
+pub rule : (p r : ℕ) → Rule (outerNext p r) p r
+rule p r = record {
+  outer = λ a b u v w. elim (decLe (suc a) p) [
+    | yes h ↦ omega (arith, outer-at-most (outerNext p r a b) a)
+    | no h ↦ let e : a ≡ p = omega arith in rw (e, outer-ended p r b (omega arith)) (omega arith)
+  ];
+  inner = λ a b u v w. elim (decLe (suc b) r) [
+    | yes h ↦ omega (arith, inner-at-most (outerNext p r a b) b)
+    | no h ↦ let e : b ≡ r = omega arith in rw (e, inner-ended p r a (omega arith)) (omega arith)
+  ];
+}
+
+-- the rule's products are small
+pub product : (x y : ℕ) → x ≤ 129 → y ≤ 64 → x * y ≤ 8256
+product x y h k = mul-le-mul h k

@@ -1,0 +1,5 @@
+pub mod Triangles
+pub mod Lines
+pub mod Rule
+pub mod Strips
+pub mod Walks

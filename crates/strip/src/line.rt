@@ -1,0 +1,36 @@
+// One line of a strip: the numbers of the vertices along it.
+ghost use mathlib.Core.Path.{_≡_};
+ghost use Prim.Native.Nat.{suc, _<_};
+ghost use Rattle.strip.specs.Lines.{vertex};
+
+// Points 0 to count. Their numbers go on from first by step, modulo 65536, so that a step of 65535 counts
+// down; the last point has a number of its own, for a line that ends where its ring began.
+pub struct Line {
+    pub first: u16,
+    pub step: u16,
+    pub count: u32,
+    pub last: u16,
+}
+
+impl Line {
+    // The vertex at point 0.
+    pub fn start(self) -> u16
+        ensures { λ r. ⌜ r ≡ vertex self 0 ⌝ }
+    {
+        let count = self.count;
+        if count == 0 { self.last } else { self.first }
+    }
+
+    // The vertex after point i, whose own vertex is x.
+    pub fn after(self, i: u32, x: u16) -> u16
+        requires { ⌜ i < self .count ⌝ ∗ ⌜ x ≡ vertex self i ⌝ }
+        ensures { λ r. ⌜ r ≡ vertex self (suc i) ⌝ }
+    {
+        let count = self.count;
+        if i + 1 == count {
+            self.last
+        } else {
+            ((x as u32 + self.step as u32) % 65536) as u16
+        }
+    }
+}

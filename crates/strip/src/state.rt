@@ -1,0 +1,39 @@
+// How far a strip is: the only code that knows which line moves next.
+ghost use mathlib.Core.Path.{_≡_};
+ghost use Rattle.strip.specs.Rule.{Within, stepOf};
+
+// Point a of the outer line's p segments and point b of the inner line's r segments are reached.
+pub struct Strip {
+    pub a: u32,
+    pub b: u32,
+    pub p: u32,
+    pub r: u32,
+}
+
+// Which line moved, and the state after it.
+pub struct Step {
+    pub outer: bool,
+    pub next: Strip,
+}
+
+impl Strip {
+    pub fn step(mut self) -> Step
+        requires { ⌜ Within self ⌝ }
+        ensures { λ r. ⌜ r ≡ stepOf self ⌝ }
+    {
+        let a = self.a;
+        let b = self.b;
+        if (2 * a + 1) * self.r <= (2 * b + 1) * self.p {
+            self.a = a + 1;
+            return Step {
+                outer: true,
+                next: self,
+            };
+        }
+        self.b = b + 1;
+        Step {
+            outer: false,
+            next: self,
+        }
+    }
+}

@@ -1,0 +1,136 @@
+//! The operations on one patch: tessellating, measuring, drawing into lists.
+
+use crate::mesh::{Mesh, Primitives};
+use crate::patch::{Patch, Settings};
+use crate::{isolines, quads, triangles};
+
+/// What a patch comes to when room plays no part.
+#[derive(Clone, Debug, PartialEq, Eq)]
+pub enum Answer {
+    Discarded,
+    Drawn {
+        points: Vec<[u32; 3]>,
+        indices: Vec<u32>,
+    },
+}
+
+/// What measuring answers.
+#[derive(Clone, Copy, Debug, PartialEq, Eq)]
+pub enum Measure {
+    Discarded,
+    Counts { points: usize, indices: usize },
+}
+
+/// What drawing into two lists answers.
+#[derive(Clone, Copy, Debug, PartialEq, Eq)]
+pub enum Drawing {
+    Drawn { points: usize, indices: usize },
+    Discarded,
+    IndexLimit,
+    NoRoomForVertices,
+    NoRoomForIndices,
+}
+
+impl Drawing {
+    /// Section "What the cutter says": the number of each answer.
+    pub fn number(&self) -> u32 {
+        match self {
+            Drawing::Drawn { .. } => 0,
+            Drawing::Discarded => 1,
+            Drawing::IndexLimit => 2,
+            Drawing::NoRoomForVertices => 3,
+            Drawing::NoRoomForIndices => 4,
+        }
+    }
+}
+
+/// The mesh of a patch that is not discarded, before vertex order and point
+/// mode are looked at.
+fn build(patch: &Patch, settings: &Settings) -> Mesh {
+    match *patch {
+        Patch::Triangles { outer, inner } => triangles::build(outer, inner, settings.spacing),
+        Patch::Quads { outer, inner } => quads::build(outer, inner, settings.spacing),
+        Patch::Isolines { outer } => isolines::build(outer, settings.spacing),
+    }
+}
+
+/// Sections "Strips" and "Isolines and dots": the list of indices. Triangles
+/// swap their second and third corner for the other turn; lines never change;
+/// point mode lists every point once.
+fn indices(mesh: &Mesh, settings: &Settings) -> Vec<u32> {
+    if settings.point_mode {
+        return (0..mesh.points.len() as u32).collect();
+    }
+    match &mesh.primitives {
+        Primitives::Triangles(list) => list
+            .iter()
+            .flat_map(|&[a, b, c]| {
+                if settings.area_is_positive() {
+                    [a, b, c]
+                } else {
+                    [a, c, b]
+                }
+            })
+            .collect(),
+        Primitives::Lines(list) => list.iter().flatten().copied().collect(),
+    }
+}
+
+/// Section "What the cutter says", answers 0 and 1, for lists without end.
+pub fn tessellate(patch: &Patch, settings: &Settings) -> Answer {
+    if patch.is_discarded() {
+        return Answer::Discarded;
+    }
+    let mesh = build(patch, settings);
+    let indices = indices(&mesh, settings);
+    Answer::Drawn {
+        points: mesh.points,
+        indices,
+    }
+}
+
+/// Section "What the cutter says", on measuring: the counts a drawing would
+/// have, whether or not it could be done.
+pub fn measure(patch: &Patch, settings: &Settings) -> Measure {
+    match tessellate(patch, settings) {
+        Answer::Discarded => Measure::Discarded,
+        Answer::Drawn { points, indices } => Measure::Counts {
+            points: points.len(),
+            indices: indices.len(),
+        },
+    }
+}
+
+/// Section "What the cutter says": the lowest of the answers 0 to 4 that
+/// applies. The lists change only when the answer is "drawn", and then only
+/// as far as the counts go.
+pub fn draw(
+    patch: &Patch,
+    settings: &Settings,
+    vertex_list: &mut [u32],
+    index_list: &mut [u16],
+) -> Drawing {
+    let (points, indices) = match tessellate(patch, settings) {
+        Answer::Discarded => return Drawing::Discarded,
+        Answer::Drawn { points, indices } => (points, indices),
+    };
+    if points.len() > 65_535 {
+        return Drawing::IndexLimit;
+    }
+    if vertex_list.len() < 3 * points.len() {
+        return Drawing::NoRoomForVertices;
+    }
+    if index_list.len() < indices.len() {
+        return Drawing::NoRoomForIndices;
+    }
+    for (place, value) in vertex_list.iter_mut().zip(points.iter().flatten()) {
+        *place = *value;
+    }
+    for (place, value) in index_list.iter_mut().zip(&indices) {
+        *place = *value as u16;
+    }
+    Drawing::Drawn {
+        points: points.len(),
+        indices: indices.len(),
+    }
+}

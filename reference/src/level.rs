@@ -1,0 +1,172 @@
+//! From a tessellation level to a number of segments, in whole numbers only.
+
+use crate::patch::Spacing;
+
+/// How one edge is divided: n segments, and the level L in steps of 2^-16.
+#[derive(Clone, Copy, Debug, PartialEq, Eq)]
+pub struct Division {
+    pub n: u32,
+    pub l: u32,
+}
+
+/// Section "From a level to a number of segments": the clamp of each spacing.
+fn clamp_range(spacing: Spacing) -> (u32, u32) {
+    match spacing {
+        Spacing::Equal => (1, 64),
+        Spacing::FractionalEven => (2, 64),
+        Spacing::FractionalOdd => (1, 63),
+    }
+}
+
+/// Same section: the level after the clamp, counted in steps of 2^-23. The
+/// count is read off the sign, exponent and fraction bits of the f32. A NaN
+/// counts as the bottom of the range.
+fn clamped_parts(level: f32, spacing: Spacing) -> u32 {
+    let (low, high) = clamp_range(spacing);
+    let (low, high) = (low << 23, high << 23);
+    let bits = level.to_bits();
+    let negative = bits >> 31 == 1;
+    let exponent = (bits >> 23) & 0xff; // 127 stands for 2^0
+    let fraction = bits & 0x7f_ffff;
+    let nan = exponent == 255 && fraction != 0;
+    if nan || negative || exponent < 127 {
+        return low; // NaN, below zero, or below 1
+    }
+    if exponent > 127 + 6 {
+        return high; // 128 or more, infinity included
+    }
+    let parts = ((1 << 23) | fraction) << (exponent - 127);
+    parts.clamp(low, high)
+}
+
+/// Same section: from steps of 2^-23 to L, in steps of 2^-16; a started step
+/// counts as a whole one.
+fn level_units(level: f32, spacing: Spacing) -> u32 {
+    clamped_parts(level, spacing).div_ceil(128)
+}
+
+/// Same section: the number of segments for a given L. Equal spacing takes the
+/// next whole number and forgets the fraction in L as well; the fractional
+/// spacings go on to the next even or odd number and keep L.
+pub fn divide(l: u32, spacing: Spacing) -> Division {
+    let whole = l.div_ceil(65_536);
+    match spacing {
+        Spacing::Equal => Division {
+            n: whole,
+            l: 65_536 * whole,
+        },
+        Spacing::FractionalEven => Division {
+            n: whole + whole % 2,
+            l,
+        },
+        Spacing::FractionalOdd => Division {
+            n: whole + (whole + 1) % 2,
+            l,
+        },
+    }
+}
+
+/// Same section: a level as it stands. This is the rule for every outer level
+/// and the first look at an inner one.
+pub fn division(level: f32, spacing: Spacing) -> Division {
+    divide(level_units(level, spacing), spacing)
+}
+
+/// Same section: an inner level that gave a single segment counts as the
+/// smallest step above 1.
+pub fn widen_inner(inner: Division, spacing: Spacing) -> Division {
+    if inner.n == 1 {
+        divide(65_537, spacing)
+    } else {
+        inner
+    }
+}
+
+#[cfg(test)]
+mod tests {
+    use super::*;
+    use Spacing::*;
+
+    fn n(level: f32, spacing: Spacing) -> u32 {
+        division(level, spacing).n
+    }
+
+    fn above(level: f32) -> f32 {
+        f32::from_bits(level.to_bits() + 1)
+    }
+
+    fn below(level: f32) -> f32 {
+        f32::from_bits(level.to_bits() - 1)
+    }
+
+    #[test]
+    fn both_sides_of_limits() {
+        assert_eq!(n(1.0, Equal), 1);
+        assert_eq!(n(above(1.0), Equal), 2);
+        assert_eq!(n(63.0, FractionalOdd), 63);
+        assert_eq!(n(64.0, FractionalOdd), 63);
+        assert_eq!(n(0.5, FractionalEven), 2);
+        assert_eq!(n(64.0, Equal), 64);
+        assert_eq!(n(1000.0, Equal), 64);
+    }
+
+    #[test]
+    fn every_whole_number_and_its_neighbours() {
+        for k in 1..=63u32 {
+            let level = k as f32;
+            assert_eq!(
+                division(level, Equal),
+                Division {
+                    n: k,
+                    l: 65_536 * k
+                }
+            );
+            assert_eq!(n(above(level), Equal), k + 1);
+            // Just under a whole number rounds up to it (and 1 is the floor).
+            assert_eq!(n(below(level), Equal), k);
+            let even = if k == 1 { 2 } else { k + k % 2 };
+            assert_eq!(n(level, FractionalEven), even);
+            let odd = k + (k + 1) % 2;
+            assert_eq!(n(level, FractionalOdd), odd);
+        }
+        assert_eq!(n(above(64.0), Equal), 64);
+        assert_eq!(n(above(2.0), FractionalEven), 4);
+        assert_eq!(n(above(1.0), FractionalOdd), 3);
+        assert_eq!(division(above(1.0), FractionalOdd).l, 65_537);
+        assert_eq!(division(above(2.0), FractionalEven).l, 131_073);
+        assert_eq!(n(below(63.0), FractionalOdd), 63);
+    }
+
+    #[test]
+    fn odd_values_take_an_end_of_the_range() {
+        let low = [
+            f32::NAN,
+            -f32::NAN,
+            f32::NEG_INFINITY,
+            -3.0,
+            -0.0,
+            0.0,
+            f32::from_bits(1),
+        ];
+        for level in low {
+            assert_eq!(n(level, Equal), 1);
+            assert_eq!(n(level, FractionalEven), 2);
+            assert_eq!(n(level, FractionalOdd), 1);
+        }
+        for level in [f32::INFINITY, f32::MAX, 128.0, 127.9, 65.0] {
+            assert_eq!(n(level, Equal), 64);
+            assert_eq!(n(level, FractionalEven), 64);
+            assert_eq!(n(level, FractionalOdd), 63);
+        }
+    }
+
+    #[test]
+    fn an_inner_level_of_one_is_widened() {
+        let equal = widen_inner(division(1.0, Equal), Equal);
+        assert_eq!(equal, Division { n: 2, l: 131_072 });
+        let odd = widen_inner(division(1.0, FractionalOdd), FractionalOdd);
+        assert_eq!(odd, Division { n: 3, l: 65_537 });
+        let even = widen_inner(division(1.0, FractionalEven), FractionalEven);
+        assert_eq!(even, Division { n: 2, l: 131_072 });
+    }
+}

@@ -1,0 +1,23 @@
+//! A second, independent reading of the rules for tessellating a patch.
+//!
+//! It exists to be compared with another program, so it favours being easy to
+//! read over being fast. "The paper" in the comments is the project's scope
+//! document; each function says which of its sections it follows.
+
+pub mod check;
+pub mod draw;
+pub mod edge;
+pub mod isolines;
+pub mod job;
+pub mod level;
+pub mod mesh;
+pub mod output;
+pub mod patch;
+pub mod quads;
+pub mod random;
+pub mod strip;
+pub mod text;
+pub mod triangles;
+
+pub use draw::{draw, measure, tessellate, Answer, Drawing, Measure};
+pub use patch::{DomainOrigin, Patch, Settings, Spacing, VertexOrder};

@@ -1,0 +1,83 @@
+//! The program: one subcommand a use of the library.
+
+use std::env;
+use std::fs;
+use std::io::{self, BufWriter, Read, Write};
+use std::process::ExitCode;
+
+use reference::{check, job, output, random, text};
+
+const USAGE: &str = "usage:
+  reference cut                          job file on input, answers on output
+  reference make                         patch descriptions on input, job file on output
+  reference random SEED COUNT            job file of COUNT random records on output
+  reference random SEED COUNT cut        the answers to that job file on output
+  reference random SEED NUMBER damaged   one damaged job file on output
+  reference check JOBFILE                answers on input, checked against the job file";
+
+fn main() -> ExitCode {
+    let words: Vec<String> = env::args().skip(1).collect();
+    let words: Vec<&str> = words.iter().map(String::as_str).collect();
+    let done = match words[..] {
+        ["cut"] => run_cut(),
+        ["make"] => run_make(),
+        ["random", seed, count] => run_random(seed, count, ""),
+        ["random", seed, count, what @ ("cut" | "damaged")] => run_random(seed, count, what),
+        ["check", path] => run_check(path),
+        _ => Err(USAGE.to_string()),
+    };
+    match done {
+        Ok(()) => ExitCode::SUCCESS,
+        Err(what) => {
+            eprintln!("{what}");
+            ExitCode::FAILURE
+        }
+    }
+}
+
+fn say(error: io::Error) -> String {
+    error.to_string()
+}
+
+fn write_out(bytes: &[u8]) -> Result<(), String> {
+    let mut out = io::stdout().lock();
+    out.write_all(bytes).and_then(|()| out.flush()).map_err(say)
+}
+
+fn write_answers(job: &[u8]) -> Result<(), String> {
+    let mut out = BufWriter::new(io::stdout().lock());
+    output::write_answers(job, &mut out)
+        .and_then(|()| out.flush())
+        .map_err(say)
+}
+
+fn run_cut() -> Result<(), String> {
+    let mut job = Vec::new();
+    io::stdin().read_to_end(&mut job).map_err(say)?;
+    write_answers(&job)
+}
+
+fn run_make() -> Result<(), String> {
+    let text = io::read_to_string(io::stdin()).map_err(say)?;
+    let records = text::records(&text)?;
+    write_out(&job::write_job(&records))
+}
+
+fn run_random(seed: &str, count: &str, what: &str) -> Result<(), String> {
+    let number = |word: &str| {
+        word.parse::<u64>()
+            .map_err(|_| format!("\"{word}\" is not a whole number"))
+    };
+    let (seed, count) = (number(seed)?, number(count)?);
+    match what {
+        "cut" => write_answers(&random::job(seed, count)),
+        "damaged" => write_out(&random::damaged_job(seed, count)),
+        _ => write_out(&random::job(seed, count)),
+    }
+}
+
+fn run_check(path: &str) -> Result<(), String> {
+    let job = fs::read(path).map_err(|error| format!("{path}: {error}"))?;
+    let summary = check::check(&job, io::stdin().lock()).map_err(|fault| fault.to_string())?;
+    write_out(format!("{summary}\n").as_bytes())
+}

@@ -1,0 +1,400 @@
+//! Every example of the paper that concerns whole patches and job files.
+
+use reference::job::{self, read_header, read_record, Record, Refusal};
+use reference::output::answers;
+use reference::*;
+
+fn settings(spacing: Spacing) -> Settings {
+    Settings {
+        spacing,
+        vertex_order: VertexOrder::CounterClockwise,
+        domain_origin: DomainOrigin::LowerLeft,
+        point_mode: false,
+    }
+}
+
+fn equal() -> Settings {
+    settings(Spacing::Equal)
+}
+
+fn triangles(outer: f32, inner: f32) -> Patch {
+    Patch::Triangles {
+        outer: [outer; 3],
+        inner,
+    }
+}
+
+fn quads(outer: f32, inner: [f32; 2]) -> Patch {
+    Patch::Quads {
+        outer: [outer; 4],
+        inner,
+    }
+}
+
+fn drawn(patch: &Patch, settings: &Settings) -> (Vec<[u32; 3]>, Vec<u32>) {
+    match tessellate(patch, settings) {
+        Answer::Drawn { points, indices } => (points, indices),
+        Answer::Discarded => panic!("discarded"),
+    }
+}
+
+fn job_of(description: &str) -> Vec<u8> {
+    job::write_job(&text::records(description).unwrap())
+}
+
+// ---- the examples -------------------------------------------------------
+
+#[test]
+fn the_whole_sample_output() {
+    let job = job_of("triangles equal ccw lower-left primitives outer 1 1 1 inner 2");
+    let expected = "TSJ 1
+drawn 4 9
+0 196608 0
+0 0 196608
+196608 0 0
+65536 65536 65536
+0 1 3
+1 2 3
+2 0 3
+";
+    assert_eq!(answers(&job), expected);
+}
+
+#[test]
+fn star_triangles() {
+    let (points, indices) = drawn(&triangles(1.0, 3.0), &equal());
+    assert_eq!(points[3], [43692, 109224, 43692]);
+    assert_eq!(
+        indices,
+        [0, 1, 3, 1, 4, 3, 1, 2, 4, 2, 5, 4, 2, 0, 5, 0, 3, 5, 3, 4, 5]
+    );
+    assert_eq!(points.len(), 6);
+}
+
+#[test]
+fn star_quads() {
+    let (points, indices) = drawn(&quads(1.0, [1.0, 3.0]), &equal());
+    assert_eq!(points.len(), 6);
+    assert_eq!(points[4..], [[21846, 32768, 0], [43690, 32768, 0]]);
+    assert_eq!(
+        indices,
+        [0, 1, 4, 1, 2, 4, 2, 5, 4, 2, 3, 5, 3, 0, 5, 0, 4, 5]
+    );
+}
+
+#[test]
+fn star_isolines() {
+    let patch = Patch::Isolines { outer: [3.0, 2.0] };
+    let (points, indices) = drawn(&patch, &equal());
+    assert_eq!(indices, [0, 1, 1, 2, 3, 4, 4, 5, 6, 7, 7, 8]);
+    let expected: Vec<[u32; 3]> = [0, 21846, 43690]
+        .iter()
+        .flat_map(|v| [[0, *v, 0], [32768, *v, 0], [65536, *v, 0]])
+        .collect();
+    assert_eq!(points, expected);
+}
+
+#[test]
+fn sizes() {
+    let counts = |patch: &Patch| measure(patch, &equal());
+    assert_eq!(
+        counts(&quads(64.0, [64.0; 2])),
+        Measure::Counts {
+            points: 4_225,
+            indices: 24_576
+        }
+    );
+    assert_eq!(
+        counts(&triangles(64.0, 64.0)),
+        Measure::Counts {
+            points: 3_169,
+            indices: 3 * 6_144
+        }
+    );
+    assert_eq!(
+        counts(&Patch::Isolines { outer: [64.0; 2] }),
+        Measure::Counts {
+            points: 4_160,
+            indices: 2 * 4_096
+        }
+    );
+}
+
+// ---- plain patches and levels -------------------------------------------
+
+#[test]
+fn plain_patches() {
+    const S: u32 = 196_608;
+    let (points, indices) = drawn(&triangles(1.0, 1.0), &equal());
+    assert_eq!(points, [[0, S, 0], [0, 0, S], [S, 0, 0]]);
+    assert_eq!(indices, [0, 1, 2]);
+    let (points, indices) = drawn(&quads(1.0, [1.0; 2]), &settings(Spacing::FractionalOdd));
+    assert_eq!(
+        points,
+        [[0, 65536, 0], [0, 0, 0], [65536, 0, 0], [65536, 65536, 0]]
+    );
+    assert_eq!(indices, [0, 1, 2, 0, 2, 3]);
+}
+
+#[test]
+fn one_divided_level_ends_the_plain_patch() {
+    // Two segments under equal spacing, three under odd; even has no plain patch.
+    let patch = Patch::Triangles {
+        outer: [1.0, 2.0, 1.0],
+        inner: 1.0,
+    };
+    assert_eq!(drawn(&patch, &equal()).0.len(), 4 + 1);
+    let odd = settings(Spacing::FractionalOdd);
+    assert_eq!(drawn(&patch, &odd).0.len(), 5 + 3);
+    let even = settings(Spacing::FractionalEven);
+    assert_eq!(drawn(&triangles(1.0, 1.0), &even).0.len(), 6 + 1);
+    // For quads one inner level is enough, and the other is widened.
+    let patch = quads(1.0, [1.0, 4.0]);
+    assert_eq!(drawn(&patch, &equal()).0.len(), 4 + 3);
+    assert_eq!(drawn(&patch, &odd).0.len(), 4 + 2 * 4);
+    let odd_points = drawn(&patch, &odd).0;
+    assert_eq!(odd_points[4][1], 1);
+    assert_eq!(odd_points[8][1], 65535);
+}
+
+#[test]
+fn rows_come_from_the_first_inner_level() {
+    let (points, _) = drawn(&quads(1.0, [4.0, 2.0]), &equal());
+    assert_eq!(
+        points[4..],
+        [[32768, 16384, 0], [32768, 32768, 0], [32768, 49152, 0]]
+    );
+}
+
+#[test]
+fn just_above_one_is_two_segments() {
+    let above = f32::from_bits(1f32.to_bits() + 1);
+    assert_eq!(drawn(&quads(above, [1.0; 2]), &equal()).0.len(), 8 + 1);
+}
+
+#[test]
+fn spacing_leaves_the_number_of_isolines_alone() {
+    let patch = Patch::Isolines { outer: [1.0, 1.0] };
+    let even = settings(Spacing::FractionalEven);
+    let (points, indices) = drawn(&patch, &even);
+    assert_eq!(points, [[0, 0, 0], [32768, 0, 0], [65536, 0, 0]]);
+    assert_eq!(indices, [0, 1, 1, 2]);
+    let (points, indices) = drawn(&patch, &equal());
+    assert_eq!(points, [[0, 0, 0], [65536, 0, 0]]);
+    assert_eq!(indices, [0, 1]);
+    // Two lines under odd spacing, where two would become three segments.
+    let patch = Patch::Isolines { outer: [2.0, 1.0] };
+    let odd = settings(Spacing::FractionalOdd);
+    assert_eq!(drawn(&patch, &odd).0.len(), 4);
+}
+
+#[test]
+fn inner_levels_never_discard() {
+    for inner in [0.0, -0.0, -5.0, f32::NAN, f32::NEG_INFINITY] {
+        assert_eq!(
+            tessellate(&triangles(1.0, inner), &equal()),
+            tessellate(&triangles(1.0, 1.0), &equal())
+        );
+        assert_eq!(
+            tessellate(&quads(3.0, [inner, inner]), &equal()),
+            tessellate(&quads(3.0, [1.0, 1.0]), &equal())
+        );
+    }
+    assert_eq!(
+        tessellate(&triangles(1.0, f32::INFINITY), &equal()),
+        tessellate(&triangles(1.0, 64.0), &equal())
+    );
+}
+
+#[test]
+fn outer_levels_discard() {
+    for bad in [0.0, -0.0, -1.0, f32::NAN, -f32::NAN, f32::NEG_INFINITY] {
+        for place in 0..4 {
+            let mut outer = [1.0; 4];
+            outer[place] = bad;
+            let patch = Patch::Quads {
+                outer,
+                inner: [1.0; 2],
+            };
+            assert_eq!(tessellate(&patch, &equal()), Answer::Discarded);
+            assert_eq!(measure(&patch, &equal()), Measure::Discarded);
+            if place < 3 {
+                let outer = [outer[0], outer[1], outer[2]];
+                let patch = Patch::Triangles { outer, inner: 1.0 };
+                assert_eq!(tessellate(&patch, &equal()), Answer::Discarded);
+            }
+            if place < 2 {
+                let outer = [outer[0], outer[1]];
+                let patch = Patch::Isolines { outer };
+                assert_eq!(tessellate(&patch, &equal()), Answer::Discarded);
+            }
+        }
+    }
+    // The smallest number above zero does not.
+    let patch = triangles(f32::from_bits(1), 1.0);
+    assert_eq!(drawn(&patch, &equal()).1, [0, 1, 2]);
+}
+
+// ---- turn and point mode ------------------------------------------------
+
+#[test]
+fn vertex_order_and_origin() {
+    use DomainOrigin::*;
+    use VertexOrder::*;
+    let cases = [
+        (CounterClockwise, LowerLeft, [0, 1, 3]),
+        (Clockwise, UpperLeft, [0, 1, 3]),
+        (Clockwise, LowerLeft, [0, 3, 1]),
+        (CounterClockwise, UpperLeft, [0, 3, 1]),
+    ];
+    for (vertex_order, domain_origin, first) in cases {
+        let settings = Settings {
+            vertex_order,
+            domain_origin,
+            ..equal()
+        };
+        let (points, indices) = drawn(&triangles(1.0, 2.0), &settings);
+        assert_eq!(indices[..3], first);
+        assert_eq!(points, drawn(&triangles(1.0, 2.0), &equal()).0);
+        // Lines know no turn.
+        let lines = Patch::Isolines { outer: [3.0, 2.0] };
+        assert_eq!(drawn(&lines, &settings), drawn(&lines, &equal()));
+    }
+}
+
+#[test]
+fn point_mode_keeps_the_points() {
+    let patches = [
+        triangles(2.0, 3.0),
+        triangles(1.0, 1.0),
+        quads(2.0, [3.0, 4.0]),
+        Patch::Isolines { outer: [3.0, 2.0] },
+    ];
+    for patch in patches {
+        let dots = Settings {
+            point_mode: true,
+            ..equal()
+        };
+        let (points, indices) = drawn(&patch, &dots);
+        assert_eq!(points, drawn(&patch, &equal()).0);
+        assert!(indices.iter().copied().eq(0..points.len() as u32));
+    }
+    let job = job_of("isolines equal cw upper-left points outer 1 1");
+    assert_eq!(answers(&job), "TSJ 1\ndrawn 2 2\n0 0 0\n65536 0 0\n0\n1\n");
+}
+
+// ---- drawing into lists -------------------------------------------------
+
+#[test]
+fn drawing_answers_and_lists() {
+    let patch = triangles(1.0, 2.0); // 4 points, 9 indices
+    let draw_with = |patch: &Patch, words: usize, indices: usize| {
+        let mut first = vec![7777u32; words];
+        let mut second = vec![888u16; indices];
+        let answer = draw(patch, &equal(), &mut first, &mut second);
+        (answer, first, second)
+    };
+    let untouched = |words: usize, indices: usize| (vec![7777u32; words], vec![888u16; indices]);
+    let bad = triangles(0.0, 2.0);
+    let cases = [
+        (&bad, 0, 0, 1),
+        (&bad, 100, 100, 1),
+        (&patch, 11, 9, 3),
+        (&patch, 11, 8, 3),
+        (&patch, 0, 0, 3),
+        (&patch, 12, 8, 4),
+        (&patch, 100, 0, 4),
+    ];
+    for (patch, words, indices, number) in cases {
+        let (answer, first, second) = draw_with(patch, words, indices);
+        assert_eq!(answer.number(), number);
+        assert_eq!((first, second), untouched(words, indices));
+    }
+    for (words, indices) in [(12, 9), (13, 9), (20, 30)] {
+        let (answer, first, second) = draw_with(&patch, words, indices);
+        let expected = Drawing::Drawn {
+            points: 4,
+            indices: 9,
+        };
+        assert_eq!(answer, expected);
+        assert_eq!(answer.number(), 0);
+        assert_eq!(first[9..12], [65536, 65536, 65536]);
+        assert_eq!(second[..9], [0, 1, 3, 1, 2, 3, 2, 0, 3]);
+        assert!(first[12..].iter().all(|word| *word == 7777));
+        assert!(second[9..].iter().all(|word| *word == 888));
+    }
+    assert_eq!(Drawing::IndexLimit.number(), 2);
+}
+
+#[test]
+fn the_greatest_patch_fits_the_full_lists() {
+    let mut first = vec![0u32; 12_675];
+    let mut second = vec![0u16; 24_576];
+    let answer = draw(&quads(64.0, [64.0; 2]), &equal(), &mut first, &mut second);
+    assert_eq!(answer.number(), 0);
+}
+
+// ---- job files ----------------------------------------------------------
+
+#[test]
+fn headers() {
+    assert_eq!(answers(b""), "refused 5\n");
+    assert_eq!(answers(b"TSJ\x01"), "refused 5\n");
+    assert_eq!(answers(b"TSj\x01\x00"), "refused 5\n");
+    assert_eq!(answers(b"TSj\x02\x00"), "refused 5\n");
+    assert_eq!(answers(b"TSJ\x02\x00"), "refused 6\n");
+    assert_eq!(answers(b"TSJ\x01\x01"), "refused 6\n");
+    assert_eq!(answers(b"TSJ\x00\x01"), "refused 6\n");
+    assert_eq!(answers(b"TSJ\x01\x00"), "TSJ 1\n");
+    assert_eq!(read_header(b"TSJ\x01\x00ab"), Ok(&b"ab"[..]));
+}
+
+#[test]
+fn records_cut_short_or_with_unknown_settings() {
+    let good = text::records("isolines equal cw upper-left points outer 1 1").unwrap()[0];
+    let lines = "drawn 2 2\n0 0 0\n65536 0 0\n0\n1\n";
+    let last_known = [2, 2, 1, 1, 1];
+    for place in 0..5 {
+        for value in [last_known[place] + 1, 255] {
+            let mut bad = good;
+            bad.settings[place] = value;
+            assert_eq!(bad.decode(), Err(Refusal::UnknownSetting { place }));
+            let job = job::write_job(&[bad, good]);
+            assert_eq!(answers(&job), format!("TSJ 1\nrefused 8\n{lines}"));
+        }
+    }
+    let mut twice = good;
+    twice.settings = [2, 9, 0, 0, 9];
+    assert_eq!(twice.decode(), Err(Refusal::UnknownSetting { place: 1 }));
+    for left in 1..29 {
+        let mut job = job::write_job(&[good]);
+        job.extend(&twice.to_bytes()[..left]);
+        assert_eq!(answers(&job), format!("TSJ 1\n{lines}refused 7\n"));
+        let mut rest = &job[5 + 29..];
+        assert_eq!(read_record(&mut rest), Err(Refusal::TruncatedRecord));
+        assert_eq!(rest.len(), left);
+    }
+    let mut end: &[u8] = &[];
+    assert_eq!(read_record(&mut end), Ok(None));
+}
+
+#[test]
+fn discarded_in_a_job_and_bytes_of_a_record() {
+    let job = job_of("quads equal cw upper-left points outer 1 nan 1 1 inner 1 1");
+    assert_eq!(answers(&job), "TSJ 1\ndiscarded\n");
+    // Levels without a use are ignored.
+    let job = job_of("isolines equal cw upper-left points outer 1 1 nan 0 inner nan -1");
+    assert!(answers(&job).starts_with("TSJ 1\ndrawn 2 2\n"));
+    let job = job_of("triangles equal cw upper-left points outer 1 1 1 nan inner 1 nan");
+    assert!(answers(&job).starts_with("TSJ 1\ndrawn 3 3\n"));
+
+    let record = Record {
+        settings: [1, 2, 0, 1, 0],
+        levels: [0x3f800000, 2, 3, 4, 5, 0xff000006],
+    };
+    let bytes = record.to_bytes();
+    assert_eq!(bytes.len(), 29);
+    assert_eq!(bytes[..9], [1, 2, 0, 1, 0, 0, 0, 0x80, 0x3f]);
+    assert_eq!(bytes[25..], [6, 0, 0, 0xff]);
+    assert_eq!(Record::from_bytes(bytes[..].try_into().unwrap()), record);
+}
