@@ -1,6 +1,6 @@
 -- Laws of `over xs at ys`, xs with ys in it from `at` on. Assumes nothing.
 use mathlib.Core.Path.{_≡_, refl, sym, ap, _∙_}
-use mathlib.Core.List.{List, [], _∷_, _++_, append-assoc}
+use mathlib.Core.List.{List, [], _∷_, _++_, append-assoc, append-nil}
 use Prim.Native.Nat.{ℕ, zero, suc, _+_, _-_, _*_, _≤_, _<_, zero-le}
 use native.Mathlib.Nat.{add-assoc, add-comm, add-zero, mul-zero, mul-suc, sub-zero}
 use native.Mathlib.Numerals.{add-one}
@@ -93,6 +93,10 @@ left-none {out} {rest} {xs} {ys} {w} {at} e l = record {
   next = omega (arith, ap length e);
 }
 
+-- the last piece is written
+pub left-last : {out ps out′ rest xs ys : List ℕ} {w w′ at : ℕ} → Wrote out w ps out′ w′ → rest ≡ ps → Left out w rest xs at ys → Wrote xs at ys out′ w′
+left-last {ps = ps} p e l = left-none refl (left-step p (e ∙ sym (append-nil ps)) l)
+
 -- ---- a loop that counts i up to n
 pub flat-step : (f : ℕ → List ℕ) (i n : ℕ) → i < n → flat f i (n - i) ≡ f i ++ flat f (i + 1) (n - (i + 1))
 unfolding flat
@@ -114,6 +118,20 @@ pub flat-length : (f : ℕ → List ℕ) (c i k : ℕ) → ((j : ℕ) → length
 unfolding flat
 flat-length f c i zero h = sym (mul-zero c)
 flat-length f c i (suc k) h = rw (length-append, flat-length f c (i + 1) k h, h i, mul-suc) (add-comm c (c * k))
+
+-- the last piece apart
+pub flat-last : (f : ℕ → List ℕ) (i k : ℕ) → flat f i (suc k) ≡ flat f i k ++ f (i + k)
+unfolding flat
+flat-last f i zero = rw (add-zero i) (append-nil (f i))
+flat-last f i (suc k) =
+    let e : i + 1 + k ≡ i + suc k = omega arith in
+    ap (λ (l : List ℕ). f i ++ l) (flat-last f (i + 1) k ∙ ap (λ (n : ℕ). flat f (i + 1) k ++ f n) e) ∙ sym (append-assoc (f i) (flat f (i + 1) k) (f (i + suc k)))
+
+-- the same pieces
+pub flat-same : (f g : ℕ → List ℕ) (i k : ℕ) → ((j : ℕ) → f j ≡ g j) → flat f i k ≡ flat g i k
+unfolding flat
+flat-same f g i zero h = refl
+flat-same f g i (suc k) h = rw (h i, flat-same f g (i + 1) k h)
 
 -- ---- the invariant of a loop that writes f i for each i from 0 to n: four laws, for where it begins, a piece's room, its turn and its end
 pub record Counting (f : ℕ → List ℕ) (i n : ℕ) (out : List ℕ) (w : ℕ) (xs : List ℕ) (at : ℕ) : Type 0 where

@@ -1,0 +1,31 @@
+-- How many triangles there are.
+-- Assumes nothing.
+use Prim.Native.Nat.{ℕ, zero, suc, _+_, _*_, _-_}
+use mathlib.Core.Path.{_≡_, refl}
+use mathlib.Core.List.{List}
+use native.Mathlib.Omega.{arith}
+use lib.ListN.{length, length-append}
+use Rattle.strip.specs.declared.triangle.Triangle.{Triangle}
+use Rattle.strip.proofs.Strips.{strip-length}
+use Rattle.cover.specs.Band.{bandFrom}
+use Rattle.cover.specs.Nest.{nest, count}
+use Rattle.cover.specs.Quad.{gridAt, cell, joined, cells, quad, quadCount}
+
+joined-length : (l : ℕ) (L : ℕ → List Triangle) (n : ℕ) → ((k : ℕ) → length (L k) ≡ l) → length (joined L n) ≡ n * l
+unfolding joined
+joined-length l L zero h = omega arith
+joined-length l L (suc n) h = simp length-append (omega (arith, joined-length l L n h, h n))
+
+pub nest-length : (n base c0 c1 c2 : ℕ) → length (nest base c0 c1 c2 n) ≡ count c0 c1 c2 n
+unfolding nest bandFrom count
+nest-length zero base c0 c1 c2 = refl
+nest-length (suc zero) base c0 c1 c2 = refl
+nest-length (suc (suc r)) base c0 c1 c2 = simp (length-append, strip-length, nest-length r) (omega arith)
+
+cells-length : (P : ℕ → ℕ → ℕ) (a b : ℕ) → length (cells P a b) ≡ 2 * (a * b)
+cells-length P a b = omega (arith, joined-length (b * 2) (λ r. joined (cell P r) b) a (λ r. joined-length 2 (cell P r) b (λ c. refl)))
+
+pub quad-length : (base c0 c1 c2 c3 m n : ℕ) → length (quad base c0 c1 c2 c3 m n) ≡ quadCount c0 c1 c2 c3 m n
+unfolding quad bandFrom
+quad-length base c0 c1 c2 c3 m n =
+    simp (length-append, strip-length) (omega (arith, cells-length (gridAt (base + (c0 + c1 + c2 + c3)) (n - 1)) (m - 2) (n - 2)))

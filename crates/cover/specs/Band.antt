@@ -1,0 +1,30 @@
+-- A band of strips between a closed outer line and the inner lines of its edges.
+-- Assumes nothing.
+use Prim.Native.Nat.{ℕ, _+_}
+use mathlib.Core.List.{List, [], _∷_, _++_}
+use Rattle.strip.specs.declared.triangle.Triangle.{Triangle}
+use Rattle.strip.specs.Strips.{strip}
+
+-- the points of a line from its o-th on
+abbrev pub from : ℕ → (ℕ → ℕ) → ℕ → ℕ
+from o F i = F (o + i)
+
+-- an edge of a band: p segments of the outer line, and an inner line of r segments
+pub record Edge : Type 0 where
+  pub p : ℕ
+  pub r : ℕ
+  pub line : ℕ → ℕ
+
+-- the segments of all edges on the outer line
+abbrev pub outers : List Edge → ℕ
+outers [] = 0
+outers (e ∷ es) = e .p + outers es
+
+-- a strip for each edge, in walk order, along the outer line F from its o-th point on
+unfoldable pub bandFrom : (ℕ → ℕ) → ℕ → List Edge → List Triangle
+bandFrom F o [] = []
+bandFrom F o (e ∷ es) = strip (from o F) (e .line) (e .p) (e .r) ++ bandFrom F (o + e .p) es
+
+-- the same from the outer line's first point on
+abbrev pub band : (ℕ → ℕ) → List Edge → List Triangle
+band F es = bandFrom F 0 es

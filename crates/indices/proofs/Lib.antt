@@ -1,0 +1,6 @@
+mod Rings
+mod Bands
+mod Nests
+mod Grids
+mod Quads
+mod Isolines

@@ -1,0 +1,53 @@
+-- The words of nested rings, band after band.
+-- Assumes nothing.
+use Prim.Native.Nat.{ℕ, zero, suc, _+_, _-_, _*_, _≤_}
+use mathlib.Core.Path.{_≡_, refl, ap}
+use mathlib.Core.Bool.{Bool}
+use mathlib.Core.List.{List, [], _∷_, _++_}
+use native.Mathlib.Omega.{arith}
+use lib.ListN.{length, length-append}
+use Rattle.strip.specs.Triangles.{corners, turned, indices}
+use Rattle.strip.proofs.Strips.{strip-length, indices-length, indices-append}
+use Rattle.cover.specs.Ring.{ringAt}
+use Rattle.cover.specs.Band.{bandFrom, band}
+use Rattle.cover.specs.Nest.{ringEdges, nest, count}
+use Rattle.cover.proofs.Length.{nest-length}
+
+-- the words of one band
+abbrev pub bandWords : Bool → ℕ → ℕ → ℕ → ℕ → ℕ → List ℕ
+bandWords positive base a b c r = indices positive (band (ringAt base (a + b + c)) (ringEdges (base + (a + b + c)) r a b c))
+
+module _ (positive : Bool) (base a b c : ℕ) where
+  -- a word for each corner
+  pub band-length : (r : ℕ) → length (bandWords positive base a b c r) ≡ 3 * (a + b + c + 3 * r)
+  unfolding bandFrom
+  band-length r =
+      let triangles = band (ringAt base (a + b + c)) (ringEdges (base + (a + b + c)) r a b c) in
+      let many : length triangles ≡ a + b + c + 3 * r = simp (length-append, strip-length) (omega arith) in
+      omega (arith, indices-length positive triangles)
+
+  pub nest-words-length : (n : ℕ) → length (indices positive (nest base a b c n)) ≡ 3 * count a b c n
+  nest-words-length n = omega (arith, indices-length positive (nest base a b c n), nest-length n base a b c)
+
+  -- the outermost band, then what lies inside it
+  pub nest-more : (n : ℕ) → 2 ≤ n
+      → indices positive (nest base a b c n) ≡ bandWords positive base a b c (n - 2) ++ indices positive (nest (base + (a + b + c)) (n - 2) (n - 2) (n - 2) (n - 2))
+  unfolding nest
+  nest-more zero h = absurd (omega arith)
+  nest-more (suc zero) h = absurd (omega arith)
+  nest-more (suc (suc r)) h =
+      let e : suc (suc r) - 2 ≡ r = omega arith in
+      rw e (indices-append positive (band (ringAt base (a + b + c)) (ringEdges (base + (a + b + c)) r a b c)) (nest (base + (a + b + c)) r r r r))
+
+  -- nothing inside, and one triangle
+  pub nest-none : (n : ℕ) → n ≡ 0 → indices positive (nest base a b c n) ≡ []
+  unfolding nest indices
+  nest-none n h = rw h
+
+  pub nest-one : (n : ℕ) → n ≡ 1 → indices positive (nest base a b c n) ≡ corners (turned positive (record { a = base; b = base + 1; c = base + 2 }))
+  unfolding nest indices
+  nest-one n h = rw h
+
+pub one-triangle : (a b c n : ℕ) → n ≡ 1 → count a b c n ≡ 1
+unfolding count
+one-triangle a b c n h = rw h

@@ -1,0 +1,3 @@
+-- The definitions of `indices`.
+pub mod Grids
+pub mod Isolines

@@ -1,0 +1,128 @@
+// The inner grid of a quad patch: the lines around it, and the triangles of its cells.
+ghost use Prim.Native.Nat.{_+_, _-_, _*_, _≤_, _<_};
+ghost use lib.ListN.{length};
+ghost use Rattle.buffer.specs.Over.{Wrote};
+ghost use Rattle.strip.specs.Triangles.{indices};
+ghost use Rattle.strip.specs.Lines.{Follows};
+ghost use Rattle.cover.specs.Quad.{gridAt, cells};
+ghost use Rattle.indices.specs.Grids.{GridFits, cellWords, rowWords};
+use strip::line::Line;
+use strip::triangle::Triangle;
+
+// Rows 0 to a and columns 0 to b of vertices; a row has `width` of them, and the first is numbered start.
+pub struct Grid {
+    pub start: u32,
+    pub width: u32,
+    pub a: u32,
+    pub b: u32,
+}
+
+impl Grid {
+    // Down the first column.
+    pub fn left(self) -> Line
+        requires { ⌜ GridFits self ⌝ }
+        ensures { λ r. ⌜ Follows r (λ k. gridAt (self .start) (self .width) (self .a - k) 0) (self .a) ⌝ }
+    {
+        let first = self.start + self.a * self.width;
+        Line {
+            first: first as u16,
+            step: (65536 - self.width) as u16,
+            count: self.a,
+            last: self.start as u16,
+        }
+    }
+
+    // Along the first row.
+    pub fn bottom(self) -> Line
+        requires { ⌜ GridFits self ⌝ }
+        ensures { λ r. ⌜ Follows r (λ k. gridAt (self .start) (self .width) 0 k) (self .b) ⌝ }
+    {
+        Line {
+            first: self.start as u16,
+            step: 1,
+            count: self.b,
+            last: (self.start + self.b) as u16,
+        }
+    }
+
+    // Up the last column.
+    pub fn right(self) -> Line
+        requires { ⌜ GridFits self ⌝ }
+        ensures { λ r. ⌜ Follows r (λ k. gridAt (self .start) (self .width) k (self .b)) (self .a) ⌝ }
+    {
+        let first = self.start + self.b;
+        Line {
+            first: first as u16,
+            step: self.width as u16,
+            count: self.a,
+            last: (first + self.a * self.width) as u16,
+        }
+    }
+
+    // Back along the last row.
+    pub fn top(self) -> Line
+        requires { ⌜ GridFits self ⌝ }
+        ensures { λ r. ⌜ Follows r (λ k. gridAt (self .start) (self .width) (self .a) (self .b - k)) (self .b) ⌝ }
+    {
+        let last = self.start + self.a * self.width;
+        Line {
+            first: (last + self.b) as u16,
+            step: 65535,
+            count: self.b,
+            last: last as u16,
+        }
+    }
+}
+
+// The two triangles of the cell whose lower corners are vertex p and the one after it, and whose upper are q and the one after.
+fn write_cell(out: &mut [u16], at: usize, p: u32, q: u32, positive: bool) -> usize
+    requires { ⌜ (p < 65535) × (q < 65535) ⌝ ∗ ⌜ at + 6 ≤ length (now out) ⌝ }
+    ensures { λ w. ⌜ Wrote (now (out .entry)) at (cellWords positive p q) (now (out .exit)) w ⌝ }
+{
+    let lower = Triangle {
+        a: p as u16,
+        b: (p + 1) as u16,
+        c: (q + 1) as u16,
+    };
+    let upper = Triangle {
+        a: p as u16,
+        b: (q + 1) as u16,
+        c: q as u16,
+    };
+    let w = strip::triangle::put_triangle(out, at, lower, positive);
+    strip::triangle::put_triangle(out, w, upper, positive)
+}
+
+// A row of cells, from vertex `first` on.
+fn write_row(out: &mut [u16], at: usize, first: u32, width: u32, b: u32, positive: bool) -> usize
+    requires { ⌜ first + width + b < 65535 ⌝ ∗ ⌜ at + 6 * b ≤ length (now out) ⌝ }
+    ensures { λ w. ⌜ Wrote (now (out .entry)) at (rowWords positive first width b) (now (out .exit)) w ⌝ }
+{
+    let mut to = at;
+    let mut c = 0u32;
+    while c < b {
+        let p = first + c;
+        to = write_cell(out, to, p, p + width, positive);
+        c += 1;
+    }
+    to
+}
+
+// All cells, row by row.
+pub fn write_cells(out: &mut [u16], at: usize, grid: Grid, positive: bool) -> usize
+    requires { ⌜ GridFits grid ⌝ ∗ ⌜ at + 6 * (grid .a * grid .b) ≤ length (now out) ⌝ }
+    ensures { λ w. ⌜ Wrote (now (out .entry)) at (indices positive (cells (gridAt (grid .start) (grid .width)) (grid .a) (grid .b))) (now (out .exit)) w ⌝ }
+{
+    let width = grid.width;
+    let a = grid.a;
+    let b = grid.b;
+    let mut first = grid.start;
+    let mut to = at;
+    let mut r = 0u32;
+    while r < a {
+        to = write_row(out, to, first, width, b, positive);
+        first += width;
+        r += 1;
+    }
+    to
+}

@@ -1,0 +1,7 @@
+// The indices of every patch: which vertices make up each triangle, line and dot.
+pub mod dot;
+pub mod grid;
+pub mod isoline;
+pub mod nest;
+pub mod quad;
+pub mod ring;

@@ -1,0 +1,22 @@
+-- The faces of a mesh whose triangles are given by the numbers of its points.
+-- Assumes nothing.
+use Prim.Native.Nat.{ℕ}
+use mathlib.Core.Bool.{Bool}
+use mathlib.Core.List.{List, map}
+use lib.ListN.{getD}
+use Rattle.strip.specs.declared.triangle.Triangle.{Triangle}
+use Rattle.strip.specs.Triangles.{turned}
+use Rattle.mesh.specs.declared.Point.{Point}
+use Rattle.mesh.specs.Cover.{Face, missing}
+
+-- point number k
+abbrev pub at : List Point → ℕ → Point
+at ps k = getD ps k missing
+
+-- a triangle by number as a triangle by points
+abbrev pub faceOf : (ℕ → Point) → Triangle → Face
+faceOf P t = record { p = P (t .a); q = P (t .b); r = P (t .c) }
+
+-- the triangles, each turned as asked
+abbrev pub facesOf : Bool → List Point → List Triangle → List Face
+facesOf positive ps ts = map (faceOf (at ps)) (map (turned positive) ts)

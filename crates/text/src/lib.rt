@@ -1,0 +1,17 @@
+// The text of answers as bytes: numbers in decimal, lines of numbers, and the lines that carry words.
+mod bytes;
+mod head;
+mod line;
+mod number;
+mod row;
+
+pub use head::put_discarded;
+pub use head::put_drawn;
+pub use head::put_refused;
+pub use head::put_title;
+pub use line::put_line1;
+pub use line::put_line2;
+pub use line::put_line3;
+pub use number::put_number;
+pub use row::put_points;
+pub use row::put_primitives;

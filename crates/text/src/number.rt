@@ -1,0 +1,32 @@
+// A number in decimal.
+ghost use mathlib.Core.List.{[], _∷_};
+ghost use Prim.Native.Nat.{_+_, _/_, _%_, _≤_, _<_};
+ghost use lib.ListN.{length};
+ghost use Rattle.buffer.specs.Over.{Wrote};
+ghost use Rattle.text.specs.Digits.{digits};
+
+// Two digits.
+fn put_pair(out: &mut [u8], at: usize, x: u32) -> usize
+    requires { ⌜ x < 100 ⌝ ∗ ⌜ at + 2 ≤ length (now out) ⌝ }
+    ensures { λ r. ⌜ Wrote (now (out .entry)) at ((48 + x / 10) ∷ (48 + x % 10) ∷ []) (now (out .exit)) r ⌝ }
+{
+    out[at] = b'0' + (x / 10) as u8;
+    out[at + 1] = b'0' + (x % 10) as u8;
+    at + 2
+}
+
+// All digits of x, two at a time from the end.
+pub fn put_number(out: &mut [u8], at: usize, x: u32) -> usize
+    requires { ⌜ at + length (digits x) ≤ length (now out) ⌝ }
+    ensures { λ r. ⌜ Wrote (now (out .entry)) at (digits x) (now (out .exit)) r ⌝ }
+{
+    if x < 10 {
+        out[at] = b'0' + x as u8;
+        return at + 1;
+    }
+    if x < 100 {
+        return put_pair(out, at, x);
+    }
+    let w = put_number(out, at, x / 100);
+    put_pair(out, w, x % 100)
+}
