@@ -50,6 +50,15 @@ over-two xs at x y h = rw (over-set xs at x (omega arith), over-more xs at (x �
 pub over-three : (xs : List ℕ) (at x y z : ℕ) → at + 3 ≤ length xs → set (set (set xs at x) (at + 1) y) (at + 2) z ≡ over xs at (x ∷ y ∷ z ∷ [])
 over-three xs at x y z h = rw (over-set xs at x (omega arith), over-more xs at (x ∷ []) y (omega arith), over-more xs at (x ∷ y ∷ []) z (omega arith))
 
+-- the words at the front, read back
+pub over-front : (xs ys : List ℕ) (n : ℕ) → n ≡ length ys → take n (over xs 0 ys) ≡ ys
+unfolding over
+over-front xs ys n e = rw e (take-append-seam ys (drop (0 + length ys) xs))
+
+-- nothing written
+pub wrote-none : (xs : List ℕ) (at : ℕ) → Wrote xs at [] xs at
+wrote-none xs at = record { is = sym (over-none xs at); next = omega arith }
+
 -- two such calls, one after the other
 pub wrote-then : {xs ys xs₁ zs xs₂ : List ℕ} {at w r : ℕ} → at ≤ length xs → Wrote xs at ys xs₁ w → Wrote xs₁ w zs xs₂ r → Wrote xs at (ys ++ zs) xs₂ r
 wrote-then {xs} {ys} {xs₁} {zs} {xs₂} {at} h p q = record {

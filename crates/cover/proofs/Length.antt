@@ -1,14 +1,17 @@
--- How many triangles there are.
+-- How many triangles, lines and dots there are.
 -- Assumes nothing.
 use Prim.Native.Nat.{ℕ, zero, suc, _+_, _*_, _-_}
 use mathlib.Core.Path.{_≡_, refl}
-use mathlib.Core.List.{List}
+use mathlib.Core.List.{List, [], _∷_}
 use native.Mathlib.Omega.{arith}
 use lib.ListN.{length, length-append}
+use Rattle.buffer.specs.Over.{flat}
+use Rattle.buffer.proofs.Laws.{flat-length}
 use Rattle.strip.specs.declared.triangle.Triangle.{Triangle}
 use Rattle.strip.proofs.Strips.{strip-length}
 use Rattle.cover.specs.Band.{bandFrom}
 use Rattle.cover.specs.Nest.{nest, count}
+use Rattle.cover.specs.Lines.{lineSegment, isolines, dots}
 use Rattle.cover.specs.Quad.{gridAt, cell, joined, cells, quad, quadCount}
 
 joined-length : (l : ℕ) (L : ℕ → List Triangle) (n : ℕ) → ((k : ℕ) → length (L k) ≡ l) → length (joined L n) ≡ n * l
@@ -29,3 +32,13 @@ pub quad-length : (base c0 c1 c2 c3 m n : ℕ) → length (quad base c0 c1 c2 c3
 unfolding quad bandFrom
 quad-length base c0 c1 c2 c3 m n =
     simp (length-append, strip-length) (omega (arith, cells-length (gridAt (base + (c0 + c1 + c2 + c3)) (n - 1)) (m - 2) (n - 2)))
+
+-- ---- the words of isolines and dots
+pub isolines-length : (m n : ℕ) → length (isolines m n) ≡ 2 * (m * n)
+unfolding isolines
+isolines-length m n =
+    omega (arith, flat-length (λ r. flat (lineSegment n r) 0 n) (2 * n) 0 m (λ r. flat-length (lineSegment n r) 2 0 n (λ c. refl)))
+
+pub dots-length : (p : ℕ) → length (dots p) ≡ p
+unfolding dots
+dots-length p = omega (arith, flat-length (λ i. i ∷ []) 1 0 p (λ i. refl))

@@ -1,14 +1,14 @@
--- Lengths of isolines and dots, and an isoline by its first vertex.
+-- An isoline by its first vertex.
 -- Assumes nothing.
 use Prim.Native.Nat.{ℕ, suc, _+_, _*_, _≤_}
 use mathlib.Core.Path.{_≡_, refl}
 use mathlib.Core.List.{List, [], _∷_}
-use native.Mathlib.Nat.{mul-assoc, mul-comm, mul-le-mul}
+use native.Mathlib.Nat.{mul-le-mul}
 use native.Mathlib.Omega.{arith}
 use lib.ListN.{length}
 use Rattle.buffer.specs.Over.{flat}
 use Rattle.buffer.proofs.Laws.{flat-length}
-use Rattle.cover.specs.Lines.{lineSegment, isolines, dots}
+use Rattle.cover.specs.Lines.{isolines}
 use Rattle.indices.specs.Isolines.{lineWords}
 
 pub line-length : (first n : ℕ) → length (lineWords first n) ≡ 2 * n
@@ -22,13 +22,6 @@ line n r = lineWords (r * suc n) n
 pub isolines-are : (m n : ℕ) → isolines m n ≡ flat (line n) 0 m
 unfolding isolines lineWords
 isolines-are m n = refl
-
-pub isolines-length : (m n : ℕ) → length (flat (line n) 0 m) ≡ 2 * (m * n)
-isolines-length m n = omega (arith, flat-length (line n) (2 * n) 0 m (λ r. line-length (r * suc n) n), mul-assoc 2 n m, mul-comm m n)
-
-pub dots-length : (p : ℕ) → length (dots p) ≡ p
-unfolding dots
-dots-length p = omega (arith, flat-length (λ i. i ∷ []) 1 0 p (λ i. refl))
 
 -- the first vertex of a line has a small number
 pub first-small : (r n : ℕ) → r ≤ 64 → n ≤ 64 → r * suc n ≤ 4160

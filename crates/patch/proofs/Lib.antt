@@ -1,3 +1,4 @@
 -- The laws of `patch`.
 pub mod Every
 pub mod Counts
+pub mod Discarded

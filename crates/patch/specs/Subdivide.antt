@@ -1,6 +1,6 @@
 -- What a patch is cut into: discarded, the plain patch, or the segments (n and L) of each edge outside and inside.
 -- Assumes nothing.
-use mathlib.Core.Bool.{Bool, cond}
+use mathlib.Core.Bool.{Bool, true, false, cond}
 use mathlib.Core.List.{List, [], _∷_}
 use lib.Dec.{eqb}
 use lib.Ieee.{Float}
@@ -41,3 +41,12 @@ cut s (Isolines a b) = Lines (segmentsOf Equal a) (segmentsOf s b)
 
 unfoldable pub subdivision : Spacing → Patch → Subdivision
 subdivision s p = cond (discards p) Discarded (cut s p)
+
+-- a subdivision that draws nothing
+abbrev pub isDiscarded : Subdivision → Bool
+isDiscarded Discarded = true
+isDiscarded PlainTriangle = false
+isDiscarded (Triangle a b c i) = false
+isDiscarded PlainQuad = false
+isDiscarded (Quad a b c d m n) = false
+isDiscarded (Lines m n) = false

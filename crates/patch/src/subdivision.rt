@@ -3,7 +3,7 @@ ghost use mathlib.Core.Path.{_≡_};
 ghost use mathlib.Core.List.{[], _∷_};
 ghost use Rattle.level.specs.Discard.{discarded};
 ghost use Rattle.patch.specs.Every.{some};
-ghost use Rattle.patch.specs.Subdivide.{subdivision};
+ghost use Rattle.patch.specs.Subdivide.{isDiscarded, subdivision};
 use crate::kinds::Patch;
 use level::Segments;
 use level::Spacing;
@@ -30,6 +30,32 @@ pub enum Subdivision {
         lines: Segments,
         along: Segments,
     },
+}
+
+// Whether the patch is discarded.
+pub fn is_discarded(cut: Subdivision) -> bool
+    ensures { λ r. ⌜ r ≡ isDiscarded cut ⌝ }
+{
+    match cut {
+        Subdivision::Discarded => true,
+        Subdivision::PlainTriangle => false,
+        Subdivision::Triangle {
+            edge0: _,
+            edge1: _,
+            edge2: _,
+            inside: _,
+        } => false,
+        Subdivision::PlainQuad => false,
+        Subdivision::Quad {
+            edge0: _,
+            edge1: _,
+            edge2: _,
+            edge3: _,
+            rows: _,
+            columns: _,
+        } => false,
+        Subdivision::Lines { lines: _, along: _ } => false,
+    }
 }
 
 pub fn subdivide(patch: Patch, spacing: Spacing) -> Subdivision

@@ -5,7 +5,7 @@ use Prim.Native.Nat.{_-_}
 use mathlib.Core.List.{[], _∷_}
 use Rattle.buffer.proofs.Laws.{Counting, count-start, count-fits, count-step, count-done}
 use Rattle.cover.specs.Lines.{dots}
-use Rattle.indices.proofs.Isolines.{dots-length}
+use Rattle.cover.proofs.Length.{dots-length}
 use Rattle.indices.proofs.dot.write_dots.Statement.{statement}
 use Rattle.indices.proofs.dot.write_dots.Tie as tie
 

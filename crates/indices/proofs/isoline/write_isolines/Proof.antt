@@ -3,11 +3,13 @@ use borrow.Author.Needs.{needs}
 use native.Mathlib.Nat.{add-mul}
 use native.Mathlib.Omega.{arith}
 use Prim.Native.Nat.{ℕ, suc, _-_, _*_}
-use mathlib.Core.Path.{_≡_, subst}
+use mathlib.Core.Path.{_≡_, ap, subst}
+use lib.ListN.{length}
 use Rattle.buffer.specs.Over.{Wrote}
 use Rattle.buffer.proofs.Laws.{Counting, count-start, count-fits, count-step, count-done}
+use Rattle.cover.proofs.Length.{isolines-length}
 use Rattle.indices.specs.Isolines.{lineWords}
-use Rattle.indices.proofs.Isolines.{line, line-length, isolines-are, isolines-length, first-small}
+use Rattle.indices.proofs.Isolines.{line, line-length, isolines-are, first-small}
 use Rattle.indices.proofs.isoline.write_isolines.Statement.{statement}
 use Rattle.indices.proofs.isoline.write_isolines.Tie as tie
 
@@ -18,7 +20,7 @@ abbrev μ-loop : tie.MeasureT-loop
 μ-loop out₀ at m n first₀ to₀ r₀ out first to r = m - r
 
 loop-holds : tie.Need-loop-holds Inv-loop μ-loop
-loop-holds c = let a = c .before .args in (omega arith, count-start (omega (arith, isolines-length (a .m) (a .n))))
+loop-holds c = let a = c .before .args in (omega arith, count-start (omega (arith, isolines-length (a .m) (a .n), ap length (isolines-are (a .m) (a .n)))))
 
 write-line-requires : tie.Need-write-line-requires Inv-loop μ-loop
 write-line-requires c κs =

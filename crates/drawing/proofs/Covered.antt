@@ -1,0 +1,70 @@
+-- Every triangle or quad patch, plain or not, is covered by its triangles, and its outer edges have the places asked.
+-- Assumes nothing.
+use mathlib.Core.Bool.{Bool}
+use mathlib.Core.List.{[], _∷_}
+use lib.Ieee.{Float}
+use Rattle.level.specs.declared.Spacing.{Spacing}
+use Rattle.level.specs.Segments.{segmentsOf, innerSegments}
+use Rattle.level.proofs.Valid.{segments-valid, inner-valid, inner-two}
+use Rattle.edge.specs.Table.{table}
+use Rattle.patch.specs.declared.kinds.Patch.{Patch}
+use Rattle.patch.specs.declared.kinds.Patch.the-variants.{Triangles, Quads}
+use Rattle.patch.specs.declared.subdivision.Subdivision.{Subdivision}
+use Rattle.patch.specs.Subdivide.{cut}
+use Rattle.mesh.specs.Cover.{Cover}
+use Rattle.mesh.specs.Seam.{triangleEdge, quadEdge}
+use Rattle.mesh.specs.Edge.{GoodRun, ring, Placed}
+use Rattle.mesh.specs.TrianglePoints.{trianglePlace, triangleCorners}
+use Rattle.mesh.specs.QuadPoints.{quadPlace, quadCorners}
+use Rattle.mesh.proofs.TrianglePatch.{patch-covers, edges-two}
+use Rattle.mesh.proofs.TrianglePlaces.{patch-places}
+use Rattle.mesh.proofs.QuadPatch.{quad-covers}
+use Rattle.mesh.proofs.QuadPlaces.{quad-places}
+use Rattle.mesh.proofs.Plain.{plain-triangle-covers, plain-triangle-places, plain-quad-covers, plain-quad-places}
+use Rattle.drawing.specs.Points.{run, points}
+use Rattle.drawing.specs.Primitives.{triangles, primitives}
+use Rattle.drawing.specs.Demand.{Surface, outerRuns, outline, edges, twiceAreaOf, facesIn}
+use Rattle.drawing.proofs.ReadBack.{read-faces}
+use Rattle.drawing.proofs.Runs.{good-run}
+use Rattle.drawing.proofs.Cases.{Cases, drawn-cases}
+use Rattle.drawing.proofs.Plain.{plain-outline, plain-placed}
+
+-- a subdivision of a patch whose triangles cover it, and whose outer edges have the places asked
+pub record Covered (s : Spacing) (p : Patch) (c : Subdivision) : Type 0 where
+  pub cover : Surface p → (turn : Bool) → Cover turn (twiceAreaOf p) (outline s p) (points c) (facesIn (points c) (primitives turn c))
+  pub seams : Surface p → Placed (edges p) (points c) 0 (outerRuns s p)
+
+module _ (s : Spacing) where
+  outer : (x : Float) → GoodRun (run (segmentsOf s x))
+  outer x = good-run (segmentsOf s x) (segments-valid s x)
+
+  inner : (x : Float) → GoodRun (run (innerSegments s x))
+  inner x = good-run (innerSegments s x) (inner-valid s x)
+
+  covers : Cases s (Covered s)
+  unfolding points triangles ring table
+  covers = record {
+    triangle = λ a b c i. record {
+      cover = λ _ turn. rw read-faces
+          (patch-covers _ _ _ _ (outer a) (outer b) (outer c) (inner i)
+          (edges-two _ _ _ _ (outer a) (outer b) (outer c) (inner i) (inner-two s i)) turn);
+      seams = λ _. patch-places _ _ _ _ (outer a) (outer b) (outer c) (inner i);
+    };
+    plain-triangle = λ a b c i h. record {
+      cover = λ _ turn. rw (plain-outline s (Triangles a b c i) (i ∷ []) h trianglePlace, read-faces) (plain-triangle-covers turn);
+      seams = λ _. plain-placed s (Triangles a b c i) (i ∷ []) h triangleEdge triangleCorners plain-triangle-places;
+    };
+    quad = λ a b c d i j. record {
+      cover = λ _ turn. rw read-faces
+          (quad-covers _ _ _ _ _ _ (outer a) (outer b) (outer c) (outer d) (inner i) (inner j) (inner-two s i) (inner-two s j) turn);
+      seams = λ _. quad-places _ _ _ _ (outer a) (outer b) (outer c) (outer d) _ _ (inner i) (inner j);
+    };
+    plain-quad = λ a b c d i j h. record {
+      cover = λ _ turn. rw (plain-outline s (Quads a b c d i j) (i ∷ j ∷ []) h quadPlace, read-faces) (plain-quad-covers turn);
+      seams = λ _. plain-placed s (Quads a b c d i j) (i ∷ j ∷ []) h quadEdge quadCorners plain-quad-places;
+    };
+    lines = λ a b. record { cover = λ none. absurd none; seams = λ none. absurd none };
+  }
+
+  pub covered : (p : Patch) → Covered s p (cut s p)
+  covered = drawn-cases covers

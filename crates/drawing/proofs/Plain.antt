@@ -1,0 +1,74 @@
+-- Where every outer level gives one segment, the outline is the corners alone, and each edge has its two ends.
+-- Assumes nothing.
+use Prim.Native.Nat.{ℕ, suc}
+use mathlib.Core.Path.{_≡_, refl, sym, ap, _∙_}
+use mathlib.Core.Bool.{Bool, true, false, _&&_, false≢true}
+use mathlib.Core.List.{List, [], _∷_, _++_, map}
+use borrow.Author.Tests.{eqb-true}
+use lib.Ieee.{Float}
+use Rattle.level.specs.declared.Spacing.{Spacing}
+use Rattle.level.specs.Segments.{segmentsOf}
+use Rattle.level.proofs.Valid.{segments-valid}
+use Rattle.edge.specs.Table.{table}
+use Rattle.patch.specs.Every.{every}
+use Rattle.patch.specs.declared.kinds.Patch.{Patch}
+use Rattle.patch.specs.Subdivide.{outers, single}
+use Rattle.mesh.specs.declared.Point.{Point}
+use Rattle.mesh.specs.Seam.{OuterEdge}
+use Rattle.mesh.specs.Edge.{Run, GoodRun, ends, ring, along, Placed}
+use Rattle.mesh.proofs.Lists.{All, none, more, all-more, all-map}
+use Rattle.drawing.specs.Points.{run}
+use Rattle.drawing.specs.Demand.{outerRuns}
+use Rattle.drawing.proofs.Runs.{good-run}
+
+-- of a list whose elements all pass a test, the first ones do
+both : (a b : Bool) → a && b ≡ true → (a ≡ true) × (b ≡ true)
+both true b e = (refl, e)
+both false b e = absurd (false≢true e)
+
+first-pass : {A : Type 0} (test : A → Bool) (xs ys : List A) → every test (xs ++ ys) ≡ true → All (λ x. test x ≡ true) xs
+unfolding every
+first-pass test [] ys e = none
+first-pass test (x ∷ xs) ys e =
+    let w = both (test x) (every test (xs ++ ys)) e in
+    more (w .0) (first-pass test xs ys (w .1))
+
+-- an edge with its two ends alone
+record TwoEnds (e : Run) : Type 0 where
+  one : e .c ≡ 1
+  start : e .q 0 ≡ 0
+  end : e .q 1 ≡ 65536
+
+two-ends : {e : Run} → GoodRun e → e .c ≡ 1 → TwoEnds e
+two-ends {e} g h = record { one = h; start = g .first; end = ap (e .q) (sym h) ∙ g .last }
+
+-- as many edges of one segment
+abbrev pub plain : List Run → List Run
+plain es = map (λ e. ends) es
+
+ring-plain : (place : ℕ → ℕ → ℕ → Point) (k d : ℕ) {es : List Run} → All TwoEnds es → ring place k es d ≡ ring place k (plain es) d
+unfolding ring table
+ring-plain place k d none = refl
+ring-plain place k d (more h hs) = rw (h .one, h .start, ring-plain place (suc k) d hs)
+
+along-plain : {e : Run} → TwoEnds e → along e ≡ along ends
+unfolding table
+along-plain h = rw (h .one, h .start, h .end)
+
+placed-plain : (edge : ℕ → OuterEdge) (ps : List Point) (k : ℕ) {es : List Run} → All TwoEnds es
+    → Placed edge ps k (plain es) → Placed edge ps k es
+placed-plain edge ps k none p = tt
+placed-plain edge ps k (more h hs) p = rw (along-plain h) (p .0, p .1, placed-plain edge ps (suc k) hs (p .2))
+
+-- a patch whose outer levels, with its inner ones, all give one segment
+module _ (s : Spacing) (p : Patch) (inner : List Float) (h : every (single s) (outers p ++ inner) ≡ true) where
+  ones : All TwoEnds (outerRuns s p)
+  ones = all-map (λ x. run (segmentsOf s x)) TwoEnds
+      (all-more (λ x e. two-ends (good-run _ (segments-valid s x)) (eqb-true (segmentsOf s x .count) 1 e))
+      (first-pass (single s) (outers p) inner h))
+
+  pub plain-outline : (place : ℕ → ℕ → ℕ → Point) → ring place 0 (outerRuns s p) 0 ≡ ring place 0 (plain (outerRuns s p)) 0
+  plain-outline place = ring-plain place 0 0 ones
+
+  pub plain-placed : (edge : ℕ → OuterEdge) (ps : List Point) → Placed edge ps 0 (plain (outerRuns s p)) → Placed edge ps 0 (outerRuns s p)
+  plain-placed edge ps = placed-plain edge ps 0 ones

@@ -1,0 +1,18 @@
+-- The edges of a valid subdivision have good places.
+-- Assumes nothing.
+use Rattle.level.specs.declared.Segments.{Segments}
+use Rattle.cover.specs.Nest.{Edges}
+use Rattle.mesh.specs.Edge.{GoodRun}
+use Rattle.mesh.proofs.Positions.{good-positions}
+use Rattle.mesh.proofs.TrianglePatch.{edges-two}
+use Rattle.drawing.specs.Valid.{ValidEdge, ValidTriangle}
+use Rattle.drawing.specs.Points.{run}
+
+pub good-run : (s : Segments) → ValidEdge s → GoodRun (run s)
+good-run s v = good-positions (s .count) (s .scaled) v
+
+-- any outer edges go with the inside of a valid triangle
+pub valid-edges : {a b c i : Segments} → ValidTriangle a b c i → Edges (a .count) (b .count) (c .count) (i .count)
+valid-edges {a} {b} {c} {i} v =
+    edges-two _ _ _ _ (good-run a (v .edge0)) (good-run b (v .edge1)) (good-run c (v .edge2)) (good-run i (v .inside .edge))
+    (v .inside .two)

@@ -1,0 +1,84 @@
+-- No patch has more points or indices than the greatest sizes of its kind, and the patches with every level 64 have these.
+-- Assumes nothing.
+use Prim.Native.Nat.{ℕ, _-_, _*_, _≤_}
+use mathlib.Core.Path.{refl}
+use mathlib.Core.Bool.{Bool, true, false}
+use native.Mathlib.Omega.{arith}
+use native.Mathlib.Nat.{mul-le-mul}
+use lib.Ieee.{Float, isNan, le}
+use Rattle.level.specs.declared.Spacing.{Spacing}
+use Rattle.level.specs.declared.Spacing.the-variants.{Equal}
+use Rattle.level.specs.Scale.{parts}
+use Rattle.level.specs.Segments.{segmentsOf, asInner, innerSegments}
+use Rattle.level.proofs.Valid.{segments-valid, inner-valid}
+use Rattle.patch.specs.declared.kinds.Patch.{Patch}
+use Rattle.patch.specs.declared.kinds.Patch.the-variants.{Triangles, Quads, Isolines}
+use Rattle.patch.specs.declared.settings.Settings.{Settings}
+use Rattle.patch.specs.Every.{some, every}
+use Rattle.patch.specs.Subdivide.{subdivision}
+use Rattle.drawing.specs.Counts.{pointCount, primitiveCount, countIn, indexCount}
+use Rattle.drawing.specs.Sizes.{mostPoints, mostPrimitives, AtMost, Greatest, triangles64, quads64, isolines64}
+use Rattle.drawing.proofs.Cases.{Cases, all-cases}
+
+-- products of two counts, each less d
+area : (d m n : ℕ) → m ≤ 64 → n ≤ 64 → (m - d) * (n - d) ≤ (64 - d) * (64 - d)
+area d m n h k = mul-le-mul (omega arith) (omega arith)
+
+module _ (s : Spacing) where
+  outer : (x : Float) → segmentsOf s x .count ≤ 64
+  outer x = segments-valid s x .few
+
+  inner : (x : Float) → innerSegments s x .count ≤ 64
+  inner x = inner-valid s x .few
+
+  small : Cases s (λ p c. AtMost (mostPoints p) (mostPrimitives p) c)
+  unfolding pointCount primitiveCount
+  small = record {
+    plain-triangle = λ a b c i _. omega arith;
+    triangle = λ a b c i.
+        let n = inner i in
+        record {
+          points = omega (arith, outer a, outer b, outer c, area 1 _ _ n n);
+          primitives = omega (arith, outer a, outer b, outer c, area 2 _ _ n n);
+        };
+    plain-quad = λ a b c d i j _. omega arith;
+    quad = λ a b c d i j.
+        let m = inner i in
+        let n = inner j in
+        record {
+          points = omega (arith, outer a, outer b, outer c, outer d, area 1 _ _ m n);
+          primitives = omega (arith, outer a, outer b, outer c, outer d, area 2 _ _ m n);
+        };
+    lines = λ a b.
+        let m = segments-valid Equal a .few in
+        let h = mul-le-mul m (outer b) in
+        record { points = omega arith; primitives = omega arith };
+  }
+
+  pub sizes-at-most : (p : Patch) → AtMost (mostPoints p) (mostPrimitives p) (subdivision s p)
+  unfolding pointCount primitiveCount
+  sizes-at-most = all-cases small (λ p. omega arith)
+
+-- of all kinds
+most : (p : Patch) → (mostPoints p ≤ 4225) × (mostPrimitives p ≤ 24576)
+most (Triangles a b c i) = omega arith
+most (Quads a b c d i j) = omega arith
+most (Isolines a b) = omega arith
+
+pub points-at-most : (s : Spacing) (p : Patch) → pointCount (subdivision s p) ≤ 4225
+points-at-most s p = omega (arith, sizes-at-most s p, most p)
+
+pub indices-at-most : (set : Settings) (p : Patch) → indexCount set (subdivision (set .spacing) p) ≤ 24576
+indices-at-most set p = go (set .«point_mode»)
+  where
+    go : (mode : Bool) → countIn mode (subdivision (set .spacing) p) ≤ 24576
+    go false = omega (arith, sizes-at-most (set .spacing) p, most p)
+    go true = omega (arith, points-at-most (set .spacing) p)
+
+pub greatest : Greatest triangles64 × Greatest quads64 × Greatest isolines64
+unfolding parts segmentsOf asInner some every subdivision pointCount primitiveCount isNan le
+greatest = (
+  record { points = refl; primitives = refl },
+  record { points = refl; primitives = refl },
+  record { points = refl; primitives = refl },
+)

@@ -1,0 +1,31 @@
+-- 01's ten starred cases hold, by computation from the definitions.
+-- Assumes nothing.
+use mathlib.Core.Path.{_≡_, refl}
+use mathlib.Core.List.{map}
+use lib.Ieee.{isNan, le}
+use Rattle.buffer.specs.Over.{flat}
+use Rattle.level.specs.Scale.{parts}
+use Rattle.level.specs.Segments.{segmentsOf, asInner}
+use Rattle.edge.specs.Positions.{position}
+use Rattle.edge.specs.Table.{table}
+use Rattle.strip.specs.Triangles.{indices}
+use Rattle.strip.specs.Rule.{outerNext}
+use Rattle.strip.specs.Strips.{stripFrom}
+use Rattle.cover.specs.Ring.{ringAt}
+use Rattle.cover.specs.Band.{bandFrom}
+use Rattle.cover.specs.Nest.{nest}
+use Rattle.cover.specs.Quad.{gridAt, joined, quad}
+use Rattle.cover.specs.Lines.{isolines}
+use Rattle.patch.specs.Every.{some, every}
+use Rattle.patch.specs.Subdivide.{subdivision}
+use Rattle.mesh.specs.Edge.{ring}
+use Rattle.mesh.specs.TrianglePoints.{rings}
+use Rattle.mesh.specs.QuadPoints.{grid}
+use Rattle.drawing.specs.Points.{points}
+use Rattle.drawing.specs.Primitives.{triangles, indexWords}
+use Rattle.drawing.specs.Starred.{worked, starredTable}
+
+pub starred : map worked starredTable ≡ starredTable
+unfolding isNan le parts segmentsOf asInner position table outerNext stripFrom indices ringAt bandFrom nest gridAt joined quad
+    flat isolines some every subdivision ring rings grid points triangles indexWords
+starred = refl

@@ -1,0 +1,71 @@
+-- What is promised of every triangle and quad patch that is drawn: demand 3.
+-- Assumes nothing.
+use Prim.Native.Nat.{ℕ, _<_}
+use mathlib.Core.Path.{_≡_}
+use mathlib.Core.Bool.{false}
+use mathlib.Core.List.{List, [], map}
+use lib.ListN.{length, getD}
+use lib.Ieee.{Float, nan}
+use Rattle.level.specs.declared.Spacing.{Spacing}
+use Rattle.level.specs.Segments.{segmentsOf}
+use Rattle.patch.specs.declared.kinds.Patch.{Patch}
+use Rattle.patch.specs.declared.kinds.Patch.the-variants.{Triangles, Quads, Isolines}
+use Rattle.patch.specs.declared.settings.Settings.{Settings}
+use Rattle.patch.specs.Turn.{positive}
+use Rattle.patch.specs.Subdivide.{outers}
+use Rattle.mesh.specs.declared.Point.{Point}
+use Rattle.mesh.specs.Cover.{Face, Cover}
+use Rattle.mesh.specs.Seam.{OuterEdge, triangleEdge, quadEdge}
+use Rattle.mesh.specs.Edge.{Run, ring, Placed}
+use Rattle.mesh.specs.Faces.{at, faceOf}
+use Rattle.mesh.specs.TrianglePoints.{trianglePlace, triangleArea}
+use Rattle.mesh.specs.QuadPoints.{quadPlace, quadArea}
+use Rattle.drawing.specs.Points.{run}
+use Rattle.drawing.specs.Words.{readTriangles}
+
+-- a triangle or a quad patch
+abbrev pub Surface : Patch → Type 0
+Surface (Triangles a b c i) = Unit {0}
+Surface (Quads a b c d i j) = Unit {0}
+Surface (Isolines a b) = ⊥
+
+-- the level of outer edge k
+abbrev pub outerLevel : Patch → ℕ → Float
+outerLevel p k = getD (outers p) k nan
+
+-- the outer edges, each by its spacing and its own level alone
+abbrev pub outerRuns : Spacing → Patch → List Run
+outerRuns s p = map (λ x. run (segmentsOf s x)) (outers p)
+
+-- the outline's points in walk order: those that each outer edge's own q puts on it
+abbrev pub outline : Spacing → Patch → List Point
+outline s (Triangles a b c i) = ring trianglePlace 0 (outerRuns s (Triangles a b c i)) 0
+outline s (Quads a b c d i j) = ring quadPlace 0 (outerRuns s (Quads a b c d i j)) 0
+outline s (Isolines a b) = []
+
+-- the outer edges of a patch: which points lie on edge k, and at which places
+abbrev pub edges : Patch → ℕ → OuterEdge
+edges (Triangles a b c i) = triangleEdge
+edges (Quads a b c d i j) = quadEdge
+edges (Isolines a b) = quadEdge
+
+-- twice the patch's area
+abbrev pub twiceAreaOf : Patch → ℕ
+twiceAreaOf (Triangles a b c i) = triangleArea
+twiceAreaOf (Quads a b c d i j) = quadArea
+twiceAreaOf (Isolines a b) = 0
+
+-- the triangles that index words stand for, by their points
+abbrev pub facesIn : List Point → List ℕ → List Face
+facesIn ps ws = map (faceOf (at ps)) (readTriangles ws)
+
+-- demand 3 of the points and index words drawn for a patch
+pub record Demand (set : Settings) (p : Patch) (ps : List Point) (ws : List ℕ) : Type 0 where
+  -- every index is the number of a point
+  pub numbered : (k : ℕ) → k < length ws → getD ws k 0 < length ps
+  -- a triangle or quad patch drawn as triangles: the seven sentences of `Cover`
+  pub cover : Surface p → set .«point_mode» ≡ false
+      → Cover (positive (set .order) (set .origin)) (twiceAreaOf p) (outline (set .spacing) p) ps (facesIn ps ws)
+  -- drawn as triangles or as dots: the places on each outer edge are q(0) to q(n) of the spacing and that edge's level, and mirror;
+  -- all points drawn are asked, so no inner point lies on an outer edge
+  pub seams : Surface p → Placed (edges p) ps 0 (outerRuns (set .spacing) p)

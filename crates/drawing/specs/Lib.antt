@@ -1,0 +1,11 @@
+-- The definitions of what drawing gives.
+pub mod Valid
+pub mod Points
+pub mod Primitives
+pub mod Words
+pub mod Counts
+pub mod Demand
+pub mod Levels
+pub mod Sizes
+pub mod Starred
+pub mod Sample

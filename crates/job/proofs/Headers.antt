@@ -1,0 +1,78 @@
+-- When each answer to a header is given. Assumes nothing.
+use Prim.Native.Nat.{ℕ, _≤_, _<_}
+use native.Mathlib.Decide.{ℕ-discrete, decLe}
+use native.Mathlib.Omega.{arith}
+use mathlib.Core.Path.{_≡_, refl, sym, ap, _∙_}
+use mathlib.Core.Bool.{Bool, true, false, or-true, false≢true}
+use mathlib.Core.List.{List, [], _∷_}
+use mathlib.Core.Logic.{_↔_, inl, inr}
+use borrow.Author.Tests.{lt-ltb, le-ltb, eq-eqb, ne-eqb}
+use lib.ListN.{length, take}
+use Rattle.job.specs.declared.header.Header.{Header}
+use Rattle.job.specs.declared.header.Header.the-variants.{Read, NotAJob, UnknownVersion}
+use Rattle.job.specs.Bytes.{word}
+use Rattle.job.specs.Header.{mark, startsWith, headerOf, headerNumber, HeaderRead, HeaderMeans}
+use Rattle.job.proofs.Numbers.{apart}
+use Rattle.job.proofs.Marks.{starts-take, take-starts}
+
+module _ (bs : List ℕ) where
+  pub header-short : length bs < 5 → headerOf bs ≡ NotAJob
+  unfolding headerOf
+  header-short h = rw (lt-ltb _ _ h)
+
+  pub header-other : startsWith mark bs ≡ false → headerOf bs ≡ NotAJob
+  unfolding headerOf
+  header-other h = rw (h, or-true)
+
+  pub header-version : 5 ≤ length bs → startsWith mark bs ≡ true → (word 2 bs 3 ≡ 1 → ⊥) → headerOf bs ≡ UnknownVersion
+  unfolding headerOf
+  header-version h m v = rw (le-ltb _ _ h, m, ne-eqb _ _ v)
+
+  pub header-right : 5 ≤ length bs → startsWith mark bs ≡ true → word 2 bs 3 ≡ 1 → headerOf bs ≡ Read (record { at = 5 })
+  unfolding headerOf
+  header-right h m v = rw (le-ltb _ _ h, m, eq-eqb _ _ v)
+
+  by-mark : 5 ≤ length bs → (t : Bool) → startsWith mark bs ≡ t → HeaderMeans bs (headerOf bs)
+  by-mark h false m = rw (header-other m) (inr (λ e. false≢true (sym m ∙ take-starts mark bs e)))
+  by-mark h true m = elim (ℕ-discrete (word 2 bs 3) 1) [
+    | yes v ↦ rw (header-right h m v) (h, starts-take mark bs m, v, refl)
+    | no v ↦ rw (header-version h m v) (h, starts-take mark bs m, v)
+  ]
+
+  header-means : HeaderMeans bs (headerOf bs)
+  header-means = elim (decLe 5 (length bs)) [
+    | yes h ↦ by-mark h (startsWith mark bs) refl
+    | no h ↦ let k : length bs < 5 = omega arith in rw (header-short k) (inl k)
+  ]
+
+  other : (take 3 bs ≡ mark → ⊥) → (t : Bool) → startsWith mark bs ≡ t → headerOf bs ≡ NotAJob
+  other d true m = absurd (d (starts-take mark bs m))
+  other d false m = header-other m
+
+  means-header : (r : Header) → HeaderMeans bs r → headerOf bs ≡ r
+  means-header NotAJob (inl h) = header-short h
+  means-header NotAJob (inr d) = other d (startsWith mark bs) refl
+  means-header UnknownVersion (h, m, v) = header-version h (take-starts mark bs m) v
+  means-header (Read next) (h, m, v, e) = header-right h (take-starts mark bs m) v ∙ rw e
+
+  -- an answer is given exactly where it is the right one
+  pub header-exactly : (r : Header) → headerOf bs ≡ r ↔ HeaderMeans bs r
+  header-exactly r = (λ e. rw e at header-means, means-header r)
+
+  is-5 : (r : Header) → HeaderMeans bs r → headerNumber r ≡ 5 ∷ [] → HeaderMeans bs NotAJob
+  is-5 NotAJob m e = m
+  is-5 UnknownVersion m e = absurd (apart e refl)
+  is-5 (Read next) m e = absurd (apart e refl)
+
+  is-6 : (r : Header) → HeaderMeans bs r → headerNumber r ≡ 6 ∷ [] → HeaderMeans bs UnknownVersion
+  is-6 NotAJob m e = absurd (apart e refl)
+  is-6 UnknownVersion m e = m
+  is-6 (Read next) m e = absurd (apart e refl)
+
+  -- an answer that is the definition's keeps the whole promise
+  pub header-read : {r : Header} → headerOf bs ≡ r → HeaderRead bs r
+  header-read {r} e = record {
+    is = sym e;
+    refused-5 = (is-5 r (rw e at header-means), λ m. ap headerNumber (sym e ∙ means-header NotAJob m));
+    refused-6 = (is-6 r (rw e at header-means), λ m. ap headerNumber (sym e ∙ means-header UnknownVersion m));
+  }

@@ -1,0 +1,51 @@
+-- The header of a job file: which bytes are one, and which number refuses the others. Assumes nothing.
+use Prim.Native.Nat.{ℕ, _≤_, _<_}
+use mathlib.Core.Path.{_≡_}
+use mathlib.Core.Bool.{Bool, true, false, cond, not, _&&_, _||_}
+use mathlib.Core.List.{List, [], _∷_}
+use mathlib.Core.Logic.{_⊎_, _↔_}
+use lib.ListN.{length, take}
+use lib.Dec.{ltb, eqb}
+use Rattle.job.specs.Bytes.{word}
+use Rattle.job.specs.declared.header.Header.{Header}
+use Rattle.job.specs.declared.header.Header.the-variants.{Read, NotAJob, UnknownVersion}
+
+-- the mark: the letters TSJ
+abbrev pub mark : List ℕ
+mark = 0x54 ∷ 0x53 ∷ 0x4A ∷ []
+
+-- the list bs begins with the list ms
+unfoldable pub startsWith : List ℕ → List ℕ → Bool
+startsWith [] bs = true
+startsWith (m ∷ ms) [] = false
+startsWith (m ∷ ms) (b ∷ bs) = eqb b m && startsWith ms bs
+
+-- answer 5 applies: under 5 bytes, or another mark
+abbrev pub notAJob : List ℕ → Bool
+notAJob bs = ltb (length bs) 5 || not (startsWith mark bs)
+
+-- answer 6 applies to bytes that 5 does not apply to: the version, 16 bits after the mark, is not 1
+abbrev pub otherVersion : List ℕ → Bool
+otherVersion bs = not (eqb (word 2 bs 3) 1)
+
+-- what the header of a job file says: the first record is at byte 5
+unfoldable pub headerOf : List ℕ → Header
+headerOf bs = cond (notAJob bs) NotAJob (cond (otherVersion bs) UnknownVersion (Read (record { at = 5 })))
+
+-- when each answer is the right one
+abbrev pub HeaderMeans : List ℕ → Header → Type 0
+HeaderMeans bs NotAJob = (length bs < 5) ⊎ (take 3 bs ≡ mark → ⊥)
+HeaderMeans bs UnknownVersion = (5 ≤ length bs) × (take 3 bs ≡ mark) × (word 2 bs 3 ≡ 1 → ⊥)
+HeaderMeans bs (Read next) = (5 ≤ length bs) × (take 3 bs ≡ mark) × (word 2 bs 3 ≡ 1) × (next ≡ record { at = 5 })
+
+-- the number of each answer that refuses; none, [], where a header is read
+abbrev pub headerNumber : Header → List ℕ
+headerNumber (Read next) = []
+headerNumber NotAJob = 5 ∷ []
+headerNumber UnknownVersion = 6 ∷ []
+
+-- what reading a header promises: the answer, and exactly when it is a 5 and when a 6
+pub record HeaderRead (bs : List ℕ) (r : Header) : Type 0 where
+  pub is : r ≡ headerOf bs
+  pub refused-5 : headerNumber r ≡ 5 ∷ [] ↔ HeaderMeans bs NotAJob
+  pub refused-6 : headerNumber r ≡ 6 ∷ [] ↔ HeaderMeans bs UnknownVersion

@@ -1,0 +1,4 @@
+// Where reading goes on.
+pub struct Cursor {
+    pub at: usize,
+}

@@ -1,0 +1,22 @@
+// Headers, good and damaged.
+use crate::show::write_header;
+use job::header::read_header;
+
+fn header(name: &[u8], bytes: &[u8]) {
+    io::write_all(1, name);
+    io::write_all(1, b": ");
+    write_header(read_header(bytes));
+}
+
+pub fn headers() {
+    header(b"header alone", b"TSJ\x01\x00");
+    header(b"header and a byte", b"TSJ\x01\x00\x07");
+    header(b"no byte", b"");
+    header(b"four bytes", b"TSJ\x01");
+    header(b"first letter", b"USJ\x01\x00");
+    header(b"third letter", b"TSR\x01\x00");
+    header(b"version 2", b"TSJ\x02\x00");
+    header(b"version 256", b"TSJ\x00\x01");
+    header(b"version 257", b"TSJ\x01\x01");
+    header(b"mark and version", b"TSK\x02\x00");
+}

@@ -1,0 +1,33 @@
+-- What the code finds out about a patch, in the words of the statements: whether it is discarded, and how many points and indices it has.
+-- Assumes nothing.
+use Prim.Native.Nat.{ℕ}
+use mathlib.Core.Path.{_≡_, sym, ap, _∙_}
+use mathlib.Core.Bool.{Bool}
+use Rattle.patch.specs.declared.kinds.Patch.{Patch}
+use Rattle.patch.specs.declared.settings.Settings.{Settings}
+use Rattle.patch.specs.declared.subdivision.Subdivision.{Subdivision}
+use Rattle.patch.specs.Subdivide.{discards, subdivision, isDiscarded}
+use Rattle.patch.proofs.Discarded.{discarded-cut}
+use Rattle.drawing.specs.Counts.{pointCount, countIn}
+use Rattle.drawing.specs.Valid.{ValidCut}
+use Rattle.drawing.proofs.Counts.{point-count, index-count}
+use Rattle.drawing.proofs.Valid.{cut-valid}
+use Rattle.tessellate.specs.Answers.{pointsOf, indicesOf}
+use Rattle.tessellate.proofs.Cuts.{valid-as}
+
+module _ (set : Settings) (p : Patch) (c : Subdivision) (is : c ≡ subdivision (set .spacing) p) where
+  -- every edge has an n and L that an edge can have
+  pub valid : ValidCut c
+  valid = valid-as (cut-valid (set .spacing) p) (sym is)
+
+  -- the test for a discarded patch
+  pub flag : {t b : Bool} → t ≡ isDiscarded c → t ≡ b → discards p ≡ b
+  flag f h = sym (discarded-cut (set .spacing) p) ∙ ap isDiscarded (sym is) ∙ sym f ∙ h
+
+  -- the counts
+  pub many-points : {n : ℕ} → n ≡ pointCount c → n ≡ pointsOf set p
+  many-points e = e ∙ ap pointCount is ∙ sym (point-count (subdivision (set .spacing) p) (cut-valid (set .spacing) p))
+
+  pub many-indices : {n : ℕ} → n ≡ countIn (set .«point_mode») c → n ≡ indicesOf set p
+  many-indices e =
+      e ∙ ap (countIn (set .«point_mode»)) is ∙ sym (index-count set (subdivision (set .spacing) p) (cut-valid (set .spacing) p))

@@ -1,0 +1,47 @@
+-- Meets its contract. Assumes nothing.
+use borrow.Author.Needs.{needs}
+use Rattle.tessellate.specs.Answers.{measured}
+use Rattle.tessellate.proofs.Counted.{valid, flag, many-points, many-indices}
+use Rattle.tessellate.proofs.measure.measure.Statement.{statement}
+use Rattle.tessellate.proofs.measure.measure.Tie as tie
+
+subdivide-requires : tie.Need-subdivide-requires
+subdivide-requires c κs = search needs
+
+is-discarded-requires : tie.Need-is-discarded-requires
+is-discarded-requires c κs = search needs
+
+returns : tie.Need-returns
+unfolding measured
+returns c =
+    let a = c .before .before .before .args in
+    let cut = c .before .before .subdivide in
+    rw (flag (a .settings) (a .patch) (cut .result) (cut .ensures) (c .before .is-discarded .ensures) (c .if1 .taken))
+
+point-count-requires : tie.Need-point-count-requires
+point-count-requires c κs = let a = c .before .before .before .args in valid (a .settings) (a .patch) (c .before .before .subdivide .result) (c .before .before .subdivide .ensures)
+
+index-count-requires : tie.Need-index-count-requires
+index-count-requires c κs = let a = c .before .before .before .before .args in valid (a .settings) (a .patch) (c .before .before .before .subdivide .result) (c .before .before .before .subdivide .ensures)
+
+returns-2 : tie.Need-returns-2
+unfolding measured
+returns-2 c =
+    let a = c .before .before .before .before .before .args in
+    let cut = c .before .before .before .before .subdivide in
+    rw (
+      flag (a .settings) (a .patch) (cut .result) (cut .ensures) (c .before .before .before .is-discarded .ensures) (c .before .before .if1 .left),
+      ← many-points (a .settings) (a .patch) (cut .result) (cut .ensures) (c .before .point-count .ensures),
+      ← many-indices (a .settings) (a .patch) (cut .result) (cut .ensures) (c .index-count .ensures),
+    )
+
+pub measure-spec : {M : Type 1} → statement M
+measure-spec =
+    tie.close
+    (tie.spec
+    subdivide-requires
+    is-discarded-requires
+    returns
+    point-count-requires
+    index-count-requires
+    returns-2)

@@ -1,0 +1,61 @@
+-- The numbers and values that the customer's table gives for each answer, and which of them applies.
+-- Assumes nothing.
+use Prim.Native.Nat.{ℕ, _*_}
+use mathlib.Core.Bool.{cond}
+use mathlib.Core.List.{List, [], _∷_}
+use lib.Dec.{ltb}
+use lib.ListN.{length}
+use Rattle.patch.specs.declared.kinds.Patch.{Patch}
+use Rattle.patch.specs.declared.settings.Settings.{Settings}
+use Rattle.patch.specs.Subdivide.{discards, subdivision}
+use Rattle.drawing.specs.Points.{points}
+use Rattle.drawing.specs.Primitives.{indexWords}
+use Rattle.tessellate.specs.declared.answer.Answer.{Answer}
+use Rattle.tessellate.specs.declared.answer.Answer.the-variants.{Drawn, Discarded, IndexLimit, NoRoomForVertices, NoRoomForIndices}
+use Rattle.tessellate.specs.declared.answer.Size.{Size}
+use Rattle.tessellate.specs.declared.answer.Size.the-variants.{Counts, Discarded as NoCounts}
+
+-- an answer's number and the values beside it
+pub record Told : Type 0 where
+  pub number : ℕ
+  pub values : List ℕ
+
+-- the table, number by number
+abbrev pub told : Answer → Told
+told (Drawn p i) = record { number = 0; values = p ∷ i ∷ [] }
+told Discarded = record { number = 1; values = [] }
+told IndexLimit = record { number = 2; values = [] }
+told NoRoomForVertices = record { number = 3; values = [] }
+told NoRoomForIndices = record { number = 4; values = [] }
+
+-- measuring gives the counts where drawing could, or "discarded"
+abbrev pub toldSize : Size → Told
+toldSize (Counts p i) = record { number = 0; values = p ∷ i ∷ [] }
+toldSize NoCounts = record { number = 1; values = [] }
+
+-- a number with no values
+abbrev pub refused : ℕ → Told
+refused n = record { number = n; values = [] }
+
+-- the points and the indices of a patch drawn with these settings
+abbrev pub pointsOf : Settings → Patch → ℕ
+pointsOf set p = length (points (subdivision (set .spacing) p))
+
+abbrev pub indicesOf : Settings → Patch → ℕ
+indicesOf set p = length (indexWords set (subdivision (set .spacing) p))
+
+abbrev pub drawn : Settings → Patch → Told
+drawn set p = record { number = 0; values = pointsOf set p ∷ indicesOf set p ∷ [] }
+
+-- what drawing into lists of v and i words has to say: the lowest number that applies
+unfoldable pub verdict : Settings → Patch → ℕ → ℕ → Told
+verdict set p v i =
+    cond (discards p) (refused 1)
+    (cond (ltb 65535 (pointsOf set p)) (refused 2)
+    (cond (ltb v (3 * pointsOf set p)) (refused 3)
+    (cond (ltb i (indicesOf set p)) (refused 4)
+    (drawn set p))))
+
+-- what measuring has to say
+unfoldable pub measured : Settings → Patch → Told
+measured set p = cond (discards p) (refused 1) (drawn set p)

@@ -1,0 +1,3 @@
+-- The definitions of `tessellate`.
+pub mod Answers
+pub mod Draws

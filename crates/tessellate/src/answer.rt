@@ -1,0 +1,16 @@
+// What the operations answer, by name.
+
+// Drawn, with the points and indices written; or why nothing was written.
+pub enum Answer {
+    Drawn { points: u32, indices: u32 },
+    Discarded,
+    IndexLimit,
+    NoRoomForVertices,
+    NoRoomForIndices,
+}
+
+// How many points and indices a patch has, if it is not discarded.
+pub enum Size {
+    Counts { points: u32, indices: u32 },
+    Discarded,
+}

@@ -1,0 +1,42 @@
+-- A ring is written edge after edge.
+-- Assumes nothing.
+use Prim.Native.Nat.{ℕ, suc, _+_, _*_, _≤_}
+use mathlib.Core.Path.{_≡_, refl, ap}
+use mathlib.Core.List.{List, [], _∷_, _++_, append-nil}
+use native.Mathlib.Omega.{arith}
+use lib.ListN.{length}
+use Rattle.buffer.specs.Over.{Wrote}
+use Rattle.buffer.proofs.Laws.{Left, left-all, left-fits, left-step, left-last}
+use Rattle.mesh.specs.declared.Point.{Point}
+use Rattle.mesh.specs.Edge.{Run, ring}
+use Rattle.mesh.specs.Words.{vertexWords}
+use Rattle.vertices.specs.Edges.{edgePoints}
+use Rattle.vertices.proofs.Words.{words-length, words-append, table-words}
+
+-- the edges k, k + 1, .. of a ring are left to write, into out from w on, when ys are written into xs from `at` on
+pub record EdgesLeft (place : ℕ → ℕ → ℕ → Point) (d k : ℕ) (es : List Run) (out : List ℕ) (w : ℕ) (xs : List ℕ) (at : ℕ) (ys : List ℕ) : Type 0 where
+  pub left : Left out w (vertexWords (ring place k es d)) xs at ys
+
+-- an edge, then those after it
+edge-words : (place : ℕ → ℕ → ℕ → Point) (d k : ℕ) (e : Run) (es : List Run)
+    → vertexWords (ring place k (e ∷ es) d) ≡ vertexWords (edgePoints place k e d) ++ vertexWords (ring place (suc k) es d)
+unfolding ring
+edge-words place d k e es = words-append (edgePoints place k e d) (ring place (suc k) es d)
+
+pub edges-start : (place : ℕ → ℕ → ℕ → Point) (d : ℕ) (es : List Run) (xs : List ℕ) (at : ℕ) → at + 3 * length (ring place 0 es d) ≤ length xs
+    → EdgesLeft place d 0 es xs at xs at (vertexWords (ring place 0 es d))
+edges-start place d es xs at h = record { left = left-all refl (omega (arith, words-length (ring place 0 es d))) }
+
+module _ {place : ℕ → ℕ → ℕ → Point} {d k : ℕ} {e : Run} {out : List ℕ} {w : ℕ} {xs : List ℕ} {at : ℕ} {ys : List ℕ} where
+  pub edges-fits : {es : List Run} → EdgesLeft place d k (e ∷ es) out w xs at ys → w + 3 * e .c ≤ length out
+  edges-fits {es} l =
+      omega (arith, table-words (λ i. place k (e .q i) d) (e .c), left-fits (vertexWords (edgePoints place k e d)) _ (edge-words place d k e es) (l .left))
+
+  pub edges-step : {es : List Run} {out′ : List ℕ} {w′ : ℕ} → Wrote out w (vertexWords (edgePoints place k e d)) out′ w′
+      → EdgesLeft place d k (e ∷ es) out w xs at ys → EdgesLeft place d (suc k) es out′ w′ xs at ys
+  edges-step {es} p l = record { left = left-step p (edge-words place d k e es) (l .left) }
+
+  pub edges-last : {out′ : List ℕ} {w′ : ℕ} → Wrote out w (vertexWords (edgePoints place k e d)) out′ w′
+      → EdgesLeft place d k (e ∷ []) out w xs at ys → Wrote xs at ys out′ w′
+  unfolding ring
+  edges-last p l = left-last p (ap vertexWords (append-nil (edgePoints place k e d))) (l .left)

@@ -1,0 +1,8 @@
+-- The laws that the writers' proofs share.
+mod Words
+mod Loops
+mod Parts
+mod Edges
+mod Rows
+mod Rings
+mod Grids

@@ -1,0 +1,69 @@
+-- Meets its contract. Assumes nothing.
+use borrow.Author.Needs.{needs}
+use native.Mathlib.Omega.{arith}
+use Prim.Native.Nat.{_+_, _-_}
+use Rattle.buffer.proofs.Laws.{count-fits}
+use Rattle.mesh.specs.TrianglePoints.{trianglePlace}
+use Rattle.vertices.specs.Rows.{places}
+use Rattle.vertices.proofs.Loops.{Points, points-start, points-step, points-done}
+use Rattle.vertices.proofs.triangle.write_edge.Statement.{statement}
+use Rattle.vertices.proofs.triangle.write_edge.Tie as tie
+
+abbrev Inv-loop : tie.InvT-loop
+Inv-loop out₀ at row from count depth k to₀ i₀ out to i = Points (λ n. trianglePlace k (places row (from + n)) depth) i count out to out₀ at
+
+abbrev μ-loop : tie.MeasureT-loop
+μ-loop out₀ at row from count depth k to₀ i₀ out to i = count - i
+
+loop-holds : tie.Need-loop-holds Inv-loop μ-loop
+loop-holds c = points-start _ (c .before .pre .1 .1)
+
+add-triangle-place : tie.Need-add-triangle-place Inv-loop μ-loop
+add-triangle-place c = search needs
+
+mul-triangle-place : tie.Need-mul-triangle-place Inv-loop μ-loop
+mul-triangle-place c = search needs
+
+element-copy-out-triangle-place : tie.Need-element-copy-out-triangle-place Inv-loop μ-loop
+element-copy-out-triangle-place c = search needs
+
+triangle-place-requires : tie.Need-triangle-place-requires Inv-loop μ-loop
+triangle-place-requires c κs = omega (arith, c .before .before .before .before .pre .1 .0 (c .before .before .loop .i) (omega arith))
+
+put3-u32-requires : tie.Need-put3-u32-requires Inv-loop μ-loop
+put3-u32-requires c κs = count-fits (omega arith) (c .before .before .before .before .loop .inv)
+
+add-i : tie.Need-add-i Inv-loop μ-loop
+add-i c = search needs
+
+loop-less : tie.Need-loop-less Inv-loop μ-loop
+loop-less c = search needs
+
+loop-again : tie.Need-loop-again Inv-loop μ-loop
+loop-again c =
+    let l = c .before .before .before .before .before .before .before .loop in
+    points-step (omega arith) (c .before .before .before .before .triangle-place .ensures) (c .before .before .put3-u32 .ensures) (l .inv)
+
+same-length : tie.Need-same-length Inv-loop μ-loop
+same-length c = search needs
+
+returns : tie.Need-returns Inv-loop μ-loop
+returns c = points-done _ (c .loop-test .left) (c .before .loop .inv)
+
+pub write-edge-spec : {M : Type 1} → statement M
+write-edge-spec =
+    tie.close
+    (tie.spec
+    Inv-loop
+    μ-loop
+    loop-holds
+    add-triangle-place
+    mul-triangle-place
+    element-copy-out-triangle-place
+    triangle-place-requires
+    put3-u32-requires
+    add-i
+    loop-less
+    loop-again
+    same-length
+    returns)

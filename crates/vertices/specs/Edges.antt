@@ -1,0 +1,11 @@
+-- The points of one edge.
+-- Assumes nothing.
+use Prim.Native.Nat.{ℕ}
+use mathlib.Core.List.{List}
+use Rattle.edge.specs.Table.{table}
+use Rattle.mesh.specs.declared.Point.{Point}
+use Rattle.mesh.specs.Edge.{Run}
+
+-- the points of edge k of the ring d units in, without its end; `place k x d` is the point at the place x
+abbrev pub edgePoints : (ℕ → ℕ → ℕ → Point) → ℕ → Run → ℕ → List Point
+edgePoints place k e d = table (λ i. place k (e .q i) d) (e .c)

@@ -1,0 +1,5 @@
+-- The definitions of `vertices`.
+pub mod Rows
+pub mod Edges
+pub mod Rings
+pub mod Grids
