@@ -1,0 +1,130 @@
+// Draws the rules' examples into lists with room, with one word too few in each, and with sentinel words behind the counts,
+// and writes what was answered and every word of both lists.
+ghost use Prim.Native.Nat.{_≤_};
+use level::Spacing;
+use patch::kinds::Patch;
+use patch::settings::{DomainOrigin, Settings, VertexOrder};
+use tessellate::answer::{Answer, Size};
+
+fn main() {
+    each_room(triangles(2.0), 12, 9);
+    each_room(triangles(3.0), 18, 21);
+    each_room(quads(), 18, 18);
+    each_room(isolines(3.0), 27, 12);
+    each_room(isolines(0.0), 27, 12);
+    draw_into(triangles(2.0), settings(VertexOrder::Clockwise, false), 12, 9);
+    draw_into(triangles(2.0), settings(VertexOrder::CounterClockwise, true), 12, 9);
+}
+
+fn triangles(inner0: f32) -> Patch {
+    Patch::Triangles {
+        outer0: 1.0,
+        outer1: 1.0,
+        outer2: 1.0,
+        inner0,
+    }
+}
+
+fn quads() -> Patch {
+    Patch::Quads {
+        outer0: 1.0,
+        outer1: 1.0,
+        outer2: 1.0,
+        outer3: 1.0,
+        inner0: 1.0,
+        inner1: 3.0,
+    }
+}
+
+fn isolines(outer0: f32) -> Patch {
+    Patch::Isolines {
+        outer0,
+        outer1: 2.0,
+    }
+}
+
+fn settings(order: VertexOrder, point_mode: bool) -> Settings {
+    Settings {
+        spacing: Spacing::Equal,
+        order,
+        origin: DomainOrigin::LowerLeft,
+        point_mode,
+    }
+}
+
+// With just the room of v and i words, with one word less in each list, with neither, and with room to spare.
+fn each_room(patch: Patch, v: usize, i: usize)
+    requires { ⌜ (1 ≤ v) × (v ≤ 30) × (1 ≤ i) × (i ≤ 30) ⌝ }
+{
+    let usual = settings(VertexOrder::CounterClockwise, false);
+    write_size(tessellate::measure::measure(patch, usual));
+    draw_into(patch, usual, v, i);
+    draw_into(patch, usual, v - 1, i);
+    draw_into(patch, usual, v, i - 1);
+    draw_into(patch, usual, v - 1, i - 1);
+    draw_into(patch, usual, v + 2, i + 2);
+}
+
+// Draws into the first v and i words of two lists of 32 sevens, and writes both lists whole.
+fn draw_into(patch: Patch, settings: Settings, v: usize, i: usize)
+    requires { ⌜ (v ≤ 32) × (i ≤ 32) ⌝ }
+{
+    let mut vertices = [7u32; 32];
+    let mut indices = [7u16; 32];
+    let answer = tessellate::draw::draw(patch, settings, &mut vertices[0..v], &mut indices[0..i]);
+    write_answer(answer);
+    write_vertices(&vertices);
+    write_indices(&indices);
+}
+
+fn write_size(size: Size) {
+    match size {
+        Size::Counts { points, indices } => write_counts(b"measured ", points, indices),
+        Size::Discarded => write_word(b"measured discarded\n"),
+    }
+}
+
+fn write_answer(answer: Answer) {
+    match answer {
+        Answer::Drawn { points, indices } => write_counts(b"drawn ", points, indices),
+        Answer::Discarded => write_word(b"discarded\n"),
+        Answer::IndexLimit => write_word(b"index limit\n"),
+        Answer::NoRoomForVertices => write_word(b"no room for vertices\n"),
+        Answer::NoRoomForIndices => write_word(b"no room for indices\n"),
+    }
+}
+
+fn write_word(word: &[u8]) {
+    io::write_all(1, word);
+}
+
+fn write_counts(word: &[u8], points: u32, indices: u32) {
+    io::write_all(1, word);
+    io::print_decimal(1, points as u64);
+    io::write_all(1, b" ");
+    io::print_decimal(1, indices as u64);
+    io::write_all(1, b"\n");
+}
+
+fn write_number(x: u32) {
+    io::write_all(1, b" ");
+    io::print_decimal(1, x as u64);
+}
+
+fn write_index(x: u16) {
+    write_number(x as u32);
+}
+
+fn write_vertices(words: &[u32; 32]) {
+    for k in 0..32usize {
+        write_number(words[k]);
+    }
+    write_word(b"\n");
+}
+
+fn write_indices(words: &[u16; 32]) {
+    for k in 0..32usize {
+        write_index(words[k]);
+    }
+    write_word(b"\n");
+}
