@@ -3,8 +3,11 @@
 ghost use Prim.Native.Nat.{_≤_};
 use level::Spacing;
 use patch::kinds::Patch;
-use patch::settings::{DomainOrigin, Settings, VertexOrder};
-use tessellate::answer::{Answer, Size};
+use patch::settings::DomainOrigin;
+use patch::settings::Settings;
+use patch::settings::VertexOrder;
+use tessellate::answer::Answer;
+use tessellate::answer::Size;
 
 fn main() {
     each_room(triangles(2.0), 12, 9);
@@ -12,8 +15,18 @@ fn main() {
     each_room(quads(), 18, 18);
     each_room(isolines(3.0), 27, 12);
     each_room(isolines(0.0), 27, 12);
-    draw_into(triangles(2.0), settings(VertexOrder::Clockwise, false), 12, 9);
-    draw_into(triangles(2.0), settings(VertexOrder::CounterClockwise, true), 12, 9);
+    draw_into(
+        triangles(2.0),
+        settings(VertexOrder::Clockwise, false),
+        12,
+        9,
+    );
+    draw_into(
+        triangles(2.0),
+        settings(VertexOrder::CounterClockwise, true),
+        12,
+        9,
+    );
 }
 
 fn triangles(inner0: f32) -> Patch {

@@ -1,8 +1,8 @@
 -- Laws of the vertices along a line.
 -- Assumes nothing.
-use mathlib.Core.Path.{_≡_, sym, ap, _∙_}
-use Prim.Native.Nat.{ℕ, suc, _+_, _*_, _%_, _<_}
-use native.Mathlib.Nat.{mul-zero, mul-suc}
+use mathlib.Core.Path.{_≡_, sym, _∙_}
+use Prim.Native.Nat.{ℕ, suc, _+_, _*_, _%_, _≤_, _<_}
+use native.Mathlib.Nat.{mul-suc, mul-le-mul}
 use native.Mathlib.Omega.{arith}
 use borrow.Author.Tests.{eq-eqb, ne-eqb}
 use Rattle.strip.specs.declared.line.Line.{Line}
@@ -19,13 +19,12 @@ module _ (l : Line) where
   unfolding vertex
   at-more i h = rw (ne-eqb i (l .count) h)
 
-  pub at-first : (0 ≡ l .count → ⊥) → l .first < 65536 → l .first ≡ vertex l 0
-  at-first h f =
-      let e : (l .first + l .step * 0) % 65536 ≡ l .first = rw (mul-zero (l .step)) (omega arith) in
-      sym e ∙ at-more 0 h
-
-  pub at-next : (i x : ℕ) → i < l .count → (suc i ≡ l .count → ⊥) → x ≡ vertex l i → (x + l .step) % 65536 ≡ vertex l (suc i)
-  at-next i x b h e =
+  pub at-next : (i x : ℕ) → suc i < l .count → x ≡ vertex l i → (x + l .step) % 65536 ≡ vertex l (suc i)
+  at-next i x h e =
       let now : x ≡ (l .first + l .step * i) % 65536 = e ∙ sym (at-more i (λ g. omega arith)) in
       let on : (x + l .step) % 65536 ≡ (l .first + l .step * suc i) % 65536 = rw (mul-suc (l .step) i) (omega arith) in
-      on ∙ at-more (suc i) h
+      on ∙ at-more (suc i) (λ g. omega arith)
+
+  -- the products of a line's vertices are small
+  pub small : (i : ℕ) → i ≤ 64 → l .step ≤ 65535 → l .step * i ≤ 4194240
+  small i h s = mul-le-mul s h

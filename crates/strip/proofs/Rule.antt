@@ -1,5 +1,5 @@
--- The two laws of the strip's rule, which is all that anything above knows of it, and what they give: a walk by it stops at
--- neither line's end before both are reached.
+-- The laws of the strip's rule, which are all that anything above knows of it: what moves at a line's end, from which a walk
+-- by it stops at neither line's end before both are reached, and what moves where the outer line has two segments more.
 -- Assumes nothing.
 use Prim.Native.Nat.{ℕ, suc, _+_, _*_, _≤_, _<_}
 use mathlib.Core.Path.{_≡_}
@@ -19,6 +19,26 @@ outer-ended p r b h = lt-leb ((2 * p + 1) * r) ((2 * b + 1) * p) (omega (arith, 
 pub inner-ended : (p r a : ℕ) → a < p → outerNext p r a r ≡ true
 unfolding outerNext
 inner-ended p r a h = le-leb ((2 * a + 1) * r) ((2 * r + 1) * p) (omega (arith, mul-le-mul-right r h))
+
+-- ---- two segments more on the outer line
+-- side by side the outer line moves
+pub level-outer : (r b : ℕ) → outerNext (r + 2) r b b ≡ true
+unfolding outerNext
+level-outer r b = le-leb ((2 * b + 1) * r) ((2 * b + 1) * (r + 2)) (omega arith)
+
+-- one point ahead of the inner line, the outer line waits before the middle and moves from there on
+pub ahead-inner : (r b : ℕ) → 2 * b + 1 < r → outerNext (r + 2) r (suc b) b ≡ false
+unfolding outerNext
+ahead-inner r b h = lt-leb ((2 * suc b + 1) * r) ((2 * b + 1) * (r + 2)) (omega arith)
+
+pub ahead-outer : (r b : ℕ) → r ≤ 2 * b + 1 → outerNext (r + 2) r (suc b) b ≡ true
+unfolding outerNext
+ahead-outer r b h = le-leb ((2 * suc b + 1) * r) ((2 * b + 1) * (r + 2)) (omega arith)
+
+-- two points ahead it waits
+pub two-ahead-inner : (r b : ℕ) → b < r → outerNext (r + 2) r (suc (suc b)) b ≡ false
+unfolding outerNext
+two-ahead-inner r b h = lt-leb ((2 * suc (suc b) + 1) * r) ((2 * b + 1) * (r + 2)) (omega arith)
 
 -- one step on in all
 pub step-sum : (t : Bool) (a b : ℕ) → stepOuter t a + stepInner t b ≡ suc (a + b)

@@ -1,4 +1,5 @@
 // The triangles of one strip, between an outer line of vertices and an inner one.
+mod alternate;
 pub mod line;
 pub mod state;
 pub mod triangle;

@@ -1,6 +1,6 @@
 // One line of a strip: the numbers of the vertices along it.
 ghost use mathlib.Core.Path.{_≡_};
-ghost use Prim.Native.Nat.{suc, _<_};
+ghost use Prim.Native.Nat.{suc, _≤_, _<_};
 ghost use Rattle.strip.specs.Lines.{vertex};
 
 // Points 0 to count. Their numbers go on from first by step, modulo 65536, so that a step of 65535 counts
@@ -13,12 +13,24 @@ pub struct Line {
 }
 
 impl Line {
-    // The vertex at point 0.
-    pub fn start(self) -> u16
-        ensures { λ r. ⌜ r ≡ vertex self 0 ⌝ }
+    // The vertex at point i.
+    pub fn vertex_at(self, i: u32) -> u16
+        requires { ⌜ i ≤ self .count ⌝ ∗ ⌜ self .count ≤ 64 ⌝ }
+        ensures { λ r. ⌜ r ≡ vertex self i ⌝ }
     {
         let count = self.count;
-        if count == 0 { self.last } else { self.first }
+        if i == count {
+            return self.last;
+        }
+        ((self.first as u32 + self.step as u32 * i) % 65536) as u16
+    }
+
+    // The vertex after point i, whose own vertex is x, where that is not the last point.
+    pub fn next(self, i: u32, x: u16) -> u16
+        requires { ⌜ suc i < self .count ⌝ ∗ ⌜ x ≡ vertex self i ⌝ }
+        ensures { λ r. ⌜ r ≡ vertex self (suc i) ⌝ }
+    {
+        ((x as u32 + self.step as u32) % 65536) as u16
     }
 
     // The vertex after point i, whose own vertex is x.
@@ -30,7 +42,7 @@ impl Line {
         if i + 1 == count {
             self.last
         } else {
-            ((x as u32 + self.step as u32) % 65536) as u16
+            self.next(i, x)
         }
     }
 }

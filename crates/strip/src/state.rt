@@ -1,4 +1,4 @@
-// How far a strip is: the only code that knows which line moves next.
+// How far a strip is, and the test of which line moves next.
 ghost use mathlib.Core.Path.{_≡_};
 ghost use Rattle.strip.specs.Rule.{Within, stepOf};
 

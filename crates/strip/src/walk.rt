@@ -24,8 +24,8 @@ pub fn begin(outer: Line, inner: Line) -> Walk
 {
     let p = outer.count;
     let r = inner.count;
-    let x = outer.start();
-    let y = inner.start();
+    let x = outer.vertex_at(0);
+    let y = inner.vertex_at(0);
     Walk {
         strip: Strip { a: 0, b: 0, p, r },
         x,

@@ -7,7 +7,8 @@ ghost use Rattle.strip.specs.Lines.{vertex};
 ghost use Rattle.strip.specs.Strips.{strip};
 use crate::line::Line;
 
-pub fn write_strip(out: &mut [u16], at: usize, outer: Line, inner: Line, positive: bool) -> usize
+// Step by step, whatever the two counts.
+fn write_walk(out: &mut [u16], at: usize, outer: Line, inner: Line, positive: bool) -> usize
     requires { ⌜ outer .count ≤ 64 ⌝ ∗ ⌜ inner .count ≤ 64 ⌝ ∗ ⌜ at + 3 * (outer .count + inner .count) ≤ length (now out) ⌝ }
     ensures { λ r. ⌜ Wrote (now (out .entry)) at (indices positive (strip (vertex outer) (vertex inner) (outer .count) (inner .count))) (now (out .exit)) r ⌝ }
 {
@@ -24,4 +25,18 @@ pub fn write_strip(out: &mut [u16], at: usize, outer: Line, inner: Line, positiv
         left -= 1;
     }
     to
+}
+
+// By turns where the outer line has two segments more, as nearly all strips have it, and step by step elsewhere.
+pub fn write_strip(out: &mut [u16], at: usize, outer: Line, inner: Line, positive: bool) -> usize
+    requires { ⌜ outer .count ≤ 64 ⌝ ∗ ⌜ inner .count ≤ 64 ⌝ ∗ ⌜ at + 3 * (outer .count + inner .count) ≤ length (now out) ⌝ }
+    ensures { λ r. ⌜ Wrote (now (out .entry)) at (indices positive (strip (vertex outer) (vertex inner) (outer .count) (inner .count))) (now (out .exit)) r ⌝ }
+{
+    let p = outer.count;
+    let r = inner.count;
+    if p == r + 2 {
+        crate::alternate::write_alternating(out, at, outer, inner, positive)
+    } else {
+        write_walk(out, at, outer, inner, positive)
+    }
 }

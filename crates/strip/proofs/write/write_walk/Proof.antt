@@ -2,8 +2,8 @@
 use borrow.Author.Needs.{needs}
 use native.Mathlib.Omega.{arith}
 use Prim.Native.Nat.{_+_}
-use mathlib.Core.Path.{_≡_, refl}
-use Rattle.buffer.proofs.Laws.{Left, left-all, left-fits, left-step, left-none}
+use mathlib.Core.Path.{_≡_}
+use Rattle.buffer.proofs.Laws.{Left, left-all, left-step, left-none}
 use Rattle.strip.specs.Triangles.{indices}
 use Rattle.strip.specs.Rule.{outerNext}
 use Rattle.strip.specs.Lines.{vertex}
@@ -11,8 +11,8 @@ use Rattle.strip.specs.Strips.{stripFrom, strip}
 use Rattle.strip.specs.Walks.{Standing}
 use Rattle.strip.proofs.Rule.{step-sum}
 use Rattle.strip.proofs.Strips.{steps-none, words-length, words-more}
-use Rattle.strip.proofs.write.write_strip.Statement.{statement}
-use Rattle.strip.proofs.write.write_strip.Tie as tie
+use Rattle.strip.proofs.write.write_walk.Statement.{statement}
+use Rattle.strip.proofs.write.write_walk.Tie as tie
 
 abbrev Inv-loop : tie.InvT-loop
 Inv-loop out₀ at outer inner positive p r walk₀ left₀ to₀ out walk left to =
@@ -77,8 +77,8 @@ returns c =
     let l = c .before .loop in
     left-none (rw (steps-none (vertex (a .outer)) (vertex (a .inner)) (outerNext (a .outer .count) (a .inner .count)) (l .left) (l .walk .strip .a) (l .walk .strip .b) (c .loop-test .left))) (l .inv .2)
 
-pub write-strip-spec : {M : Type 1} → statement M
-write-strip-spec =
+pub write-walk-spec : {M : Type 1} → statement M
+write-walk-spec =
     tie.close
     (tie.spec
     Inv-loop

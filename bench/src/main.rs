@@ -1,0 +1,102 @@
+//! Speed of drawing: `bench` prints times as ratios, `bench draw CASE TIMES` draws one case for an instruction counter.
+
+mod cases;
+mod proved;
+
+use cases::{Case, CASES};
+use proved::Lists;
+use reference::{DomainOrigin, Patch, Settings, Spacing, VertexOrder};
+use std::hint::black_box;
+use std::time::Instant;
+
+/// The same patch for the reference program.
+fn patch_of(case: &Case) -> Patch {
+    let l = case.levels;
+    match case.settings[0] {
+        0 => Patch::Triangles { outer: [l[0], l[1], l[2]], inner: l[4] },
+        1 => Patch::Quads { outer: [l[0], l[1], l[2], l[3]], inner: [l[4], l[5]] },
+        _ => Patch::Isolines { outer: [l[0], l[1]] },
+    }
+}
+
+fn settings_of(case: &Case) -> Settings {
+    Settings {
+        spacing: match case.settings[1] {
+            0 => Spacing::Equal,
+            1 => Spacing::FractionalEven,
+            _ => Spacing::FractionalOdd,
+        },
+        order: VertexOrder::CounterClockwise,
+        origin: DomainOrigin::LowerLeft,
+        point_mode: false,
+    }
+}
+
+/// Nanoseconds of one call: the least of several rounds, each long enough to be measured.
+fn nanoseconds(mut call: impl FnMut()) -> f64 {
+    let mut times = 1u32;
+    loop {
+        let start = Instant::now();
+        (0..times).for_each(|_| call());
+        if start.elapsed().as_millis() >= 20 {
+            break;
+        }
+        times *= 2;
+    }
+    let round = |call: &mut dyn FnMut()| {
+        let start = Instant::now();
+        (0..times).for_each(|_| call());
+        start.elapsed().as_nanos() as f64 / f64::from(times)
+    };
+    (0..7).map(|_| round(&mut call)).fold(f64::INFINITY, f64::min)
+}
+
+fn ratios() {
+    println!("{:<20} {:>10} {:>12} {:>12}", "case", "ns a draw", "reference /", "/ copy");
+    for case in &CASES {
+        let mut lists = Lists::new();
+        let (points, indices) = proved::draw(case, &mut lists);
+        let ours = nanoseconds(|| {
+            black_box(proved::draw(case, &mut lists));
+        });
+        let (patch, settings) = (patch_of(case), settings_of(case));
+        let theirs = nanoseconds(|| {
+            black_box(reference::tessellate(&patch, &settings));
+        });
+        let mut copy = Lists::new();
+        let copied = nanoseconds(|| {
+            copy.vertices[..3 * points].copy_from_slice(&lists.vertices[..3 * points]);
+            copy.indices[..indices].copy_from_slice(&lists.indices[..indices]);
+            black_box(&mut copy.vertices);
+            black_box(&mut copy.indices);
+        });
+        println!("{:<20} {:>10.0} {:>12.1} {:>12.1}", case.name, ours, theirs / ours, ours / copied);
+    }
+}
+
+/// Draws case number `case` so many times, for an instruction counter.
+fn draw(case: usize, times: usize) {
+    let mut lists = Lists::new();
+    for _ in 0..times {
+        black_box(proved::draw(&CASES[case], &mut lists));
+    }
+}
+
+/// The cases' names with the instructions that are the goal, for the script that counts.
+fn list() {
+    for (number, case) in CASES.iter().enumerate() {
+        let goal = case.mesa.map_or("-".to_string(), |mesa| (mesa / case.part).to_string());
+        let mesa = case.mesa.map_or("-".to_string(), |mesa| mesa.to_string());
+        println!("{number};{};{mesa};{goal}", case.name);
+    }
+}
+
+fn main() {
+    let words: Vec<String> = std::env::args().skip(1).collect();
+    match words.iter().map(String::as_str).collect::<Vec<_>>()[..] {
+        [] => ratios(),
+        ["list"] => list(),
+        ["draw", case, times] => draw(case.parse().expect("a case"), times.parse().expect("a number")),
+        _ => panic!("usage: bench | bench list | bench draw CASE TIMES"),
+    }
+}

@@ -1,0 +1,3 @@
+-- The laws of `exports`.
+pub mod Calls
+pub mod Numbers

@@ -1,0 +1,53 @@
+-- `exports::draw::yoktvarim_draw` meets its contract: a return for an unknown setting and one for what drawing answers. Assumes nothing.
+use borrow.Author.Needs.{needs}
+use native.Mathlib.Omega.{arith}
+use Rattle.exports.proofs.Calls.{draw-unknown, draw-known}
+use Rattle.exports.proofs.draw.yoktvarim_draw.Statement.{statement}
+use Rattle.exports.proofs.draw.yoktvarim_draw.Tie as tie
+
+first-unknown-requires : tie.Need-first-unknown-requires
+first-unknown-requires c κs = search needs
+
+say-unknown-requires : tie.Need-say-unknown-requires
+say-unknown-requires c κs = search needs
+
+returns : tie.Need-returns
+returns c = draw-unknown _ _ _ _ (c .before .before .before .first-unknown .ensures) (omega (arith, c .before .before .if1 .taken)) (c .say-unknown .ensures)
+
+patch-in-requires : tie.Need-patch-in-requires
+patch-in-requires c κs = search needs
+
+read-settings-requires : tie.Need-read-settings-requires
+read-settings-requires c κs = search needs
+
+draw-requires : tie.Need-draw-requires
+draw-requires c κs = search needs
+
+say-answer-requires : tie.Need-say-answer-requires
+say-answer-requires c κs = search needs
+
+same-length : tie.Need-same-length
+same-length c = search needs
+
+same-length-2 : tie.Need-same-length-2
+same-length-2 c = search needs
+
+returns-2 : tie.Need-returns-2
+returns-2 c =
+    draw-known _ _ _ _ (c .before .before .before .before .before .before .before .before .before .before .before .before .before .first-unknown .ensures) (c .before .before .before .before .before .before .before .before .before .before .before .before .if1 .left)
+    (c .before .before .before .before .before .before .before .before .before .read-settings .ensures) (c .before .before .before .before .before .before .before .before .before .before .before .patch-in .ensures) (c .before .before .before .before .before .before .draw .ensures) (c .say-answer .ensures)
+
+pub yoktvarim-draw-spec : {M : Type 1} → statement M
+yoktvarim-draw-spec =
+    tie.close
+    (tie.spec
+    first-unknown-requires
+    say-unknown-requires
+    returns
+    patch-in-requires
+    read-settings-requires
+    draw-requires
+    say-answer-requires
+    same-length
+    same-length-2
+    returns-2)

@@ -1,0 +1,34 @@
+-- What a caller hands over: five setting bytes and six levels. Assumes nothing.
+use Prim.Native.Nat.{ℕ}
+use mathlib.Core.List.{List}
+use lib.Ieee.{Float, nan}
+use lib.ListN.{getD}
+use Rattle.job.specs.Bytes.{byteAt}
+use Rattle.job.specs.Settings.{kindOf, settingsAt}
+use Rattle.job.specs.Patches.{patchWith}
+use Rattle.job.specs.declared.levels.Levels.{Levels}
+use Rattle.patch.specs.declared.kinds.Patch.{Patch}
+use Rattle.patch.specs.declared.settings.Settings.{Settings}
+
+-- the level at a place
+abbrev pub levelAt : List Float → ℕ → Float
+levelAt xs k = getD xs k nan
+
+-- six levels in the order of a job record: outer one to four, inner one and two
+abbrev pub levelsIn : List Float → Levels
+levelsIn xs = record {
+  outer0 = levelAt xs 0;
+  outer1 = levelAt xs 1;
+  outer2 = levelAt xs 2;
+  outer3 = levelAt xs 3;
+  inner0 = levelAt xs 4;
+  inner1 = levelAt xs 5;
+}
+
+-- the patch that setting bytes bs and levels xs ask for: the first byte is its kind
+abbrev pub patchIn : List ℕ → List Float → Patch
+patchIn bs xs = patchWith (kindOf (byteAt bs 0)) (levelsIn xs)
+
+-- how it is to be drawn: the four bytes after the kind
+abbrev pub settingsIn : List ℕ → Settings
+settingsIn bs = settingsAt bs 0

@@ -1,0 +1,3 @@
+-- The definitions of `exports`.
+pub mod Inputs
+pub mod Calls

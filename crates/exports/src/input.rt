@@ -1,0 +1,31 @@
+// The patch that a caller's settings and levels ask for.
+ghost use mathlib.Core.Path.{_≡_};
+ghost use Rattle.exports.specs.Inputs.{patchIn};
+use job::setting::Kind;
+use patch::kinds::Patch;
+
+pub(crate) fn patch_in(settings: &[u8; 5], levels: &[f32; 6]) -> Patch
+    ensures { λ r. ⌜ r ≡ patchIn (now (settings .entry)) (now (levels .entry)) ⌝ }
+{
+    let kind = job::setting::kind_of(settings[0]);
+    match kind {
+        Kind::Triangles => Patch::Triangles {
+            outer0: levels[0],
+            outer1: levels[1],
+            outer2: levels[2],
+            inner0: levels[4],
+        },
+        Kind::Quads => Patch::Quads {
+            outer0: levels[0],
+            outer1: levels[1],
+            outer2: levels[2],
+            outer3: levels[3],
+            inner0: levels[4],
+            inner1: levels[5],
+        },
+        Kind::Isolines => Patch::Isolines {
+            outer0: levels[0],
+            outer1: levels[1],
+        },
+    }
+}

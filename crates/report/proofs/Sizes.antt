@@ -1,0 +1,72 @@
+-- How many indices a primitive has, and that no record takes more room than one is given. Assumes nothing.
+use Prim.Native.Nat.{_+_, _*_, _/_, _≤_}
+use mathlib.Core.Path.{_≡_, refl}
+use mathlib.Core.Bool.{Bool, true, false}
+use native.Mathlib.Omega.{arith}
+use Rattle.level.specs.declared.Spacing.{Spacing}
+use Rattle.patch.specs.declared.kinds.Patch.{Patch}
+use Rattle.patch.specs.declared.kinds.Patch.the-variants.{Triangles, Quads, Isolines}
+use Rattle.patch.specs.declared.settings.Settings.{Settings}
+use Rattle.patch.specs.Subdivide.{subdivision}
+use Rattle.drawing.specs.Counts.{primitiveCount, countIn}
+use Rattle.drawing.proofs.Cases.{Cases, all-cases}
+use Rattle.drawing.proofs.Counts.{point-count, index-count}
+use Rattle.drawing.proofs.Sizes.{sizes-at-most, points-at-most, indices-at-most}
+use Rattle.drawing.proofs.Valid.{cut-valid}
+use Rattle.tessellate.specs.Answers.{pointsOf, indicesOf}
+use Rattle.report.specs.Widths.{widthOf}
+use Rattle.report.specs.Room.{room}
+
+pub width-range : (mode : Bool) (p : Patch) → (1 ≤ widthOf mode p) × (widthOf mode p ≤ 3)
+width-range true p = omega arith
+width-range false (Triangles a b c i) = omega arith
+width-range false (Quads a b c d i j) = omega arith
+width-range false (Isolines a b) = omega arith
+
+-- the primitives of a patch
+few-primitives : (s : Spacing) (mode : Bool) (p : Patch) → countIn mode (subdivision s p) / widthOf mode p ≤ 8192
+few-primitives s true p = omega (arith, points-at-most s p)
+few-primitives s false (Triangles a b c i) = omega (arith, sizes-at-most s (Triangles a b c i))
+few-primitives s false (Quads a b c d i j) = omega (arith, sizes-at-most s (Quads a b c d i j))
+few-primitives s false (Isolines a b) = omega (arith, sizes-at-most s (Isolines a b))
+
+module _ (set : Settings) (p : Patch) where
+  few-points : pointsOf set p ≤ 4225
+  few-points = omega (arith, points-at-most (set .spacing) p, point-count (subdivision (set .spacing) p) (cut-valid (set .spacing) p))
+
+  -- the points and the indices fit full-size lists
+  pub points-fit : 3 * pointsOf set p ≤ 12675
+  points-fit = omega (arith, few-points)
+
+  pub indices-fit : indicesOf set p ≤ 24576
+  indices-fit = omega (arith, indices-at-most set p, index-count set (subdivision (set .spacing) p) (cut-valid (set .spacing) p))
+
+  -- the text fits the room for one record
+  pub text-fits : 28 + 33 * pointsOf set p + 18 * (indicesOf set p / widthOf (set .«point_mode») p) ≤ room
+  text-fits =
+      rw (index-count set (subdivision (set .spacing) p) (cut-valid (set .spacing) p)) (omega (arith, few-points, few-primitives (set .spacing) (set .«point_mode») p))
+
+-- ---- every index stands in a primitive
+
+threes : (s : Spacing) → Cases s (λ p c. widthOf false p * (primitiveCount c / widthOf false p) ≡ primitiveCount c)
+unfolding primitiveCount
+threes s = record {
+  triangle = λ a b c i. omega arith;
+  plain-triangle = λ a b c i _. refl;
+  quad = λ a b c d i j. omega arith;
+  plain-quad = λ a b c d i j _. refl;
+  lines = λ a b. omega arith;
+}
+
+pub whole-primitives : (set : Settings) (p : Patch) → widthOf (set .«point_mode») p * (indicesOf set p / widthOf (set .«point_mode») p) ≡ indicesOf set p
+unfolding primitiveCount
+whole-primitives set p = rw (index-count set (subdivision (set .spacing) p) (cut-valid (set .spacing) p)) (go (set .«point_mode»))
+  where
+    none : (p : Patch) → widthOf false p * (0 / widthOf false p) ≡ 0
+    none (Triangles a b c i) = refl
+    none (Quads a b c d i j) = refl
+    none (Isolines a b) = refl
+
+    go : (mode : Bool) → widthOf mode p * (countIn mode (subdivision (set .spacing) p) / widthOf mode p) ≡ countIn mode (subdivision (set .spacing) p)
+    go true = omega arith
+    go false = all-cases (threes (set .spacing)) none p

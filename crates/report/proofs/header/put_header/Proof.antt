@@ -1,0 +1,59 @@
+-- Meets its contract. Assumes nothing.
+use borrow.Author.Needs.{needs}
+use Rattle.report.specs.Jobs.{startText}
+use Rattle.report.proofs.Written.{wrote-as}
+use Rattle.report.proofs.header.put_header.Statement.{statement}
+use Rattle.report.proofs.header.put_header.Tie as tie
+
+enum-told : tie.Need-enum-told
+enum-told c = search needs
+
+put-title-requires : tie.Need-put-title-requires
+put-title-requires c κs = search needs
+
+enum-told-2 : tie.Need-enum-told-2
+enum-told-2 c = search needs
+
+put-refused-requires : tie.Need-put-refused-requires
+put-refused-requires c κs = search needs
+
+enum-told-3 : tie.Need-enum-told-3
+enum-told-3 c = search needs
+
+put-refused-requires-2 : tie.Need-put-refused-requires-2
+put-refused-requires-2 c κs = search needs
+
+same-length : tie.Need-same-length
+same-length c = search needs
+
+returns : tie.Need-returns
+returns c = wrote-as startText (c .before .before .before .before .enum-told .given .1) (c .before .before .put-title .ensures)
+
+same-length-2 : tie.Need-same-length-2
+same-length-2 c = search needs
+
+returns-2 : tie.Need-returns-2
+returns-2 c = wrote-as startText (c .before .before .before .before .enum-told2 .given .1) (c .before .before .put-refused .ensures .0)
+
+same-length-3 : tie.Need-same-length-3
+same-length-3 c = search needs
+
+returns-3 : tie.Need-returns-3
+returns-3 c = wrote-as startText (c .before .before .before .before .enum-told3 .given .1) (c .before .before .put-refused2 .ensures .0)
+
+pub put-header-spec : {M : Type 1} → statement M
+put-header-spec =
+    tie.close
+    (tie.spec
+    enum-told
+    put-title-requires
+    enum-told-2
+    put-refused-requires
+    enum-told-3
+    put-refused-requires-2
+    same-length
+    returns
+    same-length-2
+    returns-2
+    same-length-3
+    returns-3)

@@ -1,0 +1,47 @@
+-- Meets its contract. Assumes nothing.
+use borrow.Author.Needs.{needs}
+use Prim.Native.Nat.{ℕ}
+use mathlib.Core.Path.{sym}
+use mathlib.Core.List.{List}
+use Rattle.job.specs.Patches.{patchOf}
+use Rattle.report.proofs.Written.{wrote-as}
+use Rattle.report.proofs.Drawn.{full-size}
+use Rattle.report.proofs.reply.put_record.Statement.{statement}
+use Rattle.report.proofs.reply.put_record.Tie as tie
+
+patch-of-requires : tie.Need-patch-of-requires
+patch-of-requires c κs = search needs
+
+settings-of-requires : tie.Need-settings-of-requires
+settings-of-requires c κs = search needs
+
+put-patch-requires : tie.Need-put-patch-requires
+put-patch-requires c κs = search needs
+
+same-length : tie.Need-same-length
+same-length c = search needs
+
+same-length-2 : tie.Need-same-length-2
+same-length-2 c = search needs
+
+same-length-3 : tie.Need-same-length-3
+same-length-3 c = search needs
+
+returns : tie.Need-returns
+returns c =
+    let start = c .before .before .before .before .before .before .before .before .before .before .before .before .before .before .before in
+    let a = start .args in
+    let e = full-size (a .«record» .settings) (patchOf (a .«record»)) (start .pre .0) in
+    wrote-as (λ (l : List ℕ). l) (sym (rw (c .before .before .before .before .before .before .before .before .before .before .settings-of .ensures, c .before .before .before .before .before .before .before .before .before .before .before .patch-of .ensures) e)) (c .before .before .before .before .before .before .put-patch .ensures)
+
+pub put-record-spec : {M : Type 1} → statement M
+put-record-spec =
+    tie.close
+    (tie.spec
+    patch-of-requires
+    settings-of-requires
+    put-patch-requires
+    same-length
+    same-length-2
+    same-length-3
+    returns)

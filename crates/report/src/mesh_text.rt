@@ -1,0 +1,24 @@
+// The text of a drawn patch: the counts, a line a point, a line a primitive.
+ghost use Prim.Native.Nat.{_+_, _*_, _/_, _≤_};
+ghost use lib.ListN.{length};
+ghost use Rattle.buffer.specs.Over.{Wrote};
+ghost use Rattle.report.specs.Answers.{Mesh, listText};
+
+// The first `points` points of a list of vertices, and the first `words` indices of a list of indices, `width` to a primitive.
+pub fn put_mesh(
+    out: &mut [u8],
+    at: usize,
+    vertices: &[u32],
+    indices: &[u16],
+    width: usize,
+    points: u32,
+    words: u32,
+) -> usize
+    requires { ⌜ Mesh width (length (now vertices)) (length (now indices)) points words ⌝ }
+    requires { ⌜ at + (28 + 33 * points + 18 * (words / width)) ≤ length (now out) ⌝ }
+    ensures { λ r. ⌜ Wrote (now (out .entry)) at (listText width (now (vertices .entry)) (now (indices .entry)) points words) (now (out .exit)) r ⌝ }
+{
+    let a = text::put_drawn(out, at, points, words);
+    let b = text::put_points(out, a, vertices, 0, points as usize);
+    text::put_primitives(out, b, indices, width, 0, words as usize / width)
+}

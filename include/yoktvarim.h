@@ -1,0 +1,140 @@
+/* Yoktvarim: tessellates a patch by the Vulkan rules, for C and C++.
+ *
+ * Link with target/staticlib/libexports.a, which `rt staticlib exports` proves and writes (x86-64 Linux).
+ *
+ *     static uint32_t vertices[YOKTVARIM_VERTEX_WORDS];
+ *     static uint16_t indices[YOKTVARIM_INDEX_WORDS];
+ *     yoktvarim_settings settings = { YOKTVARIM_TRIANGLES, YOKTVARIM_EQUAL, YOKTVARIM_COUNTER_CLOCKWISE,
+ *                                     YOKTVARIM_LOWER_LEFT, YOKTVARIM_PRIMITIVES };
+ *     yoktvarim_levels levels = { { 1, 1, 1 }, { 2 } };
+ *     uint32_t counts[2];
+ *     if (yoktvarim_is_drawn(yoktvarim_draw(&settings, &levels, vertices, YOKTVARIM_VERTEX_WORDS,
+ *                                           indices, YOKTVARIM_INDEX_WORDS, counts)))
+ *         use(vertices, counts[0], indices, counts[1]);
+ */
+#ifndef YOKTVARIM_H
+#define YOKTVARIM_H
+
+#include <stddef.h>
+#include <stdint.h>
+
+#ifdef __cplusplus
+extern "C" {
+#define YOKTVARIM_ASSERT static_assert
+#else
+#define YOKTVARIM_ASSERT _Static_assert
+#endif
+
+#if defined(__GNUC__) || defined(__clang__)
+#define YOKTVARIM_MUST_USE __attribute__((warn_unused_result))
+#else
+#define YOKTVARIM_MUST_USE
+#endif
+
+/* What a call answers. No other number is ever given. 0 is the one yes: ask yoktvarim_is_drawn, not `if (answer)`. */
+typedef enum yoktvarim_answer {
+    YOKTVARIM_DRAWN = 0,                /* counts[0] points and counts[1] indices were written */
+    YOKTVARIM_MEASURED = 0,             /* what yoktvarim_measure's 0 means: that many would be written */
+    YOKTVARIM_DISCARDED = 1,            /* an outer level that counts is NaN or not above 0 */
+    YOKTVARIM_INDEX_LIMIT = 2,          /* more than 65,535 points */
+    YOKTVARIM_NO_ROOM_FOR_VERTICES = 3, /* the vertex list has under 3 words a point */
+    YOKTVARIM_NO_ROOM_FOR_INDICES = 4,  /* the index list is too short */
+    YOKTVARIM_UNKNOWN_SETTING = 8       /* counts[0] is the place, 0 to 4, of the first setting that is out of range */
+} yoktvarim_answer;
+
+/* Values of yoktvarim_settings.kind, and the levels that count for each; the others are ignored. */
+enum yoktvarim_kind {
+    YOKTVARIM_TRIANGLES = 0, /* outer[0] to outer[2] for the edges u = 0, v = 0, w = 0; inner[0] */
+    YOKTVARIM_QUADS = 1,     /* outer[0] to outer[3] for the edges u = 0, v = 0, u = 1, v = 1; inner[0] for rows, inner[1] for columns */
+    YOKTVARIM_ISOLINES = 2   /* outer[0] for the number of lines, outer[1] for the segments along each */
+};
+
+/* Values of yoktvarim_settings.spacing. */
+enum yoktvarim_spacing {
+    YOKTVARIM_EQUAL = 0,
+    YOKTVARIM_FRACTIONAL_EVEN = 1,
+    YOKTVARIM_FRACTIONAL_ODD = 2
+};
+
+/* Values of yoktvarim_settings.vertex_order: the way triangles turn. */
+enum yoktvarim_vertex_order {
+    YOKTVARIM_CLOCKWISE = 0,
+    YOKTVARIM_COUNTER_CLOCKWISE = 1
+};
+
+/* Values of yoktvarim_settings.domain_origin: where (0, 0) is when that turn is judged. */
+enum yoktvarim_domain_origin {
+    YOKTVARIM_UPPER_LEFT = 0,
+    YOKTVARIM_LOWER_LEFT = 1
+};
+
+/* Values of yoktvarim_settings.point_mode. */
+enum yoktvarim_point_mode {
+    YOKTVARIM_PRIMITIVES = 0, /* triangles, or lines for isolines */
+    YOKTVARIM_POINTS = 1      /* each point once: the indices 0, 1, 2 and on */
+};
+
+/* Five bytes, in this order. */
+typedef struct yoktvarim_settings {
+    uint8_t kind;
+    uint8_t spacing;
+    uint8_t vertex_order;
+    uint8_t domain_origin;
+    uint8_t point_mode;
+} yoktvarim_settings;
+
+/* The tessellation levels. Any value is allowed, NaN and the infinities too. */
+typedef struct yoktvarim_levels {
+    float outer[4];
+    float inner[2];
+} yoktvarim_levels;
+
+/* Lists of these sizes have room for every patch: 4,225 points of 3 words each, and 8,192 triangles. */
+enum {
+    YOKTVARIM_VERTEX_WORDS = 12675,
+    YOKTVARIM_INDEX_WORDS = 24576
+};
+
+/* What stands for 1 in the coordinates of a point. */
+enum {
+    YOKTVARIM_ONE_IN_TRIANGLES = 196608, /* triangles: u + v + w of every point */
+    YOKTVARIM_ONE_IN_QUADS = 65536       /* quads and isolines, whose w is 0 */
+};
+
+/* Both calls take memory of the caller's: no pointer is NULL, not even that of a list of 0 words, each is aligned for its type,
+ * and what is written (the two lists and counts) overlaps nothing else that is passed. Nothing else is asked, whatever the
+ * numbers are, and nothing is kept once the call is over.
+ *
+ * counts[0] and counts[1] are always written. Beside DRAWN and MEASURED they are the two counts, beside UNKNOWN_SETTING the setting's place
+ * and 0, and beside every other answer 0 and 0. */
+
+/* How many points and indices drawing would write, without lists: MEASURED, DISCARDED or UNKNOWN_SETTING.
+ * Drawing then needs 3 * counts[0] words for vertices and counts[1] for indices. */
+YOKTVARIM_MUST_USE yoktvarim_answer yoktvarim_measure(const yoktvarim_settings *settings, const yoktvarim_levels *levels,
+                                                      uint32_t *counts);
+
+/* Writes the patch: points as three words u, v, w to the front of vertices, which has vertex_words words, and indices that
+ * number those points from 0 to the front of indices, which has index_words words. Words past the counts stay as they were.
+ * Every answer but DRAWN leaves both lists as they were. The lowest number that applies is the one given. */
+YOKTVARIM_MUST_USE yoktvarim_answer yoktvarim_draw(const yoktvarim_settings *settings, const yoktvarim_levels *levels,
+                                                   uint32_t *vertices, size_t vertex_words, uint16_t *indices,
+                                                   size_t index_words, uint32_t *counts);
+
+/* 1 for YOKTVARIM_DRAWN, 0 for every other answer. */
+YOKTVARIM_MUST_USE static inline unsigned yoktvarim_is_drawn(yoktvarim_answer answer)
+{
+    return answer == YOKTVARIM_DRAWN;
+}
+
+/* The library reads and writes exactly this. */
+YOKTVARIM_ASSERT(sizeof(yoktvarim_answer) == 4, "an answer is 32 bits: compile without -fshort-enums");
+YOKTVARIM_ASSERT(sizeof(yoktvarim_settings) == 5, "five setting bytes");
+YOKTVARIM_ASSERT(sizeof(yoktvarim_levels) == 24, "six 32-bit floats");
+YOKTVARIM_ASSERT(sizeof(size_t) == 8, "64-bit lengths");
+#undef YOKTVARIM_ASSERT
+
+#ifdef __cplusplus
+}
+#endif
+
+#endif

@@ -1,0 +1,75 @@
+//! The two operations, with answers that no number can be taken for.
+
+use crate::patch::{setting_bytes, six_levels, Patch, Settings};
+use crate::raw::{self, Numbered};
+
+/// What drawing answers. Where several refusals apply, the one that stands first here is given.
+#[must_use = "only `Drawn` means that something was written"]
+#[derive(Clone, Copy, Debug, PartialEq, Eq)]
+pub enum Answer {
+    /// So many points of three words and so many indices stand at the fronts of the lists.
+    Drawn { points: u32, indices: u32 },
+    /// An outer level is NaN or not above 0.
+    Discarded,
+    /// More than 65,535 points.
+    IndexLimit,
+    /// The vertex list has under 3 words a point.
+    NoRoomForVertices,
+    /// The index list is too short.
+    NoRoomForIndices,
+}
+
+/// What measuring answers.
+#[must_use]
+#[derive(Clone, Copy, Debug, PartialEq, Eq)]
+pub enum Size {
+    /// Drawing needs 3 words for each point and one for each index.
+    Counts { points: u32, indices: u32 },
+    /// An outer level is NaN or not above 0.
+    Discarded,
+}
+
+/// Writes the patch to the fronts of the lists: points as u, v, w, and indices that number those points from 0. Words past
+/// the counts stay as they were, and every answer but `Drawn` leaves both lists as they were.
+pub fn draw(
+    patch: &Patch,
+    settings: &Settings,
+    vertices: &mut [u32],
+    indices: &mut [u16],
+) -> Answer {
+    let Numbered {
+        number,
+        counts: [points, written],
+    } = raw::draw(
+        &setting_bytes(patch, settings),
+        &six_levels(patch),
+        vertices,
+        indices,
+    );
+    match number {
+        0 => Answer::Drawn {
+            points,
+            indices: written,
+        },
+        1 => Answer::Discarded,
+        2 => Answer::IndexLimit,
+        3 => Answer::NoRoomForVertices,
+        4 => Answer::NoRoomForIndices,
+        _ => {
+            unreachable!("every setting is known, so the answer is one of 0 to 4 and not {number}")
+        }
+    }
+}
+
+/// How many points and indices drawing would write; it asks for no room and knows no index limit.
+pub fn measure(patch: &Patch, settings: &Settings) -> Size {
+    let Numbered {
+        number,
+        counts: [points, indices],
+    } = raw::measure(&setting_bytes(patch, settings), &six_levels(patch));
+    match number {
+        0 => Size::Counts { points, indices },
+        1 => Size::Discarded,
+        _ => unreachable!("every setting is known, so the answer is 0 or 1 and not {number}"),
+    }
+}

@@ -1,0 +1,35 @@
+//! Tessellates a patch by the Vulkan rules, with a library whose every function is proved.
+//!
+//! ```
+//! use yoktvarim::{mesh, Patch, Settings};
+//!
+//! let patch = Patch::Triangles { outer: [1.0, 1.0, 1.0], inner: 2.0 };
+//! let settings = Settings::default(); // equal spacing, counter-clockwise, lower-left, no point mode
+//! let mesh = mesh(&patch, &settings).expect("not discarded");
+//! assert_eq!(mesh.points[3], [65536, 65536, 65536]);
+//! assert_eq!(mesh.indices, [0, 1, 3, 1, 2, 3, 2, 0, 3]);
+//! ```
+//!
+//! [`draw`] writes into lists of the caller's, [`measure`] says how long they have to be, and
+//! [`mesh()`] does both for lists of its own.
+
+mod answer;
+mod mesh;
+mod patch;
+pub mod raw;
+
+pub use answer::{draw, measure, Answer, Size};
+pub use mesh::{mesh, Mesh};
+pub use patch::{DomainOrigin, Patch, Settings, Spacing, VertexOrder};
+
+/// A vertex list of this many words has room for every patch: 4,225 points of 3 words each.
+pub const VERTEX_WORDS: usize = 12_675;
+
+/// An index list of this many words has room for every patch: 8,192 triangles.
+pub const INDEX_WORDS: usize = 24_576;
+
+/// What stands for 1 in a triangle patch: u, v and w of a point add up to it.
+pub const ONE_IN_TRIANGLES: u32 = 196_608;
+
+/// What stands for 1 in a quad patch and in isolines, where w is 0.
+pub const ONE_IN_QUADS: u32 = 65_536;

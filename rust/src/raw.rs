@@ -1,0 +1,63 @@
+//! The exported functions by their numbers, for callers that have setting bytes and levels as a job file has them.
+//!
+//! The settings are five bytes: kind (0 triangles, 1 quads, 2 isolines), spacing (0 equal, 1 even, 2 odd), vertex order
+//! (0 clockwise, 1 counter-clockwise), domain origin (0 upper-left, 1 lower-left) and point mode (0, 1). The levels are
+//! outer one to four, then inner one and two.
+
+extern "C" {
+    fn yoktvarim_measure(settings: &[u8; 5], levels: &[f32; 6], counts: &mut [u32; 2]) -> u32;
+
+    fn yoktvarim_draw(
+        settings: &[u8; 5],
+        levels: &[f32; 6],
+        vertices: *mut u32,
+        vertex_words: usize,
+        indices: *mut u16,
+        index_words: usize,
+        counts: &mut [u32; 2],
+    ) -> u32;
+}
+
+/// An answer by its number: 0 drawn (or measured), 1 discarded, 2 index limit, 3 no room for vertices, 4 no room for
+/// indices, 8 unknown setting. No other number is given.
+#[must_use = "only the number 0 means that something was drawn"]
+#[derive(Clone, Copy, Debug, PartialEq, Eq)]
+pub struct Numbered {
+    pub number: u32,
+    /// Points and indices beside 0, the place of the first unknown setting and 0 beside 8, else 0 and 0.
+    pub counts: [u32; 2],
+}
+
+/// How many points and indices [`draw`] would write.
+pub fn measure(settings: &[u8; 5], levels: &[f32; 6]) -> Numbered {
+    // Overwritten whatever the answer is.
+    let mut counts = [u32::MAX; 2];
+    // SAFETY: the function is proved for every value of its arguments; it reads the two arrays and writes `counts`.
+    let number = unsafe { yoktvarim_measure(settings, levels, &mut counts) };
+    Numbered { number, counts }
+}
+
+/// Writes points and indices to the fronts of the lists where the number is 0, and nothing otherwise.
+pub fn draw(
+    settings: &[u8; 5],
+    levels: &[f32; 6],
+    vertices: &mut [u32],
+    indices: &mut [u16],
+) -> Numbered {
+    // Overwritten whatever the answer is.
+    let mut counts = [u32::MAX; 2];
+    // SAFETY: the function is proved for every value of its arguments; each list goes as a pointer and its own length,
+    // and the lists cannot overlap each other or `counts`, since all three are borrowed as `&mut`.
+    let number = unsafe {
+        yoktvarim_draw(
+            settings,
+            levels,
+            vertices.as_mut_ptr(),
+            vertices.len(),
+            indices.as_mut_ptr(),
+            indices.len(),
+            &mut counts,
+        )
+    };
+    Numbered { number, counts }
+}
