@@ -26,8 +26,8 @@ fn settings_of(case: &Case) -> Settings {
             1 => Spacing::FractionalEven,
             _ => Spacing::FractionalOdd,
         },
-        order: VertexOrder::CounterClockwise,
-        origin: DomainOrigin::LowerLeft,
+        vertex_order: VertexOrder::CounterClockwise,
+        domain_origin: DomainOrigin::LowerLeft,
         point_mode: false,
     }
 }
