@@ -1,9 +1,10 @@
--- The laws of an edge's positions and of `table`, for the crates above; `Filled` and `Reach` serve this crate only.
+-- The laws of an edge's positions and of `table`, for the crates above; `Outward`, `Carries` and `Reach` serve this crate only.
 pub mod Table
 pub mod Entries
 pub mod Ends
 pub mod Mirrored
 pub mod Rises
 pub mod Near
-mod Filled
+mod Outward
+mod Carries
 mod Reach

@@ -2,3 +2,4 @@
 pub mod Positions
 pub mod Near
 pub mod Table
+pub mod Carries
