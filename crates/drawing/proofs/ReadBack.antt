@@ -1,22 +1,14 @@
 -- Words read back give the points and the triangles that they were written for.
 -- Assumes nothing.
-use Prim.Native.Nat.{_*_}
 use mathlib.Core.Path.{_≡_, refl, ap}
 use mathlib.Core.Bool.{Bool}
 use mathlib.Core.List.{List, [], _∷_, map}
-use native.Mathlib.Omega.{arith}
-use lib.ListN.{length}
 use Rattle.strip.specs.declared.triangle.Triangle.{Triangle}
 use Rattle.strip.specs.Triangles.{turned, indices}
 use Rattle.mesh.specs.declared.Point.{Point}
 use Rattle.mesh.specs.Faces.{at, faceOf, facesOf}
 use Rattle.drawing.specs.Words.{vertexWords, readPoints, readTriangles}
 use Rattle.drawing.specs.Demand.{facesIn}
-
-pub vertex-words : (ps : List Point) → length (vertexWords ps) ≡ 3 * length ps
-unfolding vertexWords
-vertex-words [] = refl
-vertex-words (p ∷ ps) = omega (arith, vertex-words ps)
 
 pub read-points : (ps : List Point) → readPoints (vertexWords ps) ≡ ps
 unfolding vertexWords readPoints

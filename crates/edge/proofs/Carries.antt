@@ -1,6 +1,6 @@
 -- The carried quotient is the one that the position rule divides for. Assumes nothing.
-use Prim.Native.Nat.{ℕ, _+_, _*_, _/_, _≤_, _<_, min}
-use mathlib.Core.Path.{_≡_, sym}
+use Prim.Native.Nat.{ℕ, _*_, _/_, _≤_, min}
+use mathlib.Core.Path.{_≡_}
 use native.Mathlib.Nat.{div-eq-of-lt-le, add-mul, mul-le-mul-left}
 use native.Mathlib.Omega.{arith}
 use Rattle.edge.specs.declared.carry.Carry.{Carry}

@@ -27,3 +27,4 @@ pub mod QuadPatch
 pub mod QuadPlaces
 pub mod Plain
 pub mod Examples
+pub mod Words

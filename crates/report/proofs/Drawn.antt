@@ -14,7 +14,7 @@ use Rattle.patch.specs.Subdivide.{discards, subdivision}
 use Rattle.mesh.specs.Words.{vertexWords}
 use Rattle.drawing.specs.Points.{points}
 use Rattle.drawing.specs.Primitives.{indexWords}
-use Rattle.drawing.proofs.ReadBack.{vertex-words}
+use Rattle.mesh.proofs.Words.{words-length}
 use Rattle.tessellate.specs.declared.answer.Answer.{Answer}
 use Rattle.tessellate.specs.declared.answer.Answer.the-variants.{Drawn, Discarded, IndexLimit, NoRoomForVertices, NoRoomForIndices}
 use Rattle.tessellate.specs.Answers.{Told, told, refused, drawn, pointsOf, indicesOf, verdict}
@@ -75,7 +75,7 @@ module _ (set : Settings) (p : Patch) where
           d .indices,
           n .points,
           n .indices,
-          rows-front 3 (pointsOf set p) v (vertexWords (points c)) (omega (arith, vertex-words (points c))),
+          rows-front 3 (pointsOf set p) v (vertexWords (points c)) (omega (arith, words-length (points c))),
           rows-front w (indicesOf set p / w) i (indexWords set c) (mul-div-le (indicesOf set p) w),
         )
         (said (length v) (length i) (d .answer))

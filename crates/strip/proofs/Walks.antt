@@ -1,6 +1,6 @@
 -- One step of the walk along a strip, whichever line moves.
 -- Assumes nothing.
-use Prim.Native.Nat.{ℕ, suc, _+_, _≤_, _<_}
+use Prim.Native.Nat.{ℕ, _+_, _<_}
 use mathlib.Core.Path.{_≡_, refl, sym, ap, _∙_}
 use mathlib.Core.Bool.{Bool, true, false, cond}
 use native.Mathlib.Omega.{arith}
@@ -8,7 +8,6 @@ use Rattle.strip.specs.declared.line.Line.{Line}
 use Rattle.strip.specs.declared.state.Strip.{Strip}
 use Rattle.strip.specs.declared.state.Step.{Step}
 use Rattle.strip.specs.declared.walk.Walk.{Walk}
-use Rattle.strip.specs.declared.walk.Progress.{Progress}
 use Rattle.strip.specs.Rule.{outerNext, stepOuter, stepInner, stepOf}
 use Rattle.strip.specs.Lines.{vertex}
 use Rattle.strip.specs.Strips.{stepTriangle}

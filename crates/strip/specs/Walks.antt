@@ -1,6 +1,5 @@
 -- What the code's walk along a strip holds before and after each step.
 -- Assumes nothing.
-use Prim.Native.Nat.{ℕ}
 use mathlib.Core.Path.{_≡_}
 use Rattle.strip.specs.declared.line.Line.{Line}
 use Rattle.strip.specs.declared.walk.Walk.{Walk}

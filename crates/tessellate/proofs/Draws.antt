@@ -1,7 +1,7 @@
 -- The promise of drawing, answer by answer.
 -- Assumes nothing.
-use Prim.Native.Nat.{ℕ, zero, suc, _*_, _≤_, _<_}
-use mathlib.Core.Path.{_≡_, refl, sym, ap, _∙_, subst}
+use Prim.Native.Nat.{ℕ, suc, _*_, _≤_, _<_}
+use mathlib.Core.Path.{_≡_, refl, sym, ap, _∙_}
 use mathlib.Core.Bool.{true, false}
 use mathlib.Core.List.{List, [], _∷_}
 use native.Mathlib.Omega.{arith}
@@ -12,18 +12,17 @@ use Rattle.buffer.proofs.Laws.{over-front}
 use Rattle.patch.specs.declared.kinds.Patch.{Patch}
 use Rattle.patch.specs.declared.settings.Settings.{Settings}
 use Rattle.patch.specs.Subdivide.{discards, subdivision}
-use Rattle.mesh.specs.declared.Point.{Point}
 use Rattle.mesh.specs.Words.{vertexWords}
 use Rattle.drawing.specs.Points.{points}
 use Rattle.drawing.specs.Primitives.{indexWords}
 use Rattle.drawing.specs.Words.{readPoints}
-use Rattle.drawing.specs.Demand.{Demand}
-use Rattle.drawing.proofs.ReadBack.{vertex-words, read-points}
+use Rattle.mesh.proofs.Words.{words-length}
+use Rattle.drawing.proofs.ReadBack.{read-points}
 use Rattle.drawing.proofs.Demand.{demand}
 use Rattle.tessellate.specs.declared.answer.Answer.{Answer}
 use Rattle.tessellate.specs.declared.answer.Answer.the-variants.{Drawn, Discarded, IndexLimit, NoRoomForVertices, NoRoomForIndices}
 use Rattle.tessellate.specs.Answers.{Told, told, refused, pointsOf, indicesOf, verdict}
-use Rattle.tessellate.specs.Draws.{after, Drew}
+use Rattle.tessellate.specs.Draws.{Drew}
 
 module _ (set : Settings) (p : Patch) (v i : List ℕ) where
   -- a refusal leaves both lists as they were
@@ -80,7 +79,7 @@ module _ (set : Settings) (p : Patch) (v i : List ℕ) where
                   let q : P ≡ Q = cc in
                   let j : I ≡ J = cc in
                   let front : readPoints (take (3 * Q) v′) ≡ points c =
-                  ap readPoints (ap (take (3 * Q)) ev ∙ over-front v (vertexWords (points c)) (3 * Q) (omega (arith, vertex-words (points c)))) ∙ read-points (points c) in
+                  ap readPoints (ap (take (3 * Q)) ev ∙ over-front v (vertexWords (points c)) (3 * Q) (omega (arith, words-length (points c)))) ∙ read-points (points c) in
                   let words : take J i′ ≡ indexWords set c = ap (take J) ei ∙ over-front i (indexWords set c) J (omega arith) in
                   rw (front, words) (demand set p drawn);
             }

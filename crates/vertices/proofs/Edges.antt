@@ -11,7 +11,8 @@ use Rattle.mesh.specs.declared.Point.{Point}
 use Rattle.mesh.specs.Edge.{Run, ring}
 use Rattle.mesh.specs.Words.{vertexWords}
 use Rattle.vertices.specs.Edges.{edgePoints}
-use Rattle.vertices.proofs.Words.{words-length, words-append, table-words}
+use Rattle.mesh.proofs.Words.{words-length}
+use Rattle.vertices.proofs.Words.{words-append, table-words}
 
 -- the edges k, k + 1, .. of a ring are left to write, into out from w on, when ys are written into xs from `at` on
 pub record EdgesLeft (place : ℕ → ℕ → ℕ → Point) (d k : ℕ) (es : List Run) (out : List ℕ) (w : ℕ) (xs : List ℕ) (at : ℕ) (ys : List ℕ) : Type 0 where

@@ -9,7 +9,8 @@ use Rattle.buffer.specs.Over.{Wrote}
 use Rattle.buffer.proofs.Laws.{over-length, wrote-then}
 use Rattle.mesh.specs.declared.Point.{Point}
 use Rattle.mesh.specs.Words.{vertexWords}
-use Rattle.vertices.proofs.Words.{words-length, words-append}
+use Rattle.mesh.proofs.Words.{words-length}
+use Rattle.vertices.proofs.Words.{words-append}
 
 -- the points `all` are ps and then qs, and a list xs has room for their words from `at` on
 pub record Parts (all ps qs : List Point) (xs : List ℕ) (at : ℕ) : Type 0 where

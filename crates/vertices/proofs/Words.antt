@@ -1,4 +1,4 @@
--- The words of points: how many, and of lists that are put together.
+-- The words of lists of points that are put together.
 -- Assumes nothing.
 use Prim.Native.Nat.{ℕ, zero, suc, _+_, _*_}
 use mathlib.Core.Path.{_≡_, refl, ap, _∙_}
@@ -11,11 +11,7 @@ use Rattle.edge.proofs.Table.{length-table}
 use Rattle.mesh.specs.declared.Point.{Point}
 use Rattle.mesh.specs.QuadPoints.{grid}
 use Rattle.mesh.specs.Words.{pointWords, vertexWords}
-
-pub words-length : (ps : List Point) → length (vertexWords ps) ≡ 3 * length ps
-unfolding vertexWords
-words-length [] = refl
-words-length (p ∷ ps) = omega (arith, words-length ps)
+use Rattle.mesh.proofs.Words.{words-length}
 
 pub words-append : (ps qs : List Point) → vertexWords (ps ++ qs) ≡ vertexWords ps ++ vertexWords qs
 unfolding vertexWords

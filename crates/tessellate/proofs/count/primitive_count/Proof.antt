@@ -1,7 +1,6 @@
 -- Meets its contract. Assumes nothing.
 use borrow.Author.Needs.{needs}
 use native.Mathlib.Omega.{arith}
-use Prim.Native.Nat.{_+_}
 use mathlib.Core.Path.{sym, ap, _∙_}
 use Rattle.drawing.specs.Counts.{primitiveCount}
 use Rattle.tessellate.proofs.Products.{small}

@@ -9,7 +9,7 @@ use Rattle.buffer.proofs.Laws.{Left, left-all, left-fits, left-step, left-last}
 use Rattle.mesh.specs.Words.{vertexWords}
 use Rattle.vertices.specs.Rows.{places}
 use Rattle.vertices.specs.Rings.{ringPoints, ringsFrom}
-use Rattle.vertices.proofs.Words.{words-length}
+use Rattle.mesh.proofs.Words.{words-length}
 use Rattle.vertices.proofs.triangle.write_rings.Statement.{statement}
 use Rattle.vertices.proofs.triangle.write_rings.Tie as tie
 
