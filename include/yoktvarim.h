@@ -36,7 +36,7 @@ typedef enum yoktvarim_answer {
     YOKTVARIM_DRAWN = 0,                /* counts[0] points and counts[1] indices were written */
     YOKTVARIM_MEASURED = 0,             /* what yoktvarim_measure's 0 means: that many would be written */
     YOKTVARIM_DISCARDED = 1,            /* an outer level that counts is NaN or not above 0 */
-    YOKTVARIM_INDEX_LIMIT = 2,          /* more than 65,535 points */
+    /* 2 meant more points than an index can number, which no patch has; it is not used again */
     YOKTVARIM_NO_ROOM_FOR_VERTICES = 3, /* the vertex list has under 3 words a point */
     YOKTVARIM_NO_ROOM_FOR_INDICES = 4,  /* the index list is too short */
     YOKTVARIM_UNKNOWN_SETTING = 8       /* counts[0] is the place, 0 to 4, of the first setting that is out of range */

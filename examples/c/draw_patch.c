@@ -22,9 +22,6 @@ static void show(const yoktvarim_settings *settings, const yoktvarim_levels *lev
     case YOKTVARIM_DISCARDED:
         printf("discarded\n");
         break;
-    case YOKTVARIM_INDEX_LIMIT:
-        printf("more points than an index can number\n");
-        break;
     case YOKTVARIM_NO_ROOM_FOR_VERTICES:
         printf("no room for vertices\n");
         break;

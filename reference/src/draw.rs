@@ -26,18 +26,17 @@ pub enum Measure {
 pub enum Drawing {
     Drawn { points: usize, indices: usize },
     Discarded,
-    IndexLimit,
     NoRoomForVertices,
     NoRoomForIndices,
 }
 
 impl Drawing {
-    /// Section "What the cutter says": the number of each answer.
+    /// Section "What the cutter says": the number of each answer. 2 belonged to
+    /// an answer that Ask 6 took out, and stays unused.
     pub fn number(&self) -> u32 {
         match self {
             Drawing::Drawn { .. } => 0,
             Drawing::Discarded => 1,
-            Drawing::IndexLimit => 2,
             Drawing::NoRoomForVertices => 3,
             Drawing::NoRoomForIndices => 4,
         }
@@ -101,9 +100,10 @@ pub fn measure(patch: &Patch, settings: &Settings) -> Measure {
     }
 }
 
-/// Section "What the cutter says": the lowest of the answers 0 to 4 that
+/// Section "What the cutter says": the lowest of the answers 0, 1, 3 and 4 that
 /// applies. The lists change only when the answer is "drawn", and then only
-/// as far as the counts go.
+/// as far as the counts go. No patch has more than 4,225 points, so every index
+/// fits in a u16.
 pub fn draw(
     patch: &Patch,
     settings: &Settings,
@@ -114,9 +114,6 @@ pub fn draw(
         Answer::Discarded => return Drawing::Discarded,
         Answer::Drawn { points, indices } => (points, indices),
     };
-    if points.len() > 65_535 {
-        return Drawing::IndexLimit;
-    }
     if vertex_list.len() < 3 * points.len() {
         return Drawing::NoRoomForVertices;
     }

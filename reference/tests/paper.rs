@@ -120,6 +120,65 @@ fn sizes() {
     );
 }
 
+fn point_count(patch: &Patch, settings: &Settings) -> usize {
+    match measure(patch, settings) {
+        Measure::Counts { points, .. } => points,
+        Measure::Discarded => panic!("discarded"),
+    }
+}
+
+/// Ask 6: no patch has more than 4,225 points. A count hangs on the numbers of
+/// segments alone, and whole levels 1 to 64 reach all of those. They are tried
+/// inside the finest outline first, then on every outer edge.
+#[test]
+fn no_patch_has_more_than_4225_points() {
+    let levels = || (1..=64).map(|level| level as f32);
+    let mut most = 0;
+    for spacing in [
+        Spacing::Equal,
+        Spacing::FractionalEven,
+        Spacing::FractionalOdd,
+    ] {
+        let settings = settings(spacing);
+        let mut meet = |patch: Patch| most = point_count(&patch, &settings).max(most);
+        for first in levels() {
+            meet(triangles(64.0, first));
+            for second in levels() {
+                meet(quads(64.0, [first, second]));
+                meet(Patch::Isolines {
+                    outer: [first, second],
+                });
+            }
+        }
+    }
+    assert_eq!(most, 4_225);
+}
+
+/// Ask 6, the other half: a finer outer edge adds its own segments and nothing
+/// else, so the finest outline is the one with most points.
+#[test]
+fn outer_edges_add_their_own_points_only() {
+    let finest = point_count(&quads(64.0, [5.0, 6.0]), &equal());
+    for edge in 0..4 {
+        for level in 1..=64 {
+            let mut outer = [64.0; 4];
+            outer[edge] = level as f32;
+            let inner = [5.0, 6.0];
+            let points = point_count(&Patch::Quads { outer, inner }, &equal());
+            assert_eq!(points, finest - 64 + level);
+        }
+    }
+    let finest = point_count(&triangles(64.0, 5.0), &equal());
+    for edge in 0..3 {
+        for level in 1..=64 {
+            let mut outer = [64.0; 3];
+            outer[edge] = level as f32;
+            let points = point_count(&Patch::Triangles { outer, inner: 5.0 }, &equal());
+            assert_eq!(points, finest - 64 + level);
+        }
+    }
+}
+
 // ---- plain patches and levels -------------------------------------------
 
 #[test]
@@ -323,7 +382,6 @@ fn drawing_answers_and_lists() {
         assert!(first[12..].iter().all(|word| *word == 7777));
         assert!(second[9..].iter().all(|word| *word == 888));
     }
-    assert_eq!(Drawing::IndexLimit.number(), 2);
 }
 
 #[test]

@@ -11,8 +11,6 @@ pub enum Answer {
     Drawn { points: u32, indices: u32 },
     /// An outer level is NaN or not above 0.
     Discarded,
-    /// More than 65,535 points.
-    IndexLimit,
     /// The vertex list has under 3 words a point.
     NoRoomForVertices,
     /// The index list is too short.
@@ -52,16 +50,15 @@ pub fn draw(
             indices: written,
         },
         1 => Answer::Discarded,
-        2 => Answer::IndexLimit,
         3 => Answer::NoRoomForVertices,
         4 => Answer::NoRoomForIndices,
         _ => {
-            unreachable!("every setting is known, so the answer is one of 0 to 4 and not {number}")
+            unreachable!("every setting is known, so the answer is 0, 1, 3 or 4 and not {number}")
         }
     }
 }
 
-/// How many points and indices drawing would write; it asks for no room and knows no index limit.
+/// How many points and indices drawing would write; it asks for no room.
 pub fn measure(patch: &Patch, settings: &Settings) -> Size {
     let Numbered {
         number,

@@ -18,8 +18,8 @@ extern "C" {
     ) -> u32;
 }
 
-/// An answer by its number: 0 drawn (or measured), 1 discarded, 2 index limit, 3 no room for vertices, 4 no room for
-/// indices, 8 unknown setting. No other number is given.
+/// An answer by its number: 0 drawn (or measured), 1 discarded, 3 no room for vertices, 4 no room for indices,
+/// 8 unknown setting. No other number is given.
 #[must_use = "only the number 0 means that something was drawn"]
 #[derive(Clone, Copy, Debug, PartialEq, Eq)]
 pub struct Numbered {

@@ -60,7 +60,6 @@ fn answer_here(drawing: reference::Drawing) -> Answer {
             indices: indices as u32,
         },
         reference::Drawing::Discarded => Answer::Discarded,
-        reference::Drawing::IndexLimit => Answer::IndexLimit,
         reference::Drawing::NoRoomForVertices => Answer::NoRoomForVertices,
         reference::Drawing::NoRoomForIndices => Answer::NoRoomForIndices,
     }

@@ -101,7 +101,6 @@ fn write_answer(answer: Answer) {
     match answer {
         Answer::Drawn { points, indices } => write_counts(b"drawn ", points, indices),
         Answer::Discarded => write_word(b"discarded\n"),
-        Answer::IndexLimit => write_word(b"index limit\n"),
         Answer::NoRoomForVertices => write_word(b"no room for vertices\n"),
         Answer::NoRoomForIndices => write_word(b"no room for indices\n"),
     }

@@ -5,6 +5,7 @@ use mathlib.Core.Path.{refl}
 use mathlib.Core.Bool.{Bool, true, false}
 use native.Mathlib.Omega.{arith}
 use native.Mathlib.Nat.{mul-le-mul}
+use lib.ListN.{length}
 use lib.Ieee.{Float, isNan, le}
 use Rattle.level.specs.declared.Spacing.{Spacing}
 use Rattle.level.specs.declared.Spacing.the-variants.{Equal}
@@ -16,8 +17,12 @@ use Rattle.patch.specs.declared.kinds.Patch.the-variants.{Triangles, Quads, Iso
 use Rattle.patch.specs.declared.settings.Settings.{Settings}
 use Rattle.patch.specs.Every.{some, every}
 use Rattle.patch.specs.Subdivide.{subdivision}
-use Rattle.drawing.specs.Counts.{pointCount, primitiveCount, countIn, indexCount}
+use Rattle.drawing.specs.Points.{points}
+use Rattle.drawing.specs.Primitives.{indexWords}
+use Rattle.drawing.specs.Counts.{pointCount, primitiveCount, countIn}
 use Rattle.drawing.specs.Sizes.{mostPoints, mostPrimitives, AtMost, Greatest, triangles64, quads64, isolines64}
+use Rattle.drawing.proofs.Counts.{point-count, index-count}
+use Rattle.drawing.proofs.Valid.{cut-valid}
 use Rattle.drawing.proofs.Cases.{Cases, all-cases}
 
 -- products of two counts, each less d
@@ -65,15 +70,17 @@ most (Triangles a b c i) = omega arith
 most (Quads a b c d i j) = omega arith
 most (Isolines a b) = omega arith
 
-pub points-at-most : (s : Spacing) (p : Patch) → pointCount (subdivision s p) ≤ 4225
-points-at-most s p = omega (arith, sizes-at-most s p, most p)
+-- at most 4,225 points, for every patch and every setting: a vertex's number always fits 16 bits
+pub points-at-most : (s : Spacing) (p : Patch) → length (points (subdivision s p)) ≤ 4225
+points-at-most s p = omega (arith, point-count (subdivision s p) (cut-valid s p), sizes-at-most s p, most p)
 
-pub indices-at-most : (set : Settings) (p : Patch) → indexCount set (subdivision (set .spacing) p) ≤ 24576
-indices-at-most set p = go (set .«point_mode»)
+-- and at most 24,576 indices
+pub indices-at-most : (set : Settings) (p : Patch) → length (indexWords set (subdivision (set .spacing) p)) ≤ 24576
+indices-at-most set p = omega (arith, index-count set (subdivision (set .spacing) p) (cut-valid (set .spacing) p), go (set .«point_mode»))
   where
     go : (mode : Bool) → countIn mode (subdivision (set .spacing) p) ≤ 24576
     go false = omega (arith, sizes-at-most (set .spacing) p, most p)
-    go true = omega (arith, points-at-most (set .spacing) p)
+    go true = omega (arith, sizes-at-most (set .spacing) p, most p)
 
 pub greatest : Greatest triangles64 × Greatest quads64 × Greatest isolines64
 unfolding parts segmentsOf asInner some every subdivision pointCount primitiveCount isNan le

@@ -9,7 +9,7 @@ use Rattle.patch.specs.declared.kinds.Patch.{Patch}
 use Rattle.patch.specs.declared.settings.Settings.{Settings}
 use Rattle.job.specs.Settings.{firstUnknown}
 use Rattle.tessellate.specs.declared.answer.Answer.{Answer}
-use Rattle.tessellate.specs.declared.answer.Answer.the-variants.{Drawn, Discarded, IndexLimit, NoRoomForVertices, NoRoomForIndices}
+use Rattle.tessellate.specs.declared.answer.Answer.the-variants.{Drawn, Discarded, NoRoomForVertices, NoRoomForIndices}
 use Rattle.tessellate.specs.Answers.{Told, told}
 use Rattle.tessellate.specs.Draws.{Drew}
 use Rattle.exports.specs.Inputs.{patchIn, settingsIn}
@@ -41,7 +41,6 @@ module _ (bs : List ℕ) where
 counted : (a : Answer) → told a .number ≡ 0 → told a ≡ record { number = 0; values = twoWords (told a .values) }
 counted (Drawn p i) h = refl
 counted Discarded h = absurd (omega arith)
-counted IndexLimit h = absurd (omega arith)
 counted NoRoomForVertices h = absurd (omega arith)
 counted NoRoomForIndices h = absurd (omega arith)
 

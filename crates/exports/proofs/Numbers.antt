@@ -1,48 +1,36 @@
--- The numbers that a call can answer with: drawing 0 to 4 or 8, measuring 0, 1 or 8. Assumes nothing.
-use Prim.Native.Nat.{ℕ, _*_, _≤_}
-use mathlib.Core.Path.{_≡_, refl}
+-- The numbers that a call can answer with. Assumes nothing.
+use Prim.Native.Nat.{ℕ, _*_}
+use mathlib.Core.Path.{refl}
 use mathlib.Core.Bool.{Bool, true, false, cond}
-use mathlib.Core.List.{List}
-use mathlib.Core.Logic.{_⊎_, inl, inr}
-use native.Mathlib.Omega.{arith}
+use mathlib.Core.List.{List, [], _∷_}
+use mathlib.Core.Logic.{inl, inr}
 use lib.Dec.{ltb}
 use lib.Ieee.{Float}
-use Rattle.patch.specs.declared.kinds.Patch.{Patch}
-use Rattle.patch.specs.declared.settings.Settings.{Settings}
 use Rattle.patch.specs.Subdivide.{discards}
 use Rattle.job.specs.Settings.{firstUnknown}
 use Rattle.tessellate.specs.Answers.{Told, pointsOf, indicesOf, verdict, measured}
 use Rattle.exports.specs.Inputs.{patchIn, settingsIn}
-use Rattle.exports.specs.Calls.{unknownSetting, known, drawSays, measureSays}
+use Rattle.exports.specs.Calls.{known, drawSays, measureSays, OneOf}
 
 -- one of two answers
-either : (b : Bool) (s t : Told) {most : ℕ} → s .number ≤ most → t .number ≤ most → cond b s t .number ≤ most
-either true s t h k = h
-either false s t h k = k
-
-verdict-number : (set : Settings) (p : Patch) (v i : ℕ) → verdict set p v i .number ≤ 4
-unfolding verdict
-verdict-number set p v i =
-    either (discards p) _ _ (omega arith)
-    (either (ltb 65535 (pointsOf set p)) _ _ (omega arith)
-    (either (ltb v (3 * pointsOf set p)) _ _ (omega arith)
-    (either (ltb i (indicesOf set p)) _ _ (omega arith) (omega arith))))
-
-measured-number : (set : Settings) (p : Patch) → measured set p .number ≤ 1
-unfolding measured
-measured-number set p = either (discards p) _ _ (omega arith) (omega arith)
-
-known-number : (bs : List ℕ) (t : Told) {most : ℕ} → t .number ≤ most → (known bs t .number ≤ most) ⊎ (known bs t .number ≡ 8)
-unfolding known
-known-number bs t {most} h = pick (ltb (firstUnknown bs 0) 5)
-  where
-    pick : (b : Bool) → (cond b (unknownSetting (firstUnknown bs 0)) t .number ≤ most) ⊎ (cond b (unknownSetting (firstUnknown bs 0)) t .number ≡ 8)
-    pick true = inr refl
-    pick false = inl h
+either : (ns : List ℕ) (b : Bool) (s t : Told) → OneOf ns (s .number) → OneOf ns (t .number) → OneOf ns (cond b s t .number)
+either ns true s t h k = h
+either ns false s t h k = k
 
 module _ (bs : List ℕ) (xs : List Float) where
-  pub draw-number : (v i : ℕ) → (drawSays bs xs v i .number ≤ 4) ⊎ (drawSays bs xs v i .number ≡ 8)
-  draw-number v i = known-number bs _ (verdict-number (settingsIn bs) (patchIn bs xs) v i)
+  pub draw-number : (v i : ℕ) → OneOf (0 ∷ 1 ∷ 3 ∷ 4 ∷ 8 ∷ []) (drawSays bs xs v i .number)
+  unfolding known verdict
+  draw-number v i =
+      let set = settingsIn bs in
+      let p = patchIn bs xs in
+      let of = either (0 ∷ 1 ∷ 3 ∷ 4 ∷ 8 ∷ []) in
+      of (ltb (firstUnknown bs 0) 5) _ _ (inr (inr (inr (inr (inl refl)))))
+      (of (discards p) _ _ (inr (inl refl))
+      (of (ltb v (3 * pointsOf set p)) _ _ (inr (inr (inl refl)))
+      (of (ltb i (indicesOf set p)) _ _ (inr (inr (inr (inl refl)))) (inl refl))))
 
-  pub measure-number : (measureSays bs xs .number ≤ 1) ⊎ (measureSays bs xs .number ≡ 8)
-  measure-number = known-number bs _ (measured-number (settingsIn bs) (patchIn bs xs))
+  pub measure-number : OneOf (0 ∷ 1 ∷ 8 ∷ []) (measureSays bs xs .number)
+  unfolding known measured
+  measure-number =
+      let of = either (0 ∷ 1 ∷ 8 ∷ []) in
+      of (ltb (firstUnknown bs 0) 5) _ _ (inr (inr (inl refl))) (of (discards (patchIn bs xs)) _ _ (inr (inl refl)) (inl refl))

@@ -4,6 +4,7 @@ use Prim.Native.Nat.{ℕ, _*_}
 use mathlib.Core.Path.{_≡_}
 use mathlib.Core.Bool.{cond}
 use mathlib.Core.List.{List, [], _∷_}
+use mathlib.Core.Logic.{_⊎_}
 use lib.Dec.{ltb}
 use lib.Ieee.{Float}
 use lib.ListN.{length, take, getD}
@@ -34,6 +35,11 @@ measureSays bs xs = known bs (measured (settingsIn bs) (patchIn bs xs))
 abbrev pub drawSays : List ℕ → List Float → ℕ → ℕ → Told
 drawSays bs xs n m = known bs (verdict (settingsIn bs) (patchIn bs xs) n m)
 
+-- n is one of these numbers
+abbrev pub OneOf : List ℕ → ℕ → Type 0
+OneOf [] n = ⊥
+OneOf (k ∷ ks) n = (n ≡ k) ⊎ OneOf ks n
+
 -- the words of the counts for an answer's values: the values, and 0 where there is none
 abbrev pub twoWords : List ℕ → List ℕ
 twoWords vs = getD vs 0 0 ∷ getD vs 1 0 ∷ []
@@ -45,7 +51,7 @@ pub record Says (t : Told) (c′ : List ℕ) (r : ℕ) : Type 0 where
 
 -- a call of drawing
 pub record DrawCalled (bs : List ℕ) (xs : List Float) (v i v′ i′ c′ : List ℕ) (r : ℕ) : Type 0 where
-  -- the lowest of 0 to 4 that applies, or an 8
+  -- the lowest number that applies: 8, or what drawing says
   pub says : Says (drawSays bs xs (length v) (length i)) c′ r
   -- drawn: the counted words at the front and not one more; else untouched
   pub vertices : v′ ≡ after r v (vertexWords (points (subdivision (settingsIn bs .spacing) (patchIn bs xs))))

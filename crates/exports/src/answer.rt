@@ -37,7 +37,6 @@ pub(crate) fn say_answer(answer: Answer, counts: &mut [u32; 2]) -> u32
     match answer {
         Answer::Drawn { points, indices } => say(0, points, indices, counts),
         Answer::Discarded => say(1, 0, 0, counts),
-        Answer::IndexLimit => say(2, 0, 0, counts),
         Answer::NoRoomForVertices => say(3, 0, 0, counts),
         Answer::NoRoomForIndices => say(4, 0, 0, counts),
     }

@@ -3,7 +3,7 @@
 //   settings  five bytes: kind, spacing, vertex order, domain origin and point mode, numbered as in a job file
 //   levels    six tessellation levels: outer one to four, inner one and two; those that do not count for the kind are ignored
 //   counts    two words, always written: points and indices beside the answer 0, the place of the setting and 0 beside 8, else 0 and 0
-// The answer is its number: 0 drawn (or measured), 1 discarded, 2 index limit, 3 no room for vertices, 4 no room for indices,
+// The answer is its number: 0 drawn (or measured), 1 discarded, 3 no room for vertices, 4 no room for indices,
 // 8 unknown setting. Whatever is not 0 leaves both lists untouched.
 mod answer;
 pub mod draw;

@@ -16,7 +16,7 @@ use Rattle.drawing.specs.Points.{points}
 use Rattle.drawing.specs.Primitives.{indexWords}
 use Rattle.mesh.proofs.Words.{words-length}
 use Rattle.tessellate.specs.declared.answer.Answer.{Answer}
-use Rattle.tessellate.specs.declared.answer.Answer.the-variants.{Drawn, Discarded, IndexLimit, NoRoomForVertices, NoRoomForIndices}
+use Rattle.tessellate.specs.declared.answer.Answer.the-variants.{Drawn, Discarded, NoRoomForVertices, NoRoomForIndices}
 use Rattle.tessellate.specs.Answers.{Told, told, refused, drawn, pointsOf, indicesOf, verdict}
 use Rattle.tessellate.specs.Draws.{Drew}
 use Rattle.text.specs.Heads.{discardedLine}
@@ -36,18 +36,17 @@ module _ (set : Settings) (p : Patch) where
 
   counted : (v i P I : ℕ) → told (Drawn P I) ≡ verdict set p v i → Counted v i P I
   unfolding verdict
-  counted v i P I e = go (discards p) (ltb 65535 (pointsOf set p)) (ltb v (3 * pointsOf set p)) (ltb i (indicesOf set p)) refl refl e
+  counted v i P I e = go (discards p) (ltb v (3 * pointsOf set p)) (ltb i (indicesOf set p)) refl refl e
     where
       not-refused : (n : ℕ) → told (Drawn P I) ≡ refused (n + 1) → Counted v i P I
       not-refused n h = let z : _≡_ {A = ℕ} 0 (n + 1) = ap (λ (t : Told). t .number) h in absurd (omega arith)
 
-      go : (a b c d : Bool) → ltb v (3 * pointsOf set p) ≡ c → ltb i (indicesOf set p) ≡ d
-          → told (Drawn P I) ≡ cond a (refused 1) (cond b (refused 2) (cond c (refused 3) (cond d (refused 4) (drawn set p)))) → Counted v i P I
-      go true b c d hv hi h = not-refused 0 h
-      go false true c d hv hi h = not-refused 1 h
-      go false false true d hv hi h = not-refused 2 h
-      go false false false true hv hi h = not-refused 3 h
-      go false false false false hv hi h =
+      go : (a c d : Bool) → ltb v (3 * pointsOf set p) ≡ c → ltb i (indicesOf set p) ≡ d
+          → told (Drawn P I) ≡ cond a (refused 1) (cond c (refused 3) (cond d (refused 4) (drawn set p))) → Counted v i P I
+      go true c d hv hi h = not-refused 0 h
+      go false true d hv hi h = not-refused 2 h
+      go false false true hv hi h = not-refused 3 h
+      go false false false hv hi h =
           let values : _≡_ {A = List ℕ} (P ∷ I ∷ []) (pointsOf set p ∷ indicesOf set p ∷ []) = ap (λ (t : Told). t .values) h in
           let eP : P ≡ pointsOf set p = cc in
           let eI : I ≡ indicesOf set p = cc in
@@ -80,7 +79,6 @@ module _ (set : Settings) (p : Patch) where
         )
         (said (length v) (length i) (d .answer))
     drew-text Discarded d = said (length v) (length i) (d .answer)
-    drew-text IndexLimit d = said (length v) (length i) (d .answer)
     drew-text NoRoomForVertices d = said (length v) (length i) (d .answer)
     drew-text NoRoomForIndices d = said (length v) (length i) (d .answer)
 
@@ -98,7 +96,6 @@ module _ (set : Settings) (p : Patch) where
           rw (n .points, n .indices) (text-fits set p),
         )
     drew-prints Discarded d ev ei = tt
-    drew-prints IndexLimit d ev ei = tt
     drew-prints NoRoomForVertices d ev ei = tt
     drew-prints NoRoomForIndices d ev ei = tt
 
@@ -108,7 +105,6 @@ module _ (set : Settings) (p : Patch) where
   full-size {v} {i} f =
       let fit = points-fit set p in
       rw (
-        le-ltb 65535 (pointsOf set p) (omega arith),
         le-ltb v (3 * pointsOf set p) (omega arith),
         le-ltb i (indicesOf set p) (omega (arith, indices-fit set p)),
       )

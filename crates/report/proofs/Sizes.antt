@@ -25,26 +25,23 @@ width-range false (Isolines a b) = omega arith
 
 -- the primitives of a patch
 few-primitives : (s : Spacing) (mode : Bool) (p : Patch) → countIn mode (subdivision s p) / widthOf mode p ≤ 8192
-few-primitives s true p = omega (arith, points-at-most s p)
+few-primitives s true p = omega (arith, points-at-most s p, point-count (subdivision s p) (cut-valid s p))
 few-primitives s false (Triangles a b c i) = omega (arith, sizes-at-most s (Triangles a b c i))
 few-primitives s false (Quads a b c d i j) = omega (arith, sizes-at-most s (Quads a b c d i j))
 few-primitives s false (Isolines a b) = omega (arith, sizes-at-most s (Isolines a b))
 
 module _ (set : Settings) (p : Patch) where
-  few-points : pointsOf set p ≤ 4225
-  few-points = omega (arith, points-at-most (set .spacing) p, point-count (subdivision (set .spacing) p) (cut-valid (set .spacing) p))
-
   -- the points and the indices fit full-size lists
   pub points-fit : 3 * pointsOf set p ≤ 12675
-  points-fit = omega (arith, few-points)
+  points-fit = omega (arith, points-at-most (set .spacing) p)
 
   pub indices-fit : indicesOf set p ≤ 24576
-  indices-fit = omega (arith, indices-at-most set p, index-count set (subdivision (set .spacing) p) (cut-valid (set .spacing) p))
+  indices-fit = indices-at-most set p
 
   -- the text fits the room for one record
   pub text-fits : 28 + 33 * pointsOf set p + 18 * (indicesOf set p / widthOf (set .«point_mode») p) ≤ room
   text-fits =
-      rw (index-count set (subdivision (set .spacing) p) (cut-valid (set .spacing) p)) (omega (arith, few-points, few-primitives (set .spacing) (set .«point_mode») p))
+      rw (index-count set (subdivision (set .spacing) p) (cut-valid (set .spacing) p)) (omega (arith, points-at-most (set .spacing) p, few-primitives (set .spacing) (set .«point_mode») p))
 
 -- ---- every index stands in a primitive
 

@@ -9,7 +9,7 @@ use Rattle.mesh.specs.Words.{vertexWords}
 use Rattle.drawing.specs.Points.{points}
 use Rattle.drawing.specs.Primitives.{indexWords}
 use Rattle.tessellate.specs.declared.answer.Answer.{Answer}
-use Rattle.tessellate.specs.declared.answer.Answer.the-variants.{Drawn, Discarded, IndexLimit, NoRoomForVertices, NoRoomForIndices}
+use Rattle.tessellate.specs.declared.answer.Answer.the-variants.{Drawn, Discarded, NoRoomForVertices, NoRoomForIndices}
 use Rattle.tessellate.specs.Answers.{told, pointsOf, indicesOf, verdict}
 use Rattle.text.specs.Heads.{drawnLine, discardedLine, refusedLine}
 use Rattle.text.specs.Lines.{rows}
@@ -26,7 +26,6 @@ listText width vertices indices P I = drawnLine P I ++ rows 3 vertices 0 P ++ ro
 abbrev pub answerText : ℕ → List ℕ → List ℕ → Answer → List ℕ
 answerText width vertices indices (Drawn P I) = listText width vertices indices P I
 answerText width vertices indices Discarded = discardedLine
-answerText width vertices indices IndexLimit = refusedLine (told IndexLimit .number)
 answerText width vertices indices NoRoomForVertices = refusedLine (told NoRoomForVertices .number)
 answerText width vertices indices NoRoomForIndices = refusedLine (told NoRoomForIndices .number)
 
@@ -41,7 +40,6 @@ pub record Mesh (width v i P I : ℕ) : Type 0 where
 abbrev pub Prints : ℕ → ℕ → ℕ → Answer → Type 0
 Prints width v i (Drawn P I) = Mesh width v i P I × (28 + 33 * P + 18 * (I / width) ≤ room)
 Prints width v i Discarded = Unit {0}
-Prints width v i IndexLimit = Unit {0}
 Prints width v i NoRoomForVertices = Unit {0}
 Prints width v i NoRoomForIndices = Unit {0}
 

@@ -28,7 +28,6 @@ fn put_answer(
             indices: words,
         } => put_mesh(out, at, vertices, indices, width, points, words),
         Answer::Discarded => text::put_discarded(out, at),
-        Answer::IndexLimit => text::put_refused(out, at, 2),
         Answer::NoRoomForVertices => text::put_refused(out, at, 3),
         Answer::NoRoomForIndices => text::put_refused(out, at, 4),
     }

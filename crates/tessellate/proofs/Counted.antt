@@ -1,16 +1,20 @@
 -- What the code finds out about a patch, in the words of the statements: whether it is discarded, and how many points and indices it has.
 -- Assumes nothing.
-use Prim.Native.Nat.{ℕ}
+use Prim.Native.Nat.{ℕ, _≤_}
 use mathlib.Core.Path.{_≡_, sym, ap, _∙_}
 use mathlib.Core.Bool.{Bool}
+use native.Mathlib.Omega.{arith}
+use lib.ListN.{length}
 use Rattle.patch.specs.declared.kinds.Patch.{Patch}
 use Rattle.patch.specs.declared.settings.Settings.{Settings}
 use Rattle.patch.specs.declared.subdivision.Subdivision.{Subdivision}
 use Rattle.patch.specs.Subdivide.{discards, subdivision, isDiscarded}
 use Rattle.patch.proofs.Discarded.{discarded-cut}
+use Rattle.drawing.specs.Points.{points}
 use Rattle.drawing.specs.Counts.{pointCount, countIn}
 use Rattle.drawing.specs.Valid.{ValidCut}
 use Rattle.drawing.proofs.Counts.{point-count, index-count}
+use Rattle.drawing.proofs.Sizes.{points-at-most}
 use Rattle.drawing.proofs.Valid.{cut-valid}
 use Rattle.tessellate.specs.Answers.{pointsOf, indicesOf}
 use Rattle.tessellate.proofs.Cuts.{valid-as}
@@ -23,6 +27,10 @@ module _ (set : Settings) (p : Patch) (c : Subdivision) (is : c ≡ subdivision 
   -- the test for a discarded patch
   pub flag : {t b : Bool} → t ≡ isDiscarded c → t ≡ b → discards p ≡ b
   flag f h = sym (discarded-cut (set .spacing) p) ∙ ap isDiscarded (sym is) ∙ sym f ∙ h
+
+  -- every vertex has a number of 16 bits
+  pub few : length (points c) ≤ 65535
+  few = rw is (omega (arith, points-at-most (set .spacing) p))
 
   -- the counts
   pub many-points : {n : ℕ} → n ≡ pointCount c → n ≡ pointsOf set p

@@ -11,7 +11,7 @@ use Rattle.patch.specs.Subdivide.{discards, subdivision}
 use Rattle.drawing.specs.Points.{points}
 use Rattle.drawing.specs.Primitives.{indexWords}
 use Rattle.tessellate.specs.declared.answer.Answer.{Answer}
-use Rattle.tessellate.specs.declared.answer.Answer.the-variants.{Drawn, Discarded, IndexLimit, NoRoomForVertices, NoRoomForIndices}
+use Rattle.tessellate.specs.declared.answer.Answer.the-variants.{Drawn, Discarded, NoRoomForVertices, NoRoomForIndices}
 use Rattle.tessellate.specs.declared.answer.Size.{Size}
 use Rattle.tessellate.specs.declared.answer.Size.the-variants.{Counts, Discarded as NoCounts}
 
@@ -20,11 +20,10 @@ pub record Told : Type 0 where
   pub number : ℕ
   pub values : List ℕ
 
--- the table, number by number
+-- the table, number by number; 2 once stood for more points than an index can number, and is not used again
 abbrev pub told : Answer → Told
 told (Drawn p i) = record { number = 0; values = p ∷ i ∷ [] }
 told Discarded = record { number = 1; values = [] }
-told IndexLimit = record { number = 2; values = [] }
 told NoRoomForVertices = record { number = 3; values = [] }
 told NoRoomForIndices = record { number = 4; values = [] }
 
@@ -51,10 +50,9 @@ drawn set p = record { number = 0; values = pointsOf set p ∷ indicesOf set p �
 unfoldable pub verdict : Settings → Patch → ℕ → ℕ → Told
 verdict set p v i =
     cond (discards p) (refused 1)
-    (cond (ltb 65535 (pointsOf set p)) (refused 2)
     (cond (ltb v (3 * pointsOf set p)) (refused 3)
     (cond (ltb i (indicesOf set p)) (refused 4)
-    (drawn set p))))
+    (drawn set p)))
 
 -- what measuring has to say
 unfoldable pub measured : Settings → Patch → Told

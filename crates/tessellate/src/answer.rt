@@ -4,7 +4,6 @@
 pub enum Answer {
     Drawn { points: u32, indices: u32 },
     Discarded,
-    IndexLimit,
     NoRoomForVertices,
     NoRoomForIndices,
 }

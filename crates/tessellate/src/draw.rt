@@ -17,9 +17,6 @@ pub fn draw(patch: Patch, settings: Settings, vertices: &mut [u32], indices: &mu
     }
     let points = crate::count::point_count(cut);
     let words = crate::count::index_count(cut, point_mode);
-    if 65535 < points {
-        return Answer::IndexLimit;
-    }
     if vertices.len() < 3 * (points as usize) {
         return Answer::NoRoomForVertices;
     }

@@ -18,7 +18,6 @@ fn show(patch: &Patch, settings: &Settings, vertices: &mut [u32], indices: &mut 
             }
         }
         Answer::Discarded => println!("discarded"),
-        Answer::IndexLimit => println!("more points than an index can number"),
         Answer::NoRoomForVertices => println!("no room for vertices"),
         Answer::NoRoomForIndices => println!("no room for indices"),
     }

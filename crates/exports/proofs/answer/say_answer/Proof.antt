@@ -30,12 +30,6 @@ enum-told-3 c = search needs
 say-requires-4 : tie.Need-say-requires-4
 say-requires-4 c κs = search needs
 
-enum-told-4 : tie.Need-enum-told-4
-enum-told-4 c = search needs
-
-say-requires-5 : tie.Need-say-requires-5
-say-requires-5 c κs = search needs
-
 returns : tie.Need-returns
 returns c = said (ap told (c .before .before .before .answer .given .1)) (c .say .ensures)
 
@@ -47,9 +41,6 @@ returns-3 c = said (ap told (c .before .before .enum-told2 .given .1)) (c .say3 
 
 returns-4 : tie.Need-returns-4
 returns-4 c = said (ap told (c .before .before .enum-told3 .given .1)) (c .say4 .ensures)
-
-returns-5 : tie.Need-returns-5
-returns-5 c = said (ap told (c .before .before .enum-told4 .given .1)) (c .say5 .ensures)
 
 pub say-answer-spec : {M : Type 1} → statement M
 say-answer-spec =
@@ -63,10 +54,7 @@ say-answer-spec =
     say-requires-3
     enum-told-3
     say-requires-4
-    enum-told-4
-    say-requires-5
     returns
     returns-2
     returns-3
-    returns-4
-    returns-5)
+    returns-4)

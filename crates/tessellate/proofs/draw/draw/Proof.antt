@@ -10,8 +10,8 @@ use Rattle.drawing.specs.Points.{points}
 use Rattle.drawing.specs.Primitives.{inMode, indexWords}
 use Rattle.drawing.proofs.Counts.{point-count}
 use Rattle.tessellate.proofs.Modes.{mode-count}
-use Rattle.tessellate.proofs.Counted.{valid, flag, many-points, many-indices}
-use Rattle.tessellate.proofs.Draws.{discarded, index-limit, no-room-for-vertices, no-room-for-indices, all-drawn}
+use Rattle.tessellate.proofs.Counted.{valid, flag, few, many-points, many-indices}
+use Rattle.tessellate.proofs.Draws.{discarded, no-room-for-vertices, no-room-for-indices, all-drawn}
 use Rattle.tessellate.proofs.draw.draw.Statement.{statement}
 use Rattle.tessellate.proofs.draw.draw.Tie as tie
 
@@ -36,6 +36,12 @@ point-count-requires c κs = let a = c .before .before .before .before .before .
 index-count-requires : tie.Need-index-count-requires
 index-count-requires c κs = let a = c .before .before .before .before .before .before .args in valid (a .settings) (a .patch) (c .before .before .before .subdivide .result) (c .before .before .before .subdivide .ensures)
 
+cast-if2 : tie.Need-cast-if2
+cast-if2 c = search needs
+
+mul-if2 : tie.Need-mul-if2
+mul-if2 c = search needs
+
 returns-2 : tie.Need-returns-2
 returns-2 c =
     let a = c .before .before .before .before .before .before .before .before .args in
@@ -44,13 +50,10 @@ returns-2 c =
     let cut = c .before .before .before .before .before .subdivide in
     let drawn = flag (a .settings) (a .patch) (cut .result) (cut .ensures) (c .before .before .before .before .is-discarded .ensures) (c .before .before .before .if1 .left) in
     let many = many-points (a .settings) (a .patch) (cut .result) (cut .ensures) (c .before .before .point-count .ensures) in
-    index-limit (a .settings) (a .patch) v i drawn (omega (arith, c .if2 .taken))
+    no-room-for-vertices (a .settings) (a .patch) v i drawn (omega (arith, c .if2 .taken))
 
 cast-if3 : tie.Need-cast-if3
 cast-if3 c = search needs
-
-mul-if3 : tie.Need-mul-if3
-mul-if3 c = search needs
 
 returns-3 : tie.Need-returns-3
 returns-3 c =
@@ -60,41 +63,28 @@ returns-3 c =
     let cut = c .before .before .before .before .before .before .subdivide in
     let drawn = flag (a .settings) (a .patch) (cut .result) (cut .ensures) (c .before .before .before .before .before .is-discarded .ensures) (c .before .before .before .before .if1 .left) in
     let many = many-points (a .settings) (a .patch) (cut .result) (cut .ensures) (c .before .before .before .point-count .ensures) in
-    no-room-for-vertices (a .settings) (a .patch) v i drawn (omega (arith, c .before .if2 .left)) (omega (arith, c .if3 .taken))
-
-cast-if4 : tie.Need-cast-if4
-cast-if4 c = search needs
-
-returns-4 : tie.Need-returns-4
-returns-4 c =
-    let a = c .before .before .before .before .before .before .before .before .before .before .args in
-    let v = a .vertices .now in
-    let i = a .indices .now in
-    let cut = c .before .before .before .before .before .before .before .subdivide in
-    let drawn = flag (a .settings) (a .patch) (cut .result) (cut .ensures) (c .before .before .before .before .before .before .is-discarded .ensures) (c .before .before .before .before .before .if1 .left) in
-    let many = many-points (a .settings) (a .patch) (cut .result) (cut .ensures) (c .before .before .before .before .point-count .ensures) in
-    let words = many-indices (a .settings) (a .patch) (cut .result) (cut .ensures) (c .before .before .before .index-count .ensures) in
-    no-room-for-indices (a .settings) (a .patch) v i drawn (omega (arith, c .before .before .if2 .left)) (omega (arith, c .before .if3 .left)) (omega (arith, c .if4 .taken))
+    let words = many-indices (a .settings) (a .patch) (cut .result) (cut .ensures) (c .before .before .index-count .ensures) in
+    no-room-for-indices (a .settings) (a .patch) v i drawn (omega (arith, c .before .if2 .left)) (omega (arith, c .if3 .taken))
 
 write-points-requires : tie.Need-write-points-requires
 write-points-requires c κs =
-    let a = c .before .before .before .before .before .before .before .before .before .before .before .args in
-    let cut = c .before .before .before .before .before .before .before .before .subdivide in
+    let a = c .before .before .before .before .before .before .before .before .before .before .args in
+    let cut = c .before .before .before .before .before .before .before .subdivide in
     let v = valid (a .settings) (a .patch) (cut .result) (cut .ensures) in
-    (v, omega (arith, c .before .before .if3 .left, c .before .before .before .before .before .point-count .ensures, point-count (cut .result) v))
+    (v, omega (arith, c .before .before .if2 .left, c .before .before .before .before .point-count .ensures, point-count (cut .result) v))
 
 turns-positive-requires : tie.Need-turns-positive-requires
 turns-positive-requires c κs = search needs
 
 write-indices-requires : tie.Need-write-indices-requires
 write-indices-requires c κs =
-    let a = c .before .before .before .before .before .before .before .before .before .before .before .before .before .before .before .before .args in
-    let cut = c .before .before .before .before .before .before .before .before .before .before .before .before .before .subdivide in
+    let a = c .before .before .before .before .before .before .before .before .before .before .before .before .before .before .before .args in
+    let cut = c .before .before .before .before .before .before .before .before .before .before .before .before .subdivide in
     let v = valid (a .settings) (a .patch) (cut .result) (cut .ensures) in (
       v,
       (
-        omega (arith, c .before .before .before .before .before .before .before .before .if2 .left, c .before .before .before .before .before .before .before .before .before .before .point-count .ensures, point-count (cut .result) v),
-        omega (arith, c .before .before .before .before .before .before .if4 .left, c .before .before .before .before .before .before .before .before .before .index-count .ensures, mode-count (a .settings .«point_mode») (c .before .turns-positive .result) (cut .result) v),
+        few (a .settings) (a .patch) (cut .result) (cut .ensures),
+        omega (arith, c .before .before .before .before .before .before .if3 .left, c .before .before .before .before .before .before .before .before .index-count .ensures, mode-count (a .settings .«point_mode») (c .before .turns-positive .result) (cut .result) v),
       ),
     )
 
@@ -104,19 +94,19 @@ same-length c = search needs
 same-length-2 : tie.Need-same-length-2
 same-length-2 c = search needs
 
-returns-5 : tie.Need-returns-5
+returns-4 : tie.Need-returns-4
 unfolding indexWords
-returns-5 c =
-    let a = c .before .before .before .before .before .before .before .before .before .before .before .before .before .before .before .before .before .before .before .args in
+returns-4 c =
+    let a = c .before .before .before .before .before .before .before .before .before .before .before .before .before .before .before .before .before .before .args in
     let v = a .vertices .now in
     let i = a .indices .now in
-    let cut = c .before .before .before .before .before .before .before .before .before .before .before .before .before .before .before .before .subdivide in
-    let drawn = flag (a .settings) (a .patch) (cut .result) (cut .ensures) (c .before .before .before .before .before .before .before .before .before .before .before .before .before .before .before .is-discarded .ensures) (c .before .before .before .before .before .before .before .before .before .before .before .before .before .before .if1 .left) in
-    let many = many-points (a .settings) (a .patch) (cut .result) (cut .ensures) (c .before .before .before .before .before .before .before .before .before .before .before .before .before .point-count .ensures) in
-    let words = many-indices (a .settings) (a .patch) (cut .result) (cut .ensures) (c .before .before .before .before .before .before .before .before .before .before .before .before .index-count .ensures) in
-    all-drawn (a .settings) (a .patch) v i drawn (omega (arith, c .before .before .before .before .before .before .before .before .before .before .before .if2 .left)) (omega (arith, c .before .before .before .before .before .before .before .before .before .before .if3 .left))
-    (c .before .before .before .before .before .before .before .before .before .before .before .before .before .point-count .result) (c .before .before .before .before .before .before .before .before .before .before .before .before .index-count .result) (c .before .before .before .before .before .before .before .write-points .last .0) (c .before .before .write-indices .last .0)
-    many words (omega (arith, c .before .before .before .before .before .before .before .before .before .if4 .left))
+    let cut = c .before .before .before .before .before .before .before .before .before .before .before .before .before .before .before .subdivide in
+    let drawn = flag (a .settings) (a .patch) (cut .result) (cut .ensures) (c .before .before .before .before .before .before .before .before .before .before .before .before .before .before .is-discarded .ensures) (c .before .before .before .before .before .before .before .before .before .before .before .before .before .if1 .left) in
+    let many = many-points (a .settings) (a .patch) (cut .result) (cut .ensures) (c .before .before .before .before .before .before .before .before .before .before .before .before .point-count .ensures) in
+    let words = many-indices (a .settings) (a .patch) (cut .result) (cut .ensures) (c .before .before .before .before .before .before .before .before .before .before .before .index-count .ensures) in
+    all-drawn (a .settings) (a .patch) v i drawn (omega (arith, c .before .before .before .before .before .before .before .before .before .before .if2 .left))
+    (c .before .before .before .before .before .before .before .before .before .before .before .before .point-count .result) (c .before .before .before .before .before .before .before .before .before .before .before .index-count .result) (c .before .before .before .before .before .before .before .write-points .last .0) (c .before .before .write-indices .last .0)
+    many words (omega (arith, c .before .before .before .before .before .before .before .before .before .if3 .left))
     (c .before .before .before .before .before .before .before .write-points .ensures .is ∙ ap (λ (d : Subdivision). over v 0 (vertexWords (points d))) (cut .ensures))
     (c .before .before .write-indices .ensures .is ∙ ap (λ (t : Bool). over i 0 (inMode (a .settings .«point_mode») t (cut .result))) (c .before .before .before .before .turns-positive .ensures)
     ∙ ap (λ (d : Subdivision). over i 0 (indexWords (a .settings) d)) (cut .ensures))
@@ -130,15 +120,14 @@ draw-spec =
     returns
     point-count-requires
     index-count-requires
+    cast-if2
+    mul-if2
     returns-2
     cast-if3
-    mul-if3
     returns-3
-    cast-if4
-    returns-4
     write-points-requires
     turns-positive-requires
     write-indices-requires
     same-length
     same-length-2
-    returns-5)
+    returns-4)
