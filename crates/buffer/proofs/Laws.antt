@@ -1,5 +1,5 @@
 -- Laws of `over xs at ys`, xs with ys in it from `at` on. Assumes nothing.
-use mathlib.Core.Path.{_≡_, refl, sym, ap, _∙_}
+use mathlib.Core.Path.{_≡_, refl, sym, ap, subst, _∙_}
 use mathlib.Core.List.{List, [], _∷_, _++_, append-assoc, append-nil}
 use Prim.Native.Nat.{ℕ, zero, suc, _+_, _-_, _*_, _≤_, _<_, zero-le}
 use native.Mathlib.Nat.{add-assoc, add-comm, add-zero, mul-zero, mul-suc, sub-zero}
@@ -65,6 +65,24 @@ wrote-then {xs} {ys} {xs₁} {zs} {xs₂} {at} h p q = record {
   is = rw (q .is, p .is, p .next) (over-over xs at ys zs h);
   next = omega (arith, length-append ys zs);
 }
+
+-- it ends within the list
+pub wrote-within : {xs ys xs′ : List ℕ} {at r : ℕ} → at ≤ length xs → Wrote xs at ys xs′ r → r ≤ length xs′
+unfolding over
+wrote-within {xs} {ys} {xs′} {at} h w = rw (w .is, length-append, length-append, length-take, length-drop) (omega arith)
+
+-- the front of the list is what stood before the place, and what was written
+pub wrote-front : {xs ys xs′ : List ℕ} {at r : ℕ} → at ≤ length xs → Wrote xs at ys xs′ r → take r xs′ ≡ take at xs ++ ys
+unfolding over
+wrote-front {xs} {ys} {xs′} {at} {r} h w =
+    let P = take at xs in
+    let p : length P ≡ at = length-take at xs ∙ omega arith in
+    let n : r ≡ length P + length ys = omega arith in
+    rw (w .is, n) (take-append-add P (ys ++ drop (at + length ys) xs) (length ys) ∙ ap (λ (l : List ℕ). P ++ l) (take-append-seam ys (drop (at + length ys) xs)))
+
+-- what was written for a value was written for an equal one
+pub wrote-as : {A : Type 0} (f : A → List ℕ) {x y : A} {xs xs′ : List ℕ} {at r : ℕ} → x ≡ y → Wrote xs at (f y) xs′ r → Wrote xs at (f x) xs′ r
+wrote-as {A} f {xs = xs} {xs′ = xs′} {at = at} {r = r} e w = subst (λ (y : A). Wrote xs at (f y) xs′ r) (sym e) w
 
 -- ---- The invariant of a loop that writes ys into xs from `at` on, piece after piece: `rest` is left to write, into out from w on.
 pub record Left (out : List ℕ) (w : ℕ) (rest xs : List ℕ) (at : ℕ) (ys : List ℕ) : Type 0 where

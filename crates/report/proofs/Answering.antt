@@ -10,7 +10,7 @@ use Rattle.job.specs.Records.{recordAt}
 use Rattle.report.specs.Replies.{reply, goesOn}
 use Rattle.report.specs.Jobs.{answersFrom}
 use Rattle.report.proofs.Steps.{goes-on, answers-step}
-use Rattle.report.proofs.Written.{wrote-within, wrote-front}
+use Rattle.buffer.proofs.Laws.{wrote-within, wrote-front}
 
 -- the front of out, w bytes, answers the records from `from` up to `at`
 pub record Answering (bs : List ℕ) (from : ℕ) (out : List ℕ) (w at : ℕ) : Type 0 where

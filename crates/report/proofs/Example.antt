@@ -28,7 +28,7 @@ use Rattle.job.specs.Records.{recordOf, recordAt}
 use Rattle.text.specs.Digits.{digitsIn, digits}
 use Rattle.text.specs.Lines.{line, rows}
 use Rattle.text.specs.Heads.{bytes}
-use Rattle.report.specs.Answers.{drawnText}
+use Rattle.patch_text.specs.Answers.{drawnText}
 use Rattle.report.specs.Jobs.{answers, jobText}
 
 -- triangles, equal spacing, counter-clockwise, lower-left, no dots; the levels 1, 1, 1, 0, 2 and 0

@@ -5,7 +5,7 @@ use Rattle.job.specs.declared.next.NextRecord.{NextRecord}
 use Rattle.job.specs.declared.next.NextRecord.the-variants.{Read, End, CutRecord, UnknownSetting}
 use Rattle.job.specs.Patches.{patchOf}
 use Rattle.text.specs.Heads.{refusedLine}
-use Rattle.report.specs.Answers.{recordText}
+use Rattle.patch_text.specs.Answers.{recordText}
 
 -- its text: no line at the end, and an 8 without its place
 abbrev pub reply : NextRecord → List ℕ

@@ -1,8 +1,5 @@
 // The text that answers a job, and the run that reads a job from standard input and writes that text to standard output.
-mod answer;
 mod header;
-mod mesh_text;
 mod records;
 mod reply;
 pub mod run;
-mod width;

@@ -2,7 +2,7 @@
 ghost use Prim.Native.Nat.{_≤_};
 ghost use lib.ListN.{length};
 ghost use Rattle.report.specs.Reported.{Reported};
-ghost use Rattle.report.specs.Room.{room, FullSize};
+ghost use Rattle.patch_text.specs.Room.{room, FullSize};
 use crate::reply::next_place;
 use crate::reply::put_reply;
 use job::cursor::Cursor;

@@ -4,12 +4,12 @@ ghost use Prim.Native.Nat.{_+_, _≤_};
 ghost use lib.ListN.{length};
 ghost use Rattle.buffer.specs.Over.{Wrote};
 ghost use Rattle.job.specs.Patches.{patchOf};
-ghost use Rattle.report.specs.Answers.{recordText};
+ghost use Rattle.patch_text.specs.Answers.{recordText};
 ghost use Rattle.report.specs.Replies.{reply, goesOn};
-ghost use Rattle.report.specs.Room.{room, FullSize};
-use crate::answer::put_patch;
+ghost use Rattle.patch_text.specs.Room.{room, FullSize};
 use job::next::NextRecord;
 use job::record::Record;
+use patch_text::answer::put_patch;
 
 // A record that was read, drawn into full-size lists.
 fn put_record(

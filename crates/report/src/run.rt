@@ -3,7 +3,7 @@
 ghost use mathlib.Core.Path.{_≡_};
 ghost use Prim.Native.Nat.{_≤_};
 ghost use lib.ListN.{length};
-ghost use Rattle.report.specs.Room.{room, FullSize};
+ghost use Rattle.patch_text.specs.Room.{room, FullSize};
 use crate::header::is_read;
 use crate::header::put_header;
 use crate::records::put_records;

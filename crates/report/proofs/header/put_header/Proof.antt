@@ -1,7 +1,7 @@
 -- Meets its contract. Assumes nothing.
 use borrow.Author.Needs.{needs}
 use Rattle.report.specs.Jobs.{startText}
-use Rattle.report.proofs.Written.{wrote-as}
+use Rattle.buffer.proofs.Laws.{wrote-as}
 use Rattle.report.proofs.header.put_header.Statement.{statement}
 use Rattle.report.proofs.header.put_header.Tie as tie
 

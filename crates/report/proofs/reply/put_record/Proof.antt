@@ -4,8 +4,8 @@ use Prim.Native.Nat.{ℕ}
 use mathlib.Core.Path.{sym}
 use mathlib.Core.List.{List}
 use Rattle.job.specs.Patches.{patchOf}
-use Rattle.report.proofs.Written.{wrote-as}
-use Rattle.report.proofs.Drawn.{full-size}
+use Rattle.buffer.proofs.Laws.{wrote-as}
+use Rattle.patch_text.proofs.Drawn.{full-size}
 use Rattle.report.proofs.reply.put_record.Statement.{statement}
 use Rattle.report.proofs.reply.put_record.Tie as tie
 

@@ -2,7 +2,7 @@
 use borrow.Author.Needs.{needs}
 use Rattle.buffer.proofs.Laws.{wrote-none}
 use Rattle.report.specs.Replies.{reply}
-use Rattle.report.proofs.Written.{wrote-as}
+use Rattle.buffer.proofs.Laws.{wrote-as}
 use Rattle.report.proofs.reply.put_reply.Statement.{statement}
 use Rattle.report.proofs.reply.put_reply.Tie as tie
 

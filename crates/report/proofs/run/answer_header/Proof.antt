@@ -2,7 +2,7 @@
 use borrow.Author.Needs.{needs}
 use Prim.Native.Nat.{zero-le}
 use Rattle.io.proofs.Counting.{front}
-use Rattle.report.proofs.Written.{wrote-within}
+use Rattle.buffer.proofs.Laws.{wrote-within}
 use Rattle.report.proofs.run.answer_header.Statement.{statement}
 use Rattle.report.proofs.run.answer_header.Tie as tie
 

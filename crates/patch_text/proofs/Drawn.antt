@@ -20,11 +20,11 @@ use Rattle.tessellate.specs.declared.answer.Answer.the-variants.{Drawn, Discard
 use Rattle.tessellate.specs.Answers.{Told, told, refused, drawn, pointsOf, indicesOf, verdict}
 use Rattle.tessellate.specs.Draws.{Drew}
 use Rattle.text.specs.Heads.{discardedLine}
-use Rattle.report.specs.Widths.{widthOf}
-use Rattle.report.specs.Room.{FullSize}
-use Rattle.report.specs.Answers.{answerText, Prints, drawnText, textBy, patchText, recordText}
-use Rattle.report.proofs.Rows.{rows-front}
-use Rattle.report.proofs.Sizes.{width-range, points-fit, indices-fit, text-fits}
+use Rattle.patch_text.specs.Widths.{widthOf}
+use Rattle.patch_text.specs.Room.{FullSize}
+use Rattle.patch_text.specs.Answers.{answerText, Prints, drawnText, textBy, patchText, recordText}
+use Rattle.patch_text.proofs.Rows.{rows-front}
+use Rattle.patch_text.proofs.Sizes.{width-range, points-fit, indices-fit, text-fits}
 
 module _ (set : Settings) (p : Patch) where
   -- the counts that a drawn patch is answered with, and the room that they found

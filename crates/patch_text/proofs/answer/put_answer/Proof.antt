@@ -3,10 +3,10 @@ use borrow.Author.Needs.{needs}
 use native.Mathlib.Omega.{arith}
 use mathlib.Core.Path.{subst}
 use lib.ListN.{length}
-use Rattle.report.specs.Answers.{Prints, answerText}
-use Rattle.report.proofs.Written.{wrote-as}
-use Rattle.report.proofs.answer.put_answer.Statement.{statement}
-use Rattle.report.proofs.answer.put_answer.Tie as tie
+use Rattle.patch_text.specs.Answers.{Prints, answerText}
+use Rattle.buffer.proofs.Laws.{wrote-as}
+use Rattle.patch_text.proofs.answer.put_answer.Statement.{statement}
+use Rattle.patch_text.proofs.answer.put_answer.Tie as tie
 
 enum-known-answer : tie.Need-enum-known-answer
 enum-known-answer c = search needs

@@ -4,10 +4,10 @@ use native.Mathlib.Omega.{arith}
 use Prim.Native.Nat.{ℕ}
 use mathlib.Core.Path.{sym}
 use mathlib.Core.List.{List}
-use Rattle.report.proofs.Written.{wrote-as}
-use Rattle.report.proofs.Drawn.{drew-text, drew-prints}
-use Rattle.report.proofs.answer.put_patch.Statement.{statement}
-use Rattle.report.proofs.answer.put_patch.Tie as tie
+use Rattle.buffer.proofs.Laws.{wrote-as}
+use Rattle.patch_text.proofs.Drawn.{drew-text, drew-prints}
+use Rattle.patch_text.proofs.answer.put_patch.Statement.{statement}
+use Rattle.patch_text.proofs.answer.put_patch.Tie as tie
 
 width-of-requires : tie.Need-width-of-requires
 width-of-requires c κs = search needs

@@ -13,8 +13,8 @@ use Rattle.tessellate.specs.declared.answer.Answer.the-variants.{Drawn, Discard
 use Rattle.tessellate.specs.Answers.{told, pointsOf, indicesOf, verdict}
 use Rattle.text.specs.Heads.{drawnLine, discardedLine, refusedLine}
 use Rattle.text.specs.Lines.{rows}
-use Rattle.report.specs.Widths.{widthOf}
-use Rattle.report.specs.Room.{room}
+use Rattle.patch_text.specs.Widths.{widthOf}
+use Rattle.patch_text.specs.Room.{room}
 
 -- ---- of lists
 

@@ -2,8 +2,8 @@
 ghost use Prim.Native.Nat.{_+_, _≤_};
 ghost use lib.ListN.{length};
 ghost use Rattle.buffer.specs.Over.{Wrote};
-ghost use Rattle.report.specs.Answers.{Prints, answerText, patchText};
-ghost use Rattle.report.specs.Room.{room};
+ghost use Rattle.patch_text.specs.Answers.{Prints, answerText, patchText};
+ghost use Rattle.patch_text.specs.Room.{room};
 use crate::mesh_text::put_mesh;
 use crate::width::width_of;
 use patch::kinds::Patch;

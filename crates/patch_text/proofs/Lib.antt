@@ -1,0 +1,4 @@
+-- The laws of `patch_text`, lowest first.
+pub mod Rows
+pub mod Sizes
+pub mod Drawn
