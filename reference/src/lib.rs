@@ -2,7 +2,8 @@
 //!
 //! It exists to be compared with another program, so it favours being easy to
 //! read over being fast. "The paper" in the comments is the project's scope
-//! document; each function says which of its sections it follows.
+//! document; each function says which of its sections it follows. "Ask N" is a
+//! request from the document that came after it.
 
 pub mod check;
 pub mod draw;

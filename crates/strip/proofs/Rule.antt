@@ -1,5 +1,5 @@
--- The laws of the strip's rule, which are all that anything above knows of it: what moves at a line's end, from which a walk
--- by it stops at neither line's end before both are reached, and what moves where the outer line has two segments more.
+-- The laws of the strip's rule, which with those of its order are all that anything above knows of it: what moves at a line's end,
+-- from which a walk by it stops at neither line's end before both are reached, and what moves where the outer line has two segments more.
 -- Assumes nothing.
 use Prim.Native.Nat.{ℕ, suc, _+_, _*_, _≤_, _<_}
 use mathlib.Core.Path.{_≡_}
@@ -7,38 +7,38 @@ use mathlib.Core.Bool.{Bool, true, false}
 use native.Mathlib.Omega.{arith}
 use native.Mathlib.Decide.{decLe}
 use native.Mathlib.Nat.{mul-le-mul, mul-le-mul-right}
-use borrow.Author.Tests.{le-leb, lt-leb}
 use Rattle.strip.specs.Rule.{outerNext, stepOuter, stepInner}
+use Rattle.strip.proofs.Ties.{ties}
 
 -- at the end of the outer line the inner moves
 pub outer-ended : (p r b : ℕ) → b < r → outerNext p r p b ≡ false
 unfolding outerNext
-outer-ended p r b h = lt-leb ((2 * p + 1) * r) ((2 * b + 1) * p) (omega (arith, mul-le-mul-right p h))
+outer-ended p r b h = omega (arith, ties, mul-le-mul-right p h)
 
 -- at the end of the inner line the outer moves
 pub inner-ended : (p r a : ℕ) → a < p → outerNext p r a r ≡ true
 unfolding outerNext
-inner-ended p r a h = le-leb ((2 * a + 1) * r) ((2 * r + 1) * p) (omega (arith, mul-le-mul-right r h))
+inner-ended p r a h = omega (arith, ties, mul-le-mul-right r h)
 
 -- ---- two segments more on the outer line
 -- side by side the outer line moves
 pub level-outer : (r b : ℕ) → outerNext (r + 2) r b b ≡ true
 unfolding outerNext
-level-outer r b = le-leb ((2 * b + 1) * r) ((2 * b + 1) * (r + 2)) (omega arith)
+level-outer r b = omega (arith, ties)
 
 -- one point ahead of the inner line, the outer line waits before the middle and moves from there on
 pub ahead-inner : (r b : ℕ) → 2 * b + 1 < r → outerNext (r + 2) r (suc b) b ≡ false
 unfolding outerNext
-ahead-inner r b h = lt-leb ((2 * suc b + 1) * r) ((2 * b + 1) * (r + 2)) (omega arith)
+ahead-inner r b h = omega (arith, ties)
 
 pub ahead-outer : (r b : ℕ) → r ≤ 2 * b + 1 → outerNext (r + 2) r (suc b) b ≡ true
 unfolding outerNext
-ahead-outer r b h = le-leb ((2 * suc b + 1) * r) ((2 * b + 1) * (r + 2)) (omega arith)
+ahead-outer r b h = omega (arith, ties)
 
 -- two points ahead it waits
 pub two-ahead-inner : (r b : ℕ) → b < r → outerNext (r + 2) r (suc (suc b)) b ≡ false
 unfolding outerNext
-two-ahead-inner r b h = lt-leb ((2 * suc (suc b) + 1) * r) ((2 * b + 1) * (r + 2)) (omega arith)
+two-ahead-inner r b h = omega (arith, ties)
 
 -- one step on in all
 pub step-sum : (t : Bool) (a b : ℕ) → stepOuter t a + stepInner t b ≡ suc (a + b)

@@ -4,3 +4,4 @@ pub mod Rule
 pub mod Strips
 pub mod Walks
 pub mod Pairs
+pub mod Mirror

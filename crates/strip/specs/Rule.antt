@@ -1,14 +1,23 @@
--- Which line of a strip moves next: document 01's rule, here and nowhere else.
+-- Which line of a strip moves next: document 01's rule as request 4 changed it at ties, here and nowhere else.
 -- Assumes nothing.
 use Prim.Native.Nat.{ℕ, suc, _+_, _*_, _≤_}
 use mathlib.Core.Bool.{Bool, true, false}
-use lib.Dec.{leb}
+use lib.Dec.{leb, ltb}
 use Rattle.strip.specs.declared.state.Strip.{Strip}
 use Rattle.strip.specs.declared.state.Step.{Step}
 
+-- at a tie the outer line moves up to its middle, and the inner line past it
+abbrev pub outerAtTie : ℕ → ℕ → Bool
+outerAtTie p a = leb (2 * a + 1) p
+
+-- does x come before y, where at a tie the first argument answers?
+abbrev pub comesFirst : Bool → ℕ → ℕ → Bool
+comesFirst true x y = leb x y
+comesFirst false x y = ltb x y
+
 -- at point a of an outer line of p segments and point b of an inner line of r, does the outer line move?
 unfoldable pub outerNext : ℕ → ℕ → ℕ → ℕ → Bool
-outerNext p r a b = leb ((2 * a + 1) * r) ((2 * b + 1) * p)
+outerNext p r a b = comesFirst (outerAtTie p a) ((2 * a + 1) * r) ((2 * b + 1) * p)
 
 -- one segment on along the outer line, or along the inner
 abbrev pub stepOuter : Bool → ℕ → ℕ

@@ -23,7 +23,14 @@ impl Strip {
     {
         let a = self.a;
         let b = self.b;
-        if (2 * a + 1) * self.r <= (2 * b + 1) * self.p {
+        let p = self.p;
+        // Twice the middle of the outer line's next segment; past the line's own middle a tie is the inner line's.
+        let m = 2 * a + 1;
+        let mut x = m * self.r;
+        if p < m {
+            x += 1;
+        }
+        if x <= (2 * b + 1) * p {
             self.a = a + 1;
             return Step {
                 outer: true,

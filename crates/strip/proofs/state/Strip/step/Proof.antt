@@ -2,30 +2,36 @@
 use borrow.Author.Needs.{needs}
 use native.Mathlib.Omega.{arith}
 use native.Mathlib.Numerals.{add-one}
-use borrow.Author.Tests.{le-leb, lt-leb}
 use Prim.Native.Nat.{_+_, _*_}
+use mathlib.Core.Path.{_≡_}
+use mathlib.Core.Bool.{true, false}
+use mathlib.Core.Logic.{⊎-elim}
 use Rattle.strip.specs.Rule.{outerNext, stepOf}
+use Rattle.strip.proofs.Ties.{ties}
 use Rattle.strip.proofs.Rule.{product}
 use Rattle.strip.proofs.state.Strip.step.Statement.{statement}
 use Rattle.strip.proofs.state.Strip.step.Tie as tie
 
-mul-if1 : tie.Need-mul-if1
-mul-if1 c = search needs
+mul-m : tie.Need-mul-m
+mul-m c = search needs
 
-add-if1 : tie.Need-add-if1
-add-if1 c = search needs
+add-m : tie.Need-add-m
+add-m c = search needs
 
-mul-if1-2 : tie.Need-mul-if1-2
-mul-if1-2 c = let s = c .before .args .self in omega (arith, product (2 * s .a + 1) (s .r) (omega arith) (omega arith))
+mul-x : tie.Need-mul-x
+mul-x c = let s = c .before .args .self in omega (arith, product (2 * s .a + 1) (s .r) (omega arith) (omega arith))
 
-mul-if1-3 : tie.Need-mul-if1-3
-mul-if1-3 c = search needs
+add-x : tie.Need-add-x
+add-x c = let s = c .before .before .args .self in omega (arith, product (2 * s .a + 1) (s .r) (omega arith) (omega arith))
 
-add-if1-2 : tie.Need-add-if1-2
-add-if1-2 c = search needs
+mul-if2 : tie.Need-mul-if2
+mul-if2 c = search needs
 
-mul-if1-4 : tie.Need-mul-if1-4
-mul-if1-4 c = let s = c .before .before .args .self in omega (arith, product (2 * s .b + 1) (s .p) (omega arith) (omega arith))
+add-if2 : tie.Need-add-if2
+add-if2 c = search needs
+
+mul-if2-2 : tie.Need-mul-if2-2
+mul-if2-2 c = let s = c .before .before .args .self in omega (arith, product (2 * s .b + 1) (s .p) (omega arith) (omega arith))
 
 add-self : tie.Need-add-self
 add-self c = search needs
@@ -34,7 +40,8 @@ returns : tie.Need-returns
 unfolding stepOf outerNext
 returns c =
     let s = c .before .before .before .args .self in
-    rw (le-leb ((2 * s .a + 1) * s .r) ((2 * s .b + 1) * s .p) (omega arith), add-one)
+    let e : outerNext (s .p) (s .r) (s .a) (s .b) ≡ true = ⊎-elim (λ w. omega (arith, ties)) (λ w. omega (arith, ties)) (c .before .if1 .came) in
+    rw (e, add-one)
 
 add-self-2 : tie.Need-add-self-2
 add-self-2 c = search needs
@@ -43,18 +50,20 @@ returns-2 : tie.Need-returns-2
 unfolding stepOf outerNext
 returns-2 c =
     let s = c .before .before .before .args .self in
-    rw (lt-leb ((2 * s .a + 1) * s .r) ((2 * s .b + 1) * s .p) (omega arith), add-one)
+    let e : outerNext (s .p) (s .r) (s .a) (s .b) ≡ false = ⊎-elim (λ w. omega (arith, ties)) (λ w. omega (arith, ties)) (c .before .if1 .came) in
+    rw (e, add-one)
 
 pub step-spec : {M : Type 1} → statement M
 step-spec =
     tie.close
     (tie.spec
-    mul-if1
-    add-if1
-    mul-if1-2
-    mul-if1-3
-    add-if1-2
-    mul-if1-4
+    mul-m
+    add-m
+    mul-x
+    add-x
+    mul-if2
+    add-if2
+    mul-if2-2
     add-self
     returns
     add-self-2

@@ -1,0 +1,30 @@
+-- A strip walked from the other end of its two lines, and when two triangles are the same.
+-- Assumes nothing.
+use Prim.Native.Nat.{ℕ, suc, _-_, _%_}
+use mathlib.Core.Path.{_≡_}
+use mathlib.Core.List.{List, Perm}
+use lib.ListN.{getD}
+use Rattle.strip.specs.declared.triangle.Triangle.{Triangle}
+use Rattle.strip.specs.Triangles.{corners}
+use Rattle.strip.specs.Strips.{strip}
+
+-- the points of a line of n segments, from its other end
+abbrev pub fromEnd : ℕ → (ℕ → ℕ) → ℕ → ℕ
+fromEnd n F i = F (n - i)
+
+-- the strip between the same two lines, walked from their other end
+abbrev pub mirror : (ℕ → ℕ) → (ℕ → ℕ) → ℕ → ℕ → List Triangle
+mirror A B p r = strip (fromEnd p A) (fromEnd r B) p r
+
+-- the same three corners, in any order
+abbrev pub SameCorners : Triangle → Triangle → Type 0
+SameCorners s t = Perm (corners s) (corners t)
+
+-- two lines of an odd number of segments, whose middle segments face one another
+abbrev pub BothOdd : ℕ → ℕ → Type 0
+BothOdd p r = (p % 2 ≡ 1) × (r % 2 ≡ 1)
+
+-- triangles k and k + 1 of a list cut the four corners of the segments from x to u and from y to v along the diagonal from u to y
+pub record Cut (ts : List Triangle) (k x u y v : ℕ) : Type 0 where
+  pub first : (d : Triangle) → getD ts k d ≡ record { a = x; b = u; c = y }
+  pub second : (d : Triangle) → getD ts (suc k) d ≡ record { a = u; b = v; c = y }
