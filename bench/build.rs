@@ -1,9 +1,15 @@
 //! Links the proved static library, which `rt staticlib exports` writes.
 
 fn main() {
-    let root = std::path::Path::new(env!("CARGO_MANIFEST_DIR")).join("..");
+    let root = std::path::PathBuf::from(
+        std::env::var("CARGO_MANIFEST_DIR").expect("cargo names the crate's folder"),
+    )
+    .join("..");
     let library = root.join("target/staticlib");
     println!("cargo:rustc-link-search=native={}", library.display());
     println!("cargo:rustc-link-lib=static=exports");
-    println!("cargo:rerun-if-changed={}", library.join("libexports.a").display());
+    println!(
+        "cargo:rerun-if-changed={}",
+        library.join("libexports.a").display()
+    );
 }

@@ -89,6 +89,21 @@ typedef struct yoktvarim_levels {
     float inner[2];
 } yoktvarim_levels;
 
+/* Values of yoktvarim_clamps: where a level lies against the range it is clamped to, whose ends are inside. The range is 1 to 64
+ * for equal spacing, 2 to 64 for fractional even, 1 to 63 for fractional odd; that of the number of isolines is always 1 to 64. */
+enum yoktvarim_clamp {
+    YOKTVARIM_NOT_TOLD = 0, /* the level does not count for the kind, or the patch was not measured */
+    YOKTVARIM_BELOW = 1,    /* the low end was taken instead, for an inner NaN too */
+    YOKTVARIM_INSIDE = 2,
+    YOKTVARIM_ABOVE = 3     /* the high end was taken instead */
+};
+
+/* Six bytes, one for each of yoktvarim_levels. */
+typedef struct yoktvarim_clamps {
+    uint8_t outer[4];
+    uint8_t inner[2];
+} yoktvarim_clamps;
+
 /* Lists of these sizes have room for every patch: 4,225 points of 3 words each, and 8,192 triangles. */
 enum {
     YOKTVARIM_VERTEX_WORDS = 12675,
@@ -102,16 +117,17 @@ enum {
 };
 
 /* Both calls take memory of the caller's: no pointer is NULL, not even that of a list of 0 words, each is aligned for its type,
- * and what is written (the two lists and counts) overlaps nothing else that is passed. Nothing else is asked, whatever the
- * numbers are, and nothing is kept once the call is over.
+ * and what is written (the two lists, counts and clamps) overlaps nothing else that is passed. Nothing else is asked, whatever
+ * the numbers are, and nothing is kept once the call is over.
  *
  * counts[0] and counts[1] are always written. Beside DRAWN and MEASURED they are the two counts, beside UNKNOWN_SETTING the setting's place
  * and 0, and beside every other answer 0 and 0. */
 
 /* How many points and indices drawing would write, without lists: MEASURED, DISCARDED or UNKNOWN_SETTING.
- * Drawing then needs 3 * counts[0] words for vertices and counts[1] for indices. */
+ * Drawing then needs 3 * counts[0] words for vertices and counts[1] for indices.
+ * All of clamps is always written: beside MEASURED, BELOW, INSIDE or ABOVE for each level that counts, and NOT_TOLD elsewhere. */
 YOKTVARIM_MUST_USE yoktvarim_answer yoktvarim_measure(const yoktvarim_settings *settings, const yoktvarim_levels *levels,
-                                                      uint32_t *counts);
+                                                      uint32_t *counts, yoktvarim_clamps *clamps);
 
 /* Writes the patch: points as three words u, v, w to the front of vertices, which has vertex_words words, and indices that
  * number those points from 0 to the front of indices, which has index_words words. Words past the counts stay as they were.
@@ -130,6 +146,7 @@ YOKTVARIM_MUST_USE static inline unsigned yoktvarim_is_drawn(yoktvarim_answer an
 YOKTVARIM_ASSERT(sizeof(yoktvarim_answer) == 4, "an answer is 32 bits: compile without -fshort-enums");
 YOKTVARIM_ASSERT(sizeof(yoktvarim_settings) == 5, "five setting bytes");
 YOKTVARIM_ASSERT(sizeof(yoktvarim_levels) == 24, "six 32-bit floats");
+YOKTVARIM_ASSERT(sizeof(yoktvarim_clamps) == 6, "a byte for each level");
 YOKTVARIM_ASSERT(sizeof(size_t) == 8, "64-bit lengths");
 #undef YOKTVARIM_ASSERT
 

@@ -7,7 +7,10 @@ use std::process::exit;
 fn main() {
     let folder = match env::var_os("YOKTVARIM_LIB_DIR") {
         Some(folder) => PathBuf::from(folder),
-        None => PathBuf::from(env!("CARGO_MANIFEST_DIR")).join("../target/staticlib"),
+        None => {
+            PathBuf::from(env::var("CARGO_MANIFEST_DIR").expect("cargo names the crate's folder"))
+                .join("../target/staticlib")
+        }
     };
     let library = folder.join("libexports.a");
     println!("cargo:rerun-if-env-changed=YOKTVARIM_LIB_DIR");

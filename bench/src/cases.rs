@@ -18,14 +18,41 @@ const ISOLINES: u8 = 2;
 const EQUAL: u8 = 0;
 const ODD: u8 = 2;
 
-const fn case(name: &'static str, kind: u8, spacing: u8, levels: [f32; 6], mesa: Option<u64>, part: u64) -> Case {
-    Case { name, settings: [kind, spacing, 1, 1, 0], levels, mesa, part }
+const fn case(
+    name: &'static str,
+    kind: u8,
+    spacing: u8,
+    levels: [f32; 6],
+    mesa: Option<u64>,
+    part: u64,
+) -> Case {
+    Case {
+        name,
+        settings: [kind, spacing, 1, 1, 0],
+        levels,
+        mesa,
+        part,
+    }
 }
 
 pub const CASES: [Case; 8] = [
     case("quads 64", QUADS, EQUAL, [64.0; 6], Some(540_890), 5),
-    case("triangles 64", TRIANGLES, EQUAL, [64.0; 6], Some(419_558), 4),
-    case("quads odd, mixed", QUADS, ODD, [12.3, 37.7, 5.1, 55.5, 41.2, 23.9], Some(151_589), 4),
+    case(
+        "triangles 64",
+        TRIANGLES,
+        EQUAL,
+        [64.0; 6],
+        Some(419_558),
+        4,
+    ),
+    case(
+        "quads odd, mixed",
+        QUADS,
+        ODD,
+        [12.3, 37.7, 5.1, 55.5, 41.2, 23.9],
+        Some(151_589),
+        4,
+    ),
     case("quads 4", QUADS, EQUAL, [4.0; 6], Some(4_962), 3),
     case("triangles 4", TRIANGLES, EQUAL, [4.0; 6], Some(3_640), 3),
     case("triangles odd 4.3", TRIANGLES, ODD, [4.3; 6], None, 3),

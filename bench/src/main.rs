@@ -13,9 +13,17 @@ use std::time::Instant;
 fn patch_of(case: &Case) -> Patch {
     let l = case.levels;
     match case.settings[0] {
-        0 => Patch::Triangles { outer: [l[0], l[1], l[2]], inner: l[4] },
-        1 => Patch::Quads { outer: [l[0], l[1], l[2], l[3]], inner: [l[4], l[5]] },
-        _ => Patch::Isolines { outer: [l[0], l[1]] },
+        0 => Patch::Triangles {
+            outer: [l[0], l[1], l[2]],
+            inner: l[4],
+        },
+        1 => Patch::Quads {
+            outer: [l[0], l[1], l[2], l[3]],
+            inner: [l[4], l[5]],
+        },
+        _ => Patch::Isolines {
+            outer: [l[0], l[1]],
+        },
     }
 }
 
@@ -48,11 +56,16 @@ fn nanoseconds(mut call: impl FnMut()) -> f64 {
         (0..times).for_each(|_| call());
         start.elapsed().as_nanos() as f64 / f64::from(times)
     };
-    (0..7).map(|_| round(&mut call)).fold(f64::INFINITY, f64::min)
+    (0..7)
+        .map(|_| round(&mut call))
+        .fold(f64::INFINITY, f64::min)
 }
 
 fn ratios() {
-    println!("{:<20} {:>10} {:>12} {:>12}", "case", "ns a draw", "reference /", "/ copy");
+    println!(
+        "{:<20} {:>10} {:>12} {:>12}",
+        "case", "ns a draw", "reference /", "/ copy"
+    );
     for case in &CASES {
         let mut lists = Lists::new();
         let (points, indices) = proved::draw(case, &mut lists);
@@ -70,7 +83,13 @@ fn ratios() {
             black_box(&mut copy.vertices);
             black_box(&mut copy.indices);
         });
-        println!("{:<20} {:>10.0} {:>12.1} {:>12.1}", case.name, ours, theirs / ours, ours / copied);
+        println!(
+            "{:<20} {:>10.0} {:>12.1} {:>12.1}",
+            case.name,
+            ours,
+            theirs / ours,
+            ours / copied
+        );
     }
 }
 
@@ -85,7 +104,9 @@ fn draw(case: usize, times: usize) {
 /// The cases' names with the instructions that are the goal, for the script that counts.
 fn list() {
     for (number, case) in CASES.iter().enumerate() {
-        let goal = case.mesa.map_or("-".to_string(), |mesa| (mesa / case.part).to_string());
+        let goal = case
+            .mesa
+            .map_or("-".to_string(), |mesa| (mesa / case.part).to_string());
         let mesa = case.mesa.map_or("-".to_string(), |mesa| mesa.to_string());
         println!("{number};{};{mesa};{goal}", case.name);
     }
@@ -96,7 +117,10 @@ fn main() {
     match words.iter().map(String::as_str).collect::<Vec<_>>()[..] {
         [] => ratios(),
         ["list"] => list(),
-        ["draw", case, times] => draw(case.parse().expect("a case"), times.parse().expect("a number")),
+        ["draw", case, times] => draw(
+            case.parse().expect("a case"),
+            times.parse().expect("a number"),
+        ),
         _ => panic!("usage: bench | bench list | bench draw CASE TIMES"),
     }
 }

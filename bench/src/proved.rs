@@ -22,7 +22,10 @@ pub struct Lists {
 
 impl Lists {
     pub fn new() -> Self {
-        Lists { vertices: vec![0; 12_675], indices: vec![0; 24_576] }
+        Lists {
+            vertices: vec![0; 12_675],
+            indices: vec![0; 24_576],
+        }
     }
 }
 

@@ -1,4 +1,4 @@
-/* Draws one triangle patch and prints it, then meets each answer that is no drawing. */
+/* Draws one triangle patch and prints it, measures it and one with clamped levels, then meets each answer that is no drawing. */
 #include <inttypes.h>
 #include <stdio.h>
 
@@ -34,6 +34,33 @@ static void show(const yoktvarim_settings *settings, const yoktvarim_levels *lev
     }
 }
 
+/* The word for a byte of yoktvarim_clamps. */
+static const char *word(uint8_t clamp)
+{
+    switch (clamp) {
+    case YOKTVARIM_BELOW:
+        return "below";
+    case YOKTVARIM_INSIDE:
+        return "inside";
+    case YOKTVARIM_ABOVE:
+        return "above";
+    default:
+        return "-"; /* YOKTVARIM_NOT_TOLD: a triangle patch has no such level */
+    }
+}
+
+/* Measures into counts, and prints them with a word for each level; 0 where the patch was not measured. */
+static int show_size(const yoktvarim_settings *settings, const yoktvarim_levels *levels, uint32_t *counts)
+{
+    yoktvarim_clamps clamps;
+    if (yoktvarim_measure(settings, levels, counts, &clamps) != YOKTVARIM_MEASURED)
+        return 0;
+    printf("measured %" PRIu32 " %" PRIu32 "\n", counts[0], counts[1]);
+    printf("outer %s %s %s %s\n", word(clamps.outer[0]), word(clamps.outer[1]), word(clamps.outer[2]), word(clamps.outer[3]));
+    printf("inner %s %s\n", word(clamps.inner[0]), word(clamps.inner[1]));
+    return 1;
+}
+
 int main(void)
 {
     yoktvarim_settings settings = {
@@ -50,11 +77,15 @@ int main(void)
 
     /* Measuring says how much room one patch needs; a word less is refused. */
     uint32_t counts[2];
-    if (yoktvarim_measure(&settings, &levels, counts) != YOKTVARIM_MEASURED)
+    if (!show_size(&settings, &levels, counts))
         return 1;
-    printf("measured %" PRIu32 " %" PRIu32 "\n", counts[0], counts[1]);
     show(&settings, &levels, 3 * counts[0] - 1, counts[1]);
     show(&settings, &levels, 3 * counts[0], counts[1] - 1);
+
+    /* It also says which levels lie outside 1 to 64, the range of equal spacing: 0.5 counts as 1, and 100 as 64. */
+    yoktvarim_levels clamped = { .outer = { 0.5f, 64, 100 }, .inner = { 2 } };
+    if (!show_size(&settings, &clamped, counts))
+        return 1;
 
     levels.outer[1] = 0;
     show(&settings, &levels, YOKTVARIM_VERTEX_WORDS, YOKTVARIM_INDEX_WORDS);

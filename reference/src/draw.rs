@@ -1,5 +1,6 @@
 //! The operations on one patch: tessellating, measuring, drawing into lists.
 
+use crate::clamps::Clamps;
 use crate::mesh::{Mesh, Primitives};
 use crate::patch::{Patch, Settings};
 use crate::{isolines, quads, triangles};
@@ -14,11 +15,15 @@ pub enum Answer {
     },
 }
 
-/// What measuring answers.
+/// What measuring answers; a discarded patch has nothing to say of its levels.
 #[derive(Clone, Copy, Debug, PartialEq, Eq)]
 pub enum Measure {
     Discarded,
-    Counts { points: usize, indices: usize },
+    Counts {
+        points: usize,
+        indices: usize,
+        levels: Clamps,
+    },
 }
 
 /// What drawing into two lists answers.
@@ -89,13 +94,15 @@ pub fn tessellate(patch: &Patch, settings: &Settings) -> Answer {
 }
 
 /// Section "What the cutter says", on measuring: the counts a drawing would
-/// have, whether or not it could be done.
+/// have, whether or not it could be done, and what the clamp found for each
+/// level (Ask 9).
 pub fn measure(patch: &Patch, settings: &Settings) -> Measure {
     match tessellate(patch, settings) {
         Answer::Discarded => Measure::Discarded,
         Answer::Drawn { points, indices } => Measure::Counts {
             points: points.len(),
             indices: indices.len(),
+            levels: Clamps::of(patch, settings.spacing),
         },
     }
 }

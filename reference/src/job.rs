@@ -135,3 +135,28 @@ pub fn read_record(rest: &mut &[u8]) -> Result<Option<(Patch, Settings)>, Refusa
     *rest = after;
     Record::from_bytes(bytes).decode().map(Some)
 }
+
+/// Section "Job file": what there is to answer after a header, one record after
+/// another. A cut record is the last.
+pub struct Records<'a> {
+    rest: &'a [u8],
+}
+
+impl Iterator for Records<'_> {
+    type Item = Result<(Patch, Settings), Refusal>;
+
+    fn next(&mut self) -> Option<Self::Item> {
+        let record = read_record(&mut self.rest).transpose();
+        if record == Some(Err(Refusal::TruncatedRecord)) {
+            self.rest = &[];
+        }
+        record
+    }
+}
+
+/// Section "Job file": the records of a whole file, or why it is refused.
+pub fn read_job(bytes: &[u8]) -> Result<Records<'_>, Refusal> {
+    Ok(Records {
+        rest: read_header(bytes)?,
+    })
+}

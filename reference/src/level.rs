@@ -9,6 +9,22 @@ pub struct Division {
     pub l: u32,
 }
 
+/// Ask 9: where a level lies against the range it is clamped to. Either end
+/// belongs to the range.
+#[derive(Clone, Copy, Debug, PartialEq, Eq)]
+pub enum Clamp {
+    Below,
+    Inside,
+    Above,
+}
+
+/// What a level comes to: how it divides an edge, and what its clamp found.
+#[derive(Clone, Copy, Debug, PartialEq, Eq)]
+pub struct Segments {
+    pub division: Division,
+    pub clamp: Clamp,
+}
+
 /// Section "From a level to a number of segments": the clamp of each spacing.
 fn clamp_range(spacing: Spacing) -> (u32, u32) {
     match spacing {
@@ -18,10 +34,10 @@ fn clamp_range(spacing: Spacing) -> (u32, u32) {
     }
 }
 
-/// Same section: the level after the clamp, counted in steps of 2^-23. The
-/// count is read off the sign, exponent and fraction bits of the f32. A NaN
-/// counts as the bottom of the range.
-fn clamped_parts(level: f32, spacing: Spacing) -> u32 {
+/// Same section, and Ask 9: the level after the clamp, counted in steps of
+/// 2^-23, and what the clamp found. The count is read off the sign, exponent and
+/// fraction bits of the f32. A NaN counts as lying below the range.
+fn clamped_parts(level: f32, spacing: Spacing) -> (u32, Clamp) {
     let (low, high) = clamp_range(spacing);
     let (low, high) = (low << 23, high << 23);
     let bits = level.to_bits();
@@ -30,19 +46,19 @@ fn clamped_parts(level: f32, spacing: Spacing) -> u32 {
     let fraction = bits & 0x7f_ffff;
     let nan = exponent == 255 && fraction != 0;
     if nan || negative || exponent < 127 {
-        return low; // NaN, below zero, or below 1
+        return (low, Clamp::Below); // NaN, below zero, or below 1
     }
     if exponent > 127 + 6 {
-        return high; // 128 or more, infinity included
+        return (high, Clamp::Above); // 128 or more, infinity included
     }
     let parts = ((1 << 23) | fraction) << (exponent - 127);
-    parts.clamp(low, high)
-}
-
-/// Same section: from steps of 2^-23 to L, in steps of 2^-16; a started step
-/// counts as a whole one.
-fn level_units(level: f32, spacing: Spacing) -> u32 {
-    clamped_parts(level, spacing).div_ceil(128)
+    if parts < low {
+        (low, Clamp::Below)
+    } else if parts > high {
+        (high, Clamp::Above)
+    } else {
+        (parts, Clamp::Inside)
+    }
 }
 
 /// Same section: the number of segments for a given L. Equal spacing takes the
@@ -66,10 +82,22 @@ pub fn divide(l: u32, spacing: Spacing) -> Division {
     }
 }
 
-/// Same section: a level as it stands. This is the rule for every outer level
-/// and the first look at an inner one.
+/// Same section: a level as it stands, first to L in steps of 2^-16 (a started
+/// step counts as a whole one), then to segments. This is the rule for every
+/// outer level and the first look at an inner one; by Ask 9 that first look
+/// decides what is said of the clamp.
+pub fn segments(level: f32, spacing: Spacing) -> Segments {
+    let (parts, clamp) = clamped_parts(level, spacing);
+    Segments {
+        division: divide(parts.div_ceil(128), spacing),
+        clamp,
+    }
+}
+
+/// Same section: a level as it stands, for drawing, which has no use for the
+/// clamp's finding (Ask 9).
 pub fn division(level: f32, spacing: Spacing) -> Division {
-    divide(level_units(level, spacing), spacing)
+    segments(level, spacing).division
 }
 
 /// Same section: an inner level that gave a single segment counts as the
@@ -157,6 +185,44 @@ mod tests {
             assert_eq!(n(level, Equal), 64);
             assert_eq!(n(level, FractionalEven), 64);
             assert_eq!(n(level, FractionalOdd), 63);
+        }
+    }
+
+    /// The same finding by comparing numbers, not bits.
+    fn compared(level: f32, low: f32, high: f32) -> Clamp {
+        if level >= low && level <= high {
+            Clamp::Inside
+        } else if level > high {
+            Clamp::Above
+        } else {
+            Clamp::Below
+        }
+    }
+
+    fn clamp(level: f32, spacing: Spacing) -> Clamp {
+        segments(level, spacing).clamp
+    }
+
+    #[test]
+    fn both_sides_of_both_ends() {
+        let ranges = [
+            (Equal, 1.0, 64.0),
+            (FractionalEven, 2.0, 64.0),
+            (FractionalOdd, 1.0, 63.0),
+        ];
+        for (spacing, low, high) in ranges {
+            assert_eq!(clamp(below(low), spacing), Clamp::Below);
+            assert_eq!(clamp(low, spacing), Clamp::Inside);
+            assert_eq!(clamp(above(low), spacing), Clamp::Inside);
+            assert_eq!(clamp(below(high), spacing), Clamp::Inside);
+            assert_eq!(clamp(high, spacing), Clamp::Inside);
+            assert_eq!(clamp(above(high), spacing), Clamp::Above);
+            assert_eq!(clamp(f32::NAN, spacing), Clamp::Below);
+            assert_eq!(clamp(-f32::NAN, spacing), Clamp::Below);
+            for bits in (0..=u32::MAX).step_by(65_521) {
+                let level = f32::from_bits(bits);
+                assert_eq!(clamp(level, spacing), compared(level, low, high));
+            }
         }
     }
 

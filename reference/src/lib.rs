@@ -6,19 +6,24 @@
 //! request from the document that came after it.
 
 pub mod check;
+pub mod clamps;
 pub mod draw;
 pub mod edge;
 pub mod isolines;
 pub mod job;
 pub mod level;
+pub mod measures;
 pub mod mesh;
 pub mod output;
 pub mod patch;
 pub mod quads;
 pub mod random;
 pub mod strip;
+pub mod table;
 pub mod text;
 pub mod triangles;
 
+pub use clamps::Clamps;
 pub use draw::{draw, measure, tessellate, Answer, Drawing, Measure};
+pub use level::Clamp;
 pub use patch::{DomainOrigin, Patch, Settings, Spacing, VertexOrder};

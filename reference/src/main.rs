@@ -5,25 +5,29 @@ use std::fs;
 use std::io::{self, BufWriter, Read, Write};
 use std::process::ExitCode;
 
-use reference::{check, job, output, random, text};
+use reference::{check, job, measures, output, random, table, text};
 
 const USAGE: &str = "usage:
   reference cut                          job file on input, answers on output
+  reference measure                      job file on input, counts and clamps on output
   reference make                         patch descriptions on input, job file on output
   reference random SEED COUNT            job file of COUNT random records on output
   reference random SEED COUNT cut        the answers to that job file on output
   reference random SEED NUMBER damaged   one damaged job file on output
-  reference check JOBFILE                answers on input, checked against the job file";
+  reference check JOBFILE                answers on input, checked against the job file
+  reference table                        the positions for equal spacing on output";
 
 fn main() -> ExitCode {
     let words: Vec<String> = env::args().skip(1).collect();
     let words: Vec<&str> = words.iter().map(String::as_str).collect();
     let done = match words[..] {
         ["cut"] => run_cut(),
+        ["measure"] => run_measure(),
         ["make"] => run_make(),
         ["random", seed, count] => run_random(seed, count, ""),
         ["random", seed, count, what @ ("cut" | "damaged")] => run_random(seed, count, what),
         ["check", path] => run_check(path),
+        ["table"] => write_out(table::text().as_bytes()),
         _ => Err(USAGE.to_string()),
     };
     match done {
@@ -51,10 +55,18 @@ fn write_answers(job: &[u8]) -> Result<(), String> {
         .map_err(say)
 }
 
+fn read_in() -> Result<Vec<u8>, String> {
+    let mut bytes = Vec::new();
+    io::stdin().read_to_end(&mut bytes).map_err(say)?;
+    Ok(bytes)
+}
+
 fn run_cut() -> Result<(), String> {
-    let mut job = Vec::new();
-    io::stdin().read_to_end(&mut job).map_err(say)?;
-    write_answers(&job)
+    write_answers(&read_in()?)
+}
+
+fn run_measure() -> Result<(), String> {
+    write_out(measures::measures(&read_in()?).as_bytes())
 }
 
 fn run_make() -> Result<(), String> {

@@ -3,7 +3,7 @@
 use std::io::{self, Write};
 
 use crate::draw::{tessellate, Answer};
-use crate::job::{read_header, read_record, Refusal};
+use crate::job::read_job;
 use crate::patch::{Patch, Settings};
 
 /// Section "Job file": the lines for one patch that could be read.
@@ -30,23 +30,18 @@ fn write_patch(patch: &Patch, settings: &Settings, out: &mut impl Write) -> io::
 
 /// Section "Job file": the whole text for a whole file.
 pub fn write_answers(job: &[u8], out: &mut impl Write) -> io::Result<()> {
-    let mut rest = match read_header(job) {
-        Ok(rest) => rest,
+    let records = match read_job(job) {
+        Ok(records) => records,
         Err(refusal) => return writeln!(out, "refused {}", refusal.number()),
     };
     writeln!(out, "TSJ 1")?;
-    loop {
-        match read_record(&mut rest) {
-            Ok(None) => return Ok(()),
-            Ok(Some((patch, settings))) => write_patch(&patch, &settings, out)?,
-            Err(refusal) => {
-                writeln!(out, "refused {}", refusal.number())?;
-                if refusal == Refusal::TruncatedRecord {
-                    return Ok(());
-                }
-            }
+    for record in records {
+        match record {
+            Ok((patch, settings)) => write_patch(&patch, &settings, out)?,
+            Err(refusal) => writeln!(out, "refused {}", refusal.number())?,
         }
     }
+    Ok(())
 }
 
 /// The same text as a string.

@@ -94,37 +94,22 @@ fn star_isolines() {
     assert_eq!(points, expected);
 }
 
-#[test]
-fn sizes() {
-    let counts = |patch: &Patch| measure(patch, &equal());
-    assert_eq!(
-        counts(&quads(64.0, [64.0; 2])),
-        Measure::Counts {
-            points: 4_225,
-            indices: 24_576
-        }
-    );
-    assert_eq!(
-        counts(&triangles(64.0, 64.0)),
-        Measure::Counts {
-            points: 3_169,
-            indices: 3 * 6_144
-        }
-    );
-    assert_eq!(
-        counts(&Patch::Isolines { outer: [64.0; 2] }),
-        Measure::Counts {
-            points: 4_160,
-            indices: 2 * 4_096
-        }
-    );
-}
-
-fn point_count(patch: &Patch, settings: &Settings) -> usize {
+fn counts(patch: &Patch, settings: &Settings) -> (usize, usize) {
     match measure(patch, settings) {
-        Measure::Counts { points, .. } => points,
+        Measure::Counts {
+            points, indices, ..
+        } => (points, indices),
         Measure::Discarded => panic!("discarded"),
     }
+}
+
+#[test]
+fn sizes() {
+    let counts = |patch: &Patch| counts(patch, &equal());
+    assert_eq!(counts(&quads(64.0, [64.0; 2])), (4_225, 24_576));
+    assert_eq!(counts(&triangles(64.0, 64.0)), (3_169, 3 * 6_144));
+    let isolines = Patch::Isolines { outer: [64.0; 2] };
+    assert_eq!(counts(&isolines), (4_160, 2 * 4_096));
 }
 
 /// Ask 6: no patch has more than 4,225 points. A count hangs on the numbers of
@@ -140,7 +125,7 @@ fn no_patch_has_more_than_4225_points() {
         Spacing::FractionalOdd,
     ] {
         let settings = settings(spacing);
-        let mut meet = |patch: Patch| most = point_count(&patch, &settings).max(most);
+        let mut meet = |patch: Patch| most = counts(&patch, &settings).0.max(most);
         for first in levels() {
             meet(triangles(64.0, first));
             for second in levels() {
@@ -158,22 +143,22 @@ fn no_patch_has_more_than_4225_points() {
 /// else, so the finest outline is the one with most points.
 #[test]
 fn outer_edges_add_their_own_points_only() {
-    let finest = point_count(&quads(64.0, [5.0, 6.0]), &equal());
+    let finest = counts(&quads(64.0, [5.0, 6.0]), &equal()).0;
     for edge in 0..4 {
         for level in 1..=64 {
             let mut outer = [64.0; 4];
             outer[edge] = level as f32;
             let inner = [5.0, 6.0];
-            let points = point_count(&Patch::Quads { outer, inner }, &equal());
+            let points = counts(&Patch::Quads { outer, inner }, &equal()).0;
             assert_eq!(points, finest - 64 + level);
         }
     }
-    let finest = point_count(&triangles(64.0, 5.0), &equal());
+    let finest = counts(&triangles(64.0, 5.0), &equal()).0;
     for edge in 0..3 {
         for level in 1..=64 {
             let mut outer = [64.0; 3];
             outer[edge] = level as f32;
-            let points = point_count(&Patch::Triangles { outer, inner: 5.0 }, &equal());
+            let points = counts(&Patch::Triangles { outer, inner: 5.0 }, &equal()).0;
             assert_eq!(points, finest - 64 + level);
         }
     }

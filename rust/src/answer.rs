@@ -1,7 +1,8 @@
 //! The two operations, with answers that no number can be taken for.
 
+use crate::clamps::{clamps_of, Clamps};
 use crate::patch::{setting_bytes, six_levels, Patch, Settings};
-use crate::raw::{self, Numbered};
+use crate::raw::{self, Measured, Numbered};
 
 /// What drawing answers. Where several refusals apply, the one that stands first here is given.
 #[must_use = "only `Drawn` means that something was written"]
@@ -21,8 +22,12 @@ pub enum Answer {
 #[must_use]
 #[derive(Clone, Copy, Debug, PartialEq, Eq)]
 pub enum Size {
-    /// Drawing needs 3 words for each point and one for each index.
-    Counts { points: u32, indices: u32 },
+    /// Drawing needs 3 words for each point and one for each index; the clamps say which levels were out of range.
+    Counts {
+        points: u32,
+        indices: u32,
+        clamps: Clamps,
+    },
     /// An outer level is NaN or not above 0.
     Discarded,
 }
@@ -58,14 +63,19 @@ pub fn draw(
     }
 }
 
-/// How many points and indices drawing would write; it asks for no room.
+/// How many points and indices drawing would write, and which levels are clamped; it asks for no room.
 pub fn measure(patch: &Patch, settings: &Settings) -> Size {
-    let Numbered {
+    let Measured {
         number,
         counts: [points, indices],
+        clamps,
     } = raw::measure(&setting_bytes(patch, settings), &six_levels(patch));
     match number {
-        0 => Size::Counts { points, indices },
+        0 => Size::Counts {
+            points,
+            indices,
+            clamps: clamps_of(patch, clamps),
+        },
         1 => Size::Discarded,
         _ => unreachable!("every setting is known, so the answer is 0 or 1 and not {number}"),
     }

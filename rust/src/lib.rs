@@ -10,15 +10,17 @@
 //! assert_eq!(mesh.indices, [0, 1, 3, 1, 2, 3, 2, 0, 3]);
 //! ```
 //!
-//! [`draw`] writes into lists of the caller's, [`measure`] says how long they have to be, and
-//! [`mesh()`] does both for lists of its own.
+//! [`draw`] writes into lists of the caller's, [`measure`] says how long they have to be and which
+//! levels were clamped, and [`mesh()`] draws into lists of its own.
 
 mod answer;
+mod clamps;
 mod mesh;
 mod patch;
 pub mod raw;
 
 pub use answer::{draw, measure, Answer, Size};
+pub use clamps::{Clamp, Clamps};
 pub use mesh::{mesh, Mesh};
 pub use patch::{DomainOrigin, Patch, Settings, Spacing, VertexOrder};
 

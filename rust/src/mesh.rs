@@ -15,7 +15,10 @@ pub struct Mesh {
 /// The mesh of a patch, or `None` where the patch is discarded.
 #[must_use]
 pub fn mesh(patch: &Patch, settings: &Settings) -> Option<Mesh> {
-    let Size::Counts { points, indices } = measure(patch, settings) else {
+    let Size::Counts {
+        points, indices, ..
+    } = measure(patch, settings)
+    else {
         return None;
     };
     let mut mesh = Mesh {

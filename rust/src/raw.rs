@@ -5,7 +5,12 @@
 //! outer one to four, then inner one and two.
 
 extern "C" {
-    fn yoktvarim_measure(settings: &[u8; 5], levels: &[f32; 6], counts: &mut [u32; 2]) -> u32;
+    fn yoktvarim_measure(
+        settings: &[u8; 5],
+        levels: &[f32; 6],
+        counts: &mut [u32; 2],
+        clamps: &mut [u8; 6],
+    ) -> u32;
 
     fn yoktvarim_draw(
         settings: &[u8; 5],
@@ -18,7 +23,19 @@ extern "C" {
     ) -> u32;
 }
 
-/// An answer by its number: 0 drawn (or measured), 1 discarded, 3 no room for vertices, 4 no room for indices,
+/// What [`measure`] answers, by its number: 0 measured, 1 discarded, 8 unknown setting. No other number is given.
+#[must_use = "only the number 0 means that the patch was measured"]
+#[derive(Clone, Copy, Debug, PartialEq, Eq)]
+pub struct Measured {
+    pub number: u32,
+    /// Points and indices beside 0, the place of the first unknown setting and 0 beside 8, else 0 and 0.
+    pub counts: [u32; 2],
+    /// For each level 1 below the range it is clamped to, 2 inside, 3 above. 0 where nothing is said: the level does not
+    /// count for the kind, or the number is not 0.
+    pub clamps: [u8; 6],
+}
+
+/// What [`draw`] answers, by its number: 0 drawn, 1 discarded, 3 no room for vertices, 4 no room for indices,
 /// 8 unknown setting. No other number is given.
 #[must_use = "only the number 0 means that something was drawn"]
 #[derive(Clone, Copy, Debug, PartialEq, Eq)]
@@ -28,13 +45,19 @@ pub struct Numbered {
     pub counts: [u32; 2],
 }
 
-/// How many points and indices [`draw`] would write.
-pub fn measure(settings: &[u8; 5], levels: &[f32; 6]) -> Numbered {
-    // Overwritten whatever the answer is.
+/// How many points and indices [`draw`] would write, and which levels are clamped.
+pub fn measure(settings: &[u8; 5], levels: &[f32; 6]) -> Measured {
+    // Both overwritten whatever the answer is.
     let mut counts = [u32::MAX; 2];
-    // SAFETY: the function is proved for every value of its arguments; it reads the two arrays and writes `counts`.
-    let number = unsafe { yoktvarim_measure(settings, levels, &mut counts) };
-    Numbered { number, counts }
+    let mut clamps = [u8::MAX; 6];
+    // SAFETY: the function is proved for every value of its arguments; it reads the two arrays and writes `counts` and
+    // `clamps`.
+    let number = unsafe { yoktvarim_measure(settings, levels, &mut counts, &mut clamps) };
+    Measured {
+        number,
+        counts,
+        clamps,
+    }
 }
 
 /// Writes points and indices to the fronts of the lists where the number is 0, and nothing otherwise.

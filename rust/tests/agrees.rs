@@ -1,10 +1,11 @@
-//! Every answer, every count and every word of both lists agree with the second program, on seeded random patches.
+//! Every answer, every count, every clamp and every word of both lists agree with the second program, on seeded random
+//! patches.
 
+mod here;
+
+use here::{answer_here, measured_here, patch_here, settings_here, size_here};
 use reference::job::{Record, HEADER, RECORD_LENGTH};
-use yoktvarim::{
-    draw, measure, mesh, raw, Answer, DomainOrigin, Mesh, Patch, Settings, Size, Spacing,
-    VertexOrder,
-};
+use yoktvarim::{draw, measure, mesh, raw, Answer, Mesh, Patch, Settings};
 
 /// What stands in every word of a list before a call. No coordinate and no index of a drawn patch is one of these.
 const VERTEX_MARK: u32 = 0xDEAD_BEEF;
@@ -23,46 +24,6 @@ fn records(seed: u64, count: u64) -> Vec<Record> {
 
 fn levels(record: &Record) -> [f32; 6] {
     record.levels.map(f32::from_bits)
-}
-
-/// The second program's patch as this crate has it.
-fn patch_here(patch: &reference::Patch) -> Patch {
-    match *patch {
-        reference::Patch::Triangles { outer, inner } => Patch::Triangles { outer, inner },
-        reference::Patch::Quads { outer, inner } => Patch::Quads { outer, inner },
-        reference::Patch::Isolines { outer } => Patch::Isolines { outer },
-    }
-}
-
-fn settings_here(settings: &reference::Settings) -> Settings {
-    Settings {
-        spacing: match settings.spacing {
-            reference::Spacing::Equal => Spacing::Equal,
-            reference::Spacing::FractionalEven => Spacing::FractionalEven,
-            reference::Spacing::FractionalOdd => Spacing::FractionalOdd,
-        },
-        vertex_order: match settings.vertex_order {
-            reference::VertexOrder::Clockwise => VertexOrder::Clockwise,
-            reference::VertexOrder::CounterClockwise => VertexOrder::CounterClockwise,
-        },
-        domain_origin: match settings.domain_origin {
-            reference::DomainOrigin::UpperLeft => DomainOrigin::UpperLeft,
-            reference::DomainOrigin::LowerLeft => DomainOrigin::LowerLeft,
-        },
-        point_mode: settings.point_mode,
-    }
-}
-
-fn answer_here(drawing: reference::Drawing) -> Answer {
-    match drawing {
-        reference::Drawing::Drawn { points, indices } => Answer::Drawn {
-            points: points as u32,
-            indices: indices as u32,
-        },
-        reference::Drawing::Discarded => Answer::Discarded,
-        reference::Drawing::NoRoomForVertices => Answer::NoRoomForVertices,
-        reference::Drawing::NoRoomForIndices => Answer::NoRoomForIndices,
-    }
 }
 
 /// Draws with both programs into lists of these lengths: the answers and every word have to agree.
@@ -140,9 +101,10 @@ fn compare_record(record: &Record) -> bool {
         return false;
     };
     let (here, how) = (patch_here(&patch), settings_here(&settings));
+    let size = size_here(reference::measure(&patch, &settings));
+    assert_eq!(measure(&here, &how), size, "{patch:?} {settings:?}");
     match reference::tessellate(&patch, &settings) {
         reference::Answer::Discarded => {
-            assert_eq!(measure(&here, &how), Size::Discarded);
             assert_eq!(mesh(&here, &how), None);
             assert_eq!(
                 compare(&patch, &settings, BEHIND, BEHIND),
@@ -151,11 +113,6 @@ fn compare_record(record: &Record) -> bool {
             false
         }
         reference::Answer::Drawn { points, indices } => {
-            let counts = Size::Counts {
-                points: points.len() as u32,
-                indices: indices.len() as u32,
-            };
-            assert_eq!(measure(&here, &how), counts, "{patch:?} {settings:?}");
             compare_sizes(&patch, &settings, points.len(), indices.len());
             let indices = indices.iter().map(|index| *index as u16).collect();
             assert!(
@@ -167,8 +124,8 @@ fn compare_record(record: &Record) -> bool {
     }
 }
 
-/// The functions by their numbers, in lists with room for every patch.
-fn compare_numbers(record: &Record) {
+/// The functions by their numbers, in lists with room for every patch; the bytes that were told of the levels.
+fn compare_numbers(record: &Record) -> [u8; 6] {
     let mut vertices = vec![VERTEX_MARK; yoktvarim::VERTEX_WORDS + BEHIND];
     let mut indices = vec![INDEX_MARK; yoktvarim::INDEX_WORDS + BEHIND];
     let measured = raw::measure(&record.settings, &levels(record));
@@ -178,19 +135,14 @@ fn compare_numbers(record: &Record) {
         &mut vertices,
         &mut indices,
     );
-    // With room for everything the two say the same.
-    assert_eq!(measured, drawn, "{record:?}");
-    let (number, counts) = match record.decode() {
-        Err(refusal) => match refusal {
-            reference::job::Refusal::UnknownSetting { place } => (8, [place as u32, 0]),
-            other => panic!("{other:?}"),
-        },
-        Ok((patch, settings)) => match reference::measure(&patch, &settings) {
-            reference::Measure::Discarded => (1, [0, 0]),
-            reference::Measure::Counts { points, indices } => (0, [points as u32, indices as u32]),
-        },
-    };
-    assert_eq!((drawn.number, drawn.counts), (number, counts), "{record:?}");
+    assert_eq!(measured, measured_here(record), "{record:?}");
+    // With room for everything drawing has the same number and counts.
+    let raw::Numbered { number, counts } = drawn;
+    assert_eq!(
+        (number, counts),
+        (measured.number, measured.counts),
+        "{record:?}"
+    );
     let (words, written) = match number {
         0 => (3 * counts[0] as usize, counts[1] as usize),
         _ => (0, 0),
@@ -211,6 +163,7 @@ fn compare_numbers(record: &Record) {
         indices[written..].iter().all(|word| *word == INDEX_MARK),
         "{record:?}"
     );
+    measured.clamps
 }
 
 #[test]
@@ -260,8 +213,49 @@ fn later_unknown_settings_have_no_say() {
     for first in 0..5 {
         let mut settings = [0; 5];
         settings[first..].fill(255);
-        let answer = raw::measure(&settings, &[1.0; 6]);
-        assert_eq!((answer.number, answer.counts), (8, [first as u32, 0]));
+        let refused = raw::Measured {
+            number: 8,
+            counts: [first as u32, 0],
+            clamps: [0; 6],
+        };
+        assert_eq!(raw::measure(&settings, &[1.0; 6]), refused);
+    }
+}
+
+/// A level on both sides of every end of a range, and what is no number or endless.
+fn levels_around_ends() -> Vec<u32> {
+    let around = |end: f32| [end.to_bits() - 1, end.to_bits(), end.to_bits() + 1];
+    let mut levels = [1.0, 2.0, 63.0, 64.0].map(around).concat();
+    levels.extend([0.0, f32::NAN, f32::INFINITY, f32::NEG_INFINITY].map(f32::to_bits));
+    levels
+}
+
+/// Which bytes are told of one level as it goes around the ends, with the others at 3.
+fn told_around_ends(kind: u8, spacing: u8, place: usize) -> [bool; 4] {
+    let mut told = [false; 4];
+    for level in levels_around_ends() {
+        let mut record = Record {
+            settings: [kind, spacing, 0, 0, 0],
+            levels: [3f32.to_bits(); 6],
+        };
+        record.levels[place] = level;
+        told[usize::from(compare_numbers(&record)[place])] = true;
+    }
+    told
+}
+
+/// Each of 1, 2 and 3 is told of every level that counts, and none of them of the others.
+#[test]
+fn each_level_around_each_end() {
+    let counting = [&[0, 1, 2, 4][..], &[0, 1, 2, 3, 4, 5], &[0, 1]];
+    for (kind, places) in (0..).zip(counting) {
+        for spacing in 0..3 {
+            for place in 0..6 {
+                let told = told_around_ends(kind, spacing, place);
+                let counts = places.contains(&place);
+                assert_eq!(told[1..], [counts; 3], "{kind} {spacing} {place}");
+            }
+        }
     }
 }
 

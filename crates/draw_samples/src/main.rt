@@ -1,7 +1,9 @@
 // Draws the rules' examples into lists with room, with one word too few in each, and with sentinel words behind the counts,
-// and writes what was answered and every word of both lists.
+// and writes what was answered and every word of both lists. Measures patches whose levels lie outside their range.
 ghost use Prim.Native.Nat.{_≤_};
+use level::Clamp;
 use level::Spacing;
+use patch::clamps::Clamps;
 use patch::kinds::Patch;
 use patch::settings::DomainOrigin;
 use patch::settings::Settings;
@@ -27,6 +29,31 @@ fn main() {
         12,
         9,
     );
+    each_clamp();
+}
+
+// Levels below, inside and above the range of odd spacing; the number of isolines is judged by equal spacing.
+fn each_clamp() {
+    let odd = Settings {
+        spacing: Spacing::FractionalOdd,
+        order: VertexOrder::CounterClockwise,
+        origin: DomainOrigin::LowerLeft,
+        point_mode: false,
+    };
+    let quads = Patch::Quads {
+        outer0: 0.5,
+        outer1: 63.0,
+        outer2: 64.0,
+        outer3: 1.0,
+        inner0: 0.0 / 0.0,
+        inner1: 63.5,
+    };
+    write_size(tessellate::measure::measure(quads, odd));
+    let isolines = Patch::Isolines {
+        outer0: 64.0,
+        outer1: 64.0,
+    };
+    write_size(tessellate::measure::measure(isolines, odd));
 }
 
 fn triangles(inner0: f32) -> Patch {
@@ -92,8 +119,59 @@ fn draw_into(patch: Patch, settings: Settings, v: usize, i: usize)
 
 fn write_size(size: Size) {
     match size {
-        Size::Counts { points, indices } => write_counts(b"measured ", points, indices),
+        Size::Counts {
+            points,
+            indices,
+            clamps,
+        } => {
+            write_counts(b"measured ", points, indices);
+            write_clamps(clamps);
+        }
         Size::Discarded => write_word(b"measured discarded\n"),
+    }
+}
+
+// Where each level that counts lies, outer levels first.
+fn write_clamps(clamps: Clamps) {
+    match clamps {
+        Clamps::Triangles {
+            outer0,
+            outer1,
+            outer2,
+            inner0,
+        } => {
+            write_clamp(outer0);
+            write_clamp(outer1);
+            write_clamp(outer2);
+            write_clamp(inner0);
+        }
+        Clamps::Quads {
+            outer0,
+            outer1,
+            outer2,
+            outer3,
+            inner0,
+            inner1,
+        } => {
+            write_clamp(outer0);
+            write_clamp(outer1);
+            write_clamp(outer2);
+            write_clamp(outer3);
+            write_clamp(inner0);
+            write_clamp(inner1);
+        }
+        Clamps::Isolines { outer0, outer1 } => {
+            write_clamp(outer0);
+            write_clamp(outer1);
+        }
+    }
+}
+
+fn write_clamp(clamp: Clamp) {
+    match clamp {
+        Clamp::Below => write_word(b"below\n"),
+        Clamp::Inside => write_word(b"inside\n"),
+        Clamp::Above => write_word(b"above\n"),
     }
 }
 

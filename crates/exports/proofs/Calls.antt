@@ -10,10 +10,12 @@ use Rattle.patch.specs.declared.settings.Settings.{Settings}
 use Rattle.job.specs.Settings.{firstUnknown}
 use Rattle.tessellate.specs.declared.answer.Answer.{Answer}
 use Rattle.tessellate.specs.declared.answer.Answer.the-variants.{Drawn, Discarded, NoRoomForVertices, NoRoomForIndices}
-use Rattle.tessellate.specs.Answers.{Told, told}
+use Rattle.tessellate.specs.declared.answer.Size.{Size}
+use Rattle.tessellate.specs.Answers.{Told, told, toldSize, measured}
 use Rattle.tessellate.specs.Draws.{Drew}
 use Rattle.exports.specs.Inputs.{patchIn, settingsIn}
-use Rattle.exports.specs.Calls.{unknownSetting, known, twoWords, Says, DrawCalled}
+use Rattle.exports.specs.Clamps.{noClamps, sizeClamps}
+use Rattle.exports.specs.Calls.{unknownSetting, known, twoWords, Says, measureClamps, MeasureCalled, DrawCalled}
 
 -- an answer is said by its number and its values
 pub said : {t s : Told} {c′ : List ℕ} {r : ℕ} → t ≡ s → (r ≡ s .number) × (c′ ≡ twoWords (s .values)) → Says t c′ r
@@ -36,6 +38,21 @@ module _ (bs : List ℕ) where
     -- every setting is known
     pub says-known : {t s : Told} {place : ℕ} → place ≡ firstUnknown bs 0 → 5 ≤ place → s ≡ t → Says s c′ r → Says (known bs t) c′ r
     says-known {t} e h same s = said (known-settings t (omega arith) ∙ sym same) (s .number, s .counts)
+
+module _ (bs : List ℕ) (xs : List Float) {c′ k′ : List ℕ} {r place : ℕ} (first : place ≡ firstUnknown bs 0) where
+  pub measure-unknown : place < 5 → Says (unknownSetting place) c′ r → k′ ≡ noClamps → MeasureCalled bs xs c′ k′ r
+  unfolding measureClamps
+  measure-unknown h s k = record { says = says-unknown bs _ first h s; clamps = rw (lt-ltb (firstUnknown bs 0) 5 (omega arith)) k }
+
+  pub measure-known : {set : Settings} {p : Patch} {size : Size} → 5 ≤ place → set ≡ settingsIn bs → p ≡ patchIn bs xs → size ≡ measured set p
+      → Says (toldSize size) c′ r → k′ ≡ sizeClamps size → MeasureCalled bs xs c′ k′ r
+  unfolding measureClamps
+  measure-known {set} {p} {size} h es ep e s k =
+      let m : size ≡ measured (settingsIn bs) (patchIn bs xs) = rw (← es, ← ep) e in
+      record {
+        says = says-known bs first h (ap toldSize m) s;
+        clamps = rw (le-ltb (firstUnknown bs 0) 5 (omega arith)) (k ∙ ap sizeClamps m);
+      }
 
 -- number 0 comes with two counts
 counted : (a : Answer) → told a .number ≡ 0 → told a ≡ record { number = 0; values = twoWords (told a .values) }

@@ -1,6 +1,6 @@
 -- The numbers that a call can answer with. Assumes nothing.
 use Prim.Native.Nat.{ℕ, _*_}
-use mathlib.Core.Path.{refl}
+use mathlib.Core.Path.{_≡_, refl}
 use mathlib.Core.Bool.{Bool, true, false, cond}
 use mathlib.Core.List.{List, [], _∷_}
 use mathlib.Core.Logic.{inl, inr}
@@ -8,7 +8,9 @@ use lib.Dec.{ltb}
 use lib.Ieee.{Float}
 use Rattle.patch.specs.Subdivide.{discards}
 use Rattle.job.specs.Settings.{firstUnknown}
-use Rattle.tessellate.specs.Answers.{Told, pointsOf, indicesOf, verdict, measured}
+use Rattle.tessellate.specs.declared.answer.Size.{Size}
+use Rattle.tessellate.specs.declared.answer.Size.the-variants.{Discarded}
+use Rattle.tessellate.specs.Answers.{Told, toldSize, pointsOf, indicesOf, verdict, measured}
 use Rattle.exports.specs.Inputs.{patchIn, settingsIn}
 use Rattle.exports.specs.Calls.{known, drawSays, measureSays, OneOf}
 
@@ -16,6 +18,10 @@ use Rattle.exports.specs.Calls.{known, drawSays, measureSays, OneOf}
 either : (ns : List ℕ) (b : Bool) (s t : Told) → OneOf ns (s .number) → OneOf ns (t .number) → OneOf ns (cond b s t .number)
 either ns true s t h k = h
 either ns false s t h k = k
+
+size-number : (b : Bool) (s : Size) → toldSize s .number ≡ 0 → OneOf (0 ∷ 1 ∷ 8 ∷ []) (toldSize (cond b Discarded s) .number)
+size-number true s e = inr (inl refl)
+size-number false s e = inl e
 
 module _ (bs : List ℕ) (xs : List Float) where
   pub draw-number : (v i : ℕ) → OneOf (0 ∷ 1 ∷ 3 ∷ 4 ∷ 8 ∷ []) (drawSays bs xs v i .number)
@@ -32,5 +38,4 @@ module _ (bs : List ℕ) (xs : List Float) where
   pub measure-number : OneOf (0 ∷ 1 ∷ 8 ∷ []) (measureSays bs xs .number)
   unfolding known measured
   measure-number =
-      let of = either (0 ∷ 1 ∷ 8 ∷ []) in
-      of (ltb (firstUnknown bs 0) 5) _ _ (inr (inr (inl refl))) (of (discards (patchIn bs xs)) _ _ (inr (inl refl)) (inl refl))
+      either (0 ∷ 1 ∷ 8 ∷ []) (ltb (firstUnknown bs 0) 5) _ _ (inr (inr (inl refl))) (size-number (discards (patchIn bs xs)) _ refl)

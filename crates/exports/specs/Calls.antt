@@ -15,9 +15,10 @@ use Rattle.drawing.specs.Primitives.{indexWords}
 use Rattle.drawing.specs.Words.{readPoints}
 use Rattle.drawing.specs.Demand.{Demand}
 use Rattle.job.specs.Settings.{firstUnknown}
-use Rattle.tessellate.specs.Answers.{Told, verdict, measured}
+use Rattle.tessellate.specs.Answers.{Told, toldSize, verdict, measured}
 use Rattle.tessellate.specs.Draws.{after}
 use Rattle.exports.specs.Inputs.{patchIn, settingsIn}
+use Rattle.exports.specs.Clamps.{sizeClamps, noClamps}
 
 -- answer 8, unknown setting: its value is the place, 0 to 4, of the first setting byte that is out of range
 abbrev pub unknownSetting : ℕ → Told
@@ -29,7 +30,11 @@ known bs t = cond (ltb (firstUnknown bs 0) 5) (unknownSetting (firstUnknown bs 0
 
 -- what measuring has to say
 abbrev pub measureSays : List ℕ → List Float → Told
-measureSays bs xs = known bs (measured (settingsIn bs) (patchIn bs xs))
+measureSays bs xs = known bs (toldSize (measured (settingsIn bs) (patchIn bs xs)))
+
+-- and what it says of the levels
+unfoldable pub measureClamps : List ℕ → List Float → List ℕ
+measureClamps bs xs = cond (ltb (firstUnknown bs 0) 5) noClamps (sizeClamps (measured (settingsIn bs) (patchIn bs xs)))
 
 -- what drawing into lists of n and m words has to say
 abbrev pub drawSays : List ℕ → List Float → ℕ → ℕ → Told
@@ -48,6 +53,11 @@ twoWords vs = getD vs 0 0 ∷ getD vs 1 0 ∷ []
 pub record Says (t : Told) (c′ : List ℕ) (r : ℕ) : Type 0 where
   pub number : r ≡ t .number
   pub counts : c′ ≡ twoWords (t .values)
+
+-- a call of measuring; k′ are the bytes of the levels at exit
+pub record MeasureCalled (bs : List ℕ) (xs : List Float) (c′ k′ : List ℕ) (r : ℕ) : Type 0 where
+  pub says : Says (measureSays bs xs) c′ r
+  pub clamps : k′ ≡ measureClamps bs xs
 
 -- a call of drawing
 pub record DrawCalled (bs : List ℕ) (xs : List Float) (v i v′ i′ c′ : List ℕ) (r : ℕ) : Type 0 where

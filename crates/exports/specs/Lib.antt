@@ -1,3 +1,4 @@
 -- The definitions of `exports`.
 pub mod Inputs
+pub mod Clamps
 pub mod Calls

@@ -26,7 +26,11 @@ pub(crate) fn say_size(size: Size, counts: &mut [u32; 2]) -> u32
     ensures { λ r. ⌜ Says (toldSize size) (now (counts .exit)) r ⌝ }
 {
     match size {
-        Size::Counts { points, indices } => say(0, points, indices, counts),
+        Size::Counts {
+            points,
+            indices,
+            clamps: _,
+        } => say(0, points, indices, counts),
         Size::Discarded => say(1, 0, 0, counts),
     }
 }

@@ -107,7 +107,8 @@ fn write_outer(outer0: f32, outer1: f32, spacing: Spacing) {
 }
 
 fn write_level(level: f32, spacing: Spacing) {
-    let segments = segments_of(level, spacing);
+    let clamped = segments_of(level, spacing);
+    let segments = clamped.segments;
     io::write_all(1, b" ");
     io::print_decimal(1, segments.count as u64);
 }

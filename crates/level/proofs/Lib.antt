@@ -1,6 +1,7 @@
 -- Laws of levels, beyond the contracts.
 pub mod Order
-pub mod Clamp
+pub mod Within
+pub mod Sides
 pub mod Scale
 pub mod Count
 pub mod Valid

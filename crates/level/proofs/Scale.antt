@@ -9,7 +9,7 @@ use Rattle.level.specs.Clamp.{lowest, highest, clampedLevel}
 use Rattle.level.specs.Scale.{parts, ofParts, LeastParts, InRange}
 use Rattle.level.specs.declared.Spacing.{Spacing}
 use Rattle.level.specs.declared.Spacing.the-variants.{Equal, FractionalEven, FractionalOdd}
-use Rattle.level.proofs.Clamp.{ends, level-within, level-positive}
+use Rattle.level.proofs.Within.{ends, level-within, level-positive}
 
 -- ---- the two halves, with x as a fraction
 parts-enough : (x : Float) → num x * 65536 ≤ parts x * den x

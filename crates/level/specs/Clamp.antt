@@ -1,10 +1,12 @@
--- The range of each spacing's levels, and a level clamped to it. Assumes nothing.
+-- The range of each spacing's levels, a level clamped to it, and where the level lay. Assumes nothing.
 use mathlib.Core.Bool.{false, cond}
 use lib.IntN.{pos}
 use lib.Dec.{T}
 use lib.Ieee.{Float, fin, lt, le}
 use Rattle.level.specs.declared.Spacing.{Spacing}
 use Rattle.level.specs.declared.Spacing.the-variants.{Equal, FractionalEven, FractionalOdd}
+use Rattle.level.specs.declared.Clamp.{Clamp}
+use Rattle.level.specs.declared.Clamp.the-variants.{Below, Inside, Above}
 
 -- the low end of a spacing's range: 1, 2 or 1
 abbrev pub lowest : Spacing → Float
@@ -20,11 +22,19 @@ highest FractionalOdd = fin false 63 (pos 0)
 
 -- x brought into lo .. hi; a NaN, which compares with nothing, takes the low end
 abbrev pub clamped : Float → Float → Float → Float
-clamped lo hi x = cond (lt lo x) (cond (lt hi x) hi x) lo
+clamped lo hi x = cond (le lo x) (cond (lt hi x) hi x) lo
+
+-- where x lies: below lo .. hi, inside it (on an end too) or above it; a NaN, which compares with nothing, lies below
+abbrev pub sideOf : Float → Float → Float → Clamp
+sideOf lo hi x = cond (le lo x) (cond (lt hi x) Above Inside) Below
 
 -- a level clamped to its spacing's range
 abbrev pub clampedLevel : Spacing → Float → Float
 clampedLevel s x = clamped (lowest s) (highest s) x
+
+-- where a level lies, by its spacing's range: the level was clamped where it is not inside
+unfoldable pub clampOf : Spacing → Float → Clamp
+clampOf s x = sideOf (lowest s) (highest s) x
 
 -- x is a number from lo to hi
 pub record Within (lo hi x : Float) : Type 0 where

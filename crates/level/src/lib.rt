@@ -1,8 +1,8 @@
-// Tessellation levels: which level discards its patch, and how many segments a level gives.
+// Tessellation levels: which level discards its patch, how many segments a level gives, and whether it is clamped for it.
 ghost use mathlib.Core.Path.{_≡_};
 ghost use lib.Ieee.{binary32, ofBits};
 ghost use Rattle.level.specs.Discard.{discarded};
-ghost use Rattle.level.specs.Clamp.{lowest, highest, clampedLevel, From1To64};
+ghost use Rattle.level.specs.Clamp.{lowest, highest, clampedLevel, clampOf, From1To64};
 ghost use Rattle.level.specs.Scale.{parts, InRange};
 ghost use Rattle.level.specs.Segments.{segmentsAt, segmentsOf, raised, asInner};
 
@@ -16,6 +16,19 @@ pub enum Spacing {
 pub struct Segments {
     pub count: u32,
     pub scaled: u32,
+}
+
+// Where a level lies: below its spacing's range, inside it (on an end too) or above it. A NaN lies below.
+pub enum Clamp {
+    Below,
+    Inside,
+    Above,
+}
+
+// A level's segments, and whether it was clamped to have them.
+pub struct Clamped {
+    pub segments: Segments,
+    pub clamp: Clamp,
 }
 
 // Whether an outer level discards its patch.
@@ -61,19 +74,34 @@ fn range_of(spacing: Spacing) -> Range
     }
 }
 
-// A level clamped to its spacing's range; a NaN takes the low end.
-fn clamp_level(level: f32, spacing: Spacing) -> f32
-    ensures { λ r. ⌜ r ≡ clampedLevel spacing level ⌝ }
+// A level clamped to its spacing's range, and where it lay.
+struct LevelInRange {
+    value: f32,
+    clamp: Clamp,
+}
+
+// The level clamped; a NaN takes the low end.
+fn clamp_level(level: f32, spacing: Spacing) -> LevelInRange
+    ensures { λ r. ⌜ r ≡ record { value = clampedLevel spacing level; clamp = clampOf spacing level } ⌝ }
 {
     let range = range_of(spacing);
-    if range.lowest < level {
+    if range.lowest <= level {
         if range.highest < level {
-            range.highest
+            LevelInRange {
+                value: range.highest,
+                clamp: Clamp::Above,
+            }
         } else {
-            level
+            LevelInRange {
+                value: level,
+                clamp: Clamp::Inside,
+            }
         }
     } else {
-        range.lowest
+        LevelInRange {
+            value: range.lowest,
+            clamp: Clamp::Below,
+        }
     }
 }
 
@@ -111,11 +139,15 @@ fn segments_at(scaled: u32, spacing: Spacing) -> Segments
     }
 }
 
-// The segments of a level.
-pub fn segments_of(level: f32, spacing: Spacing) -> Segments
-    ensures { λ r. ⌜ r ≡ segmentsOf spacing level ⌝ }
+// The segments of a level, and whether it was clamped.
+pub fn segments_of(level: f32, spacing: Spacing) -> Clamped
+    ensures segments { λ r. ⌜ r .segments ≡ segmentsOf spacing level ⌝ }
+    ensures clamp { λ r. ⌜ r .clamp ≡ clampOf spacing level ⌝ }
 {
-    segments_at(parts_of(clamp_level(level, spacing)), spacing)
+    let clamped = clamp_level(level, spacing);
+    let segments = segments_at(parts_of(clamped.value), spacing);
+    let clamp = clamped.clamp;
+    Clamped { segments, clamp }
 }
 
 // The segments of an inner level that would have one segment only.

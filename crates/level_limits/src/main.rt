@@ -1,11 +1,13 @@
 // Writes what levels at both sides of a limit give, a line each: the level's bits, the spacing,
-// whether it discards (or is an inner level, which never does), the number of segments n and the
-// level in parts of 1 / 65536, L.
+// whether it discards (or is an inner level, which never does), where it lies in the spacing's range,
+// the number of segments n and the level in parts of 1 / 65536, L.
+use level::Clamp;
 use level::Segments;
 use level::Spacing;
 
 fn main() {
     limits();
+    ends();
     each_outer(Spacing::Equal);
     each_outer(Spacing::FractionalEven);
     each_outer(Spacing::FractionalOdd);
@@ -26,6 +28,22 @@ fn limits() {
     outer(0x447a_0000, Spacing::Equal);
     outer(0x3f80_0001, Spacing::FractionalOdd);
     outer(0x4000_0001, Spacing::FractionalEven);
+}
+
+// The ends of each range, and the next f32 outside of each.
+fn ends() {
+    outer(0x3f7f_ffff, Spacing::Equal);
+    outer(0x3f80_0000, Spacing::Equal);
+    outer(0x4280_0000, Spacing::Equal);
+    outer(0x4280_0001, Spacing::Equal);
+    outer(0x3fff_ffff, Spacing::FractionalEven);
+    outer(0x4000_0000, Spacing::FractionalEven);
+    outer(0x4280_0000, Spacing::FractionalEven);
+    outer(0x4280_0001, Spacing::FractionalEven);
+    outer(0x3f7f_ffff, Spacing::FractionalOdd);
+    outer(0x3f80_0000, Spacing::FractionalOdd);
+    outer(0x427c_0000, Spacing::FractionalOdd);
+    outer(0x427c_0001, Spacing::FractionalOdd);
 }
 
 // Two NaNs, the infinities, both zeros, and the smallest numbers above and below 0.
@@ -57,14 +75,19 @@ fn outer(bits: u32, spacing: Spacing) {
     } else {
         io::write_all(1, b" kept");
     }
-    write_segments(level::segments_of(level, spacing));
+    let clamped = level::segments_of(level, spacing);
+    let clamp = clamped.clamp;
+    write_clamp(clamp);
+    write_segments(clamped.segments);
 }
 
 fn inner(bits: u32, spacing: Spacing) {
     write_input(bits, spacing);
     io::write_all(1, b" inner");
     let own = level::segments_of(level::level_of_bits(bits), spacing);
-    write_segments(level::as_inner(own, spacing));
+    let clamp = own.clamp;
+    write_clamp(clamp);
+    write_segments(level::as_inner(own.segments, spacing));
 }
 
 fn write_input(bits: u32, spacing: Spacing) {
@@ -78,6 +101,20 @@ fn write_input(bits: u32, spacing: Spacing) {
         }
         Spacing::FractionalOdd => {
             io::write_all(1, b" odd");
+        }
+    }
+}
+
+fn write_clamp(clamp: Clamp) {
+    match clamp {
+        Clamp::Below => {
+            io::write_all(1, b" below");
+        }
+        Clamp::Inside => {
+            io::write_all(1, b" inside");
+        }
+        Clamp::Above => {
+            io::write_all(1, b" above");
         }
     }
 }

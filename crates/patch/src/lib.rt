@@ -1,4 +1,5 @@
-// Patches, how they are to be drawn, and into how many segments each of their edges is cut.
+// Patches, how they are to be drawn, into how many segments each of their edges is cut, and which levels are clamped for it.
+pub mod clamps;
 pub mod kinds;
 pub mod settings;
 pub mod subdivision;

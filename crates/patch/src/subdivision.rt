@@ -3,6 +3,7 @@ ghost use mathlib.Core.Path.{_≡_};
 ghost use mathlib.Core.List.{[], _∷_};
 ghost use Rattle.level.specs.Discard.{discarded};
 ghost use Rattle.patch.specs.Every.{some};
+ghost use Rattle.patch.specs.Counted.{Counted};
 ghost use Rattle.patch.specs.Subdivide.{isDiscarded, subdivision};
 use crate::kinds::Patch;
 use level::Segments;
@@ -111,6 +112,14 @@ fn discards4(a: f32, b: f32, c: f32, d: f32) -> bool
     }
 }
 
+// The segments of a level, clamped or not.
+fn segments_of(level: f32, spacing: Spacing) -> Segments
+    ensures { λ r. ⌜ Counted spacing level r ⌝ }
+{
+    let clamped = level::segments_of(level, spacing);
+    clamped.segments
+}
+
 // A count is at least 1, so all of them are 1 where they add up to their number.
 fn triangle(spacing: Spacing, outer0: f32, outer1: f32, outer2: f32, inner0: f32) -> Subdivision
     ensures { λ r. ⌜ r ≡ subdivision spacing (Patch.Triangles outer0 outer1 outer2 inner0) ⌝ }
@@ -118,10 +127,10 @@ fn triangle(spacing: Spacing, outer0: f32, outer1: f32, outer2: f32, inner0: f32
     if discards3(outer0, outer1, outer2) {
         return Subdivision::Discarded;
     }
-    let edge0 = level::segments_of(outer0, spacing);
-    let edge1 = level::segments_of(outer1, spacing);
-    let edge2 = level::segments_of(outer2, spacing);
-    let inner = level::segments_of(inner0, spacing);
+    let edge0 = segments_of(outer0, spacing);
+    let edge1 = segments_of(outer1, spacing);
+    let edge2 = segments_of(outer2, spacing);
+    let inner = segments_of(inner0, spacing);
     if edge0.count + edge1.count + edge2.count + inner.count == 4 {
         return Subdivision::PlainTriangle;
     }
@@ -148,12 +157,12 @@ fn quad(
     if discards4(outer0, outer1, outer2, outer3) {
         return Subdivision::Discarded;
     }
-    let edge0 = level::segments_of(outer0, spacing);
-    let edge1 = level::segments_of(outer1, spacing);
-    let edge2 = level::segments_of(outer2, spacing);
-    let edge3 = level::segments_of(outer3, spacing);
-    let inner_rows = level::segments_of(inner0, spacing);
-    let inner_columns = level::segments_of(inner1, spacing);
+    let edge0 = segments_of(outer0, spacing);
+    let edge1 = segments_of(outer1, spacing);
+    let edge2 = segments_of(outer2, spacing);
+    let edge3 = segments_of(outer3, spacing);
+    let inner_rows = segments_of(inner0, spacing);
+    let inner_columns = segments_of(inner1, spacing);
     if edge0.count
         + edge1.count
         + edge2.count
@@ -182,7 +191,7 @@ fn isolines(spacing: Spacing, outer0: f32, outer1: f32) -> Subdivision
     if discards2(outer0, outer1) {
         return Subdivision::Discarded;
     }
-    let lines = level::segments_of(outer0, Spacing::Equal);
-    let along = level::segments_of(outer1, spacing);
+    let lines = segments_of(outer0, Spacing::Equal);
+    let along = segments_of(outer1, spacing);
     Subdivision::Lines { lines, along }
 }

@@ -8,6 +8,7 @@ use lib.ListN.{length}
 use Rattle.patch.specs.declared.kinds.Patch.{Patch}
 use Rattle.patch.specs.declared.settings.Settings.{Settings}
 use Rattle.patch.specs.Subdivide.{discards, subdivision}
+use Rattle.patch.specs.Clamps.{clampsOf}
 use Rattle.drawing.specs.Points.{points}
 use Rattle.drawing.specs.Primitives.{indexWords}
 use Rattle.tessellate.specs.declared.answer.Answer.{Answer}
@@ -29,7 +30,7 @@ told NoRoomForIndices = record { number = 4; values = [] }
 
 -- measuring gives the counts where drawing could, or "discarded"
 abbrev pub toldSize : Size → Told
-toldSize (Counts p i) = record { number = 0; values = p ∷ i ∷ [] }
+toldSize (Counts p i c) = record { number = 0; values = p ∷ i ∷ [] }
 toldSize NoCounts = record { number = 1; values = [] }
 
 -- a number with no values
@@ -54,6 +55,6 @@ verdict set p v i =
     (cond (ltb i (indicesOf set p)) (refused 4)
     (drawn set p)))
 
--- what measuring has to say
-unfoldable pub measured : Settings → Patch → Told
-measured set p = cond (discards p) (refused 1) (drawn set p)
+-- what measuring has to say: a discarded patch says nothing of its levels
+unfoldable pub measured : Settings → Patch → Size
+measured set p = cond (discards p) NoCounts (Counts (pointsOf set p) (indicesOf set p) (clampsOf (set .spacing) p))

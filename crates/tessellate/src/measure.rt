@@ -1,12 +1,13 @@
-// Measuring: how many points and indices drawing would write. It writes nothing and asks for no room.
+// Measuring: how many points and indices drawing would write, and which levels were clamped. It writes nothing and asks for
+// no room.
 ghost use mathlib.Core.Path.{_≡_};
-ghost use Rattle.tessellate.specs.Answers.{toldSize, measured};
+ghost use Rattle.tessellate.specs.Answers.{measured};
 use crate::answer::Size;
 use patch::kinds::Patch;
 use patch::settings::Settings;
 
 pub fn measure(patch: Patch, settings: Settings) -> Size
-    ensures { λ r. ⌜ toldSize r ≡ measured settings patch ⌝ }
+    ensures { λ r. ⌜ r ≡ measured settings patch ⌝ }
 {
     let spacing = settings.spacing;
     let point_mode = settings.point_mode;
@@ -16,5 +17,10 @@ pub fn measure(patch: Patch, settings: Settings) -> Size
     }
     let points = crate::count::point_count(cut);
     let indices = crate::count::index_count(cut, point_mode);
-    Size::Counts { points, indices }
+    let clamps = patch::clamps::clamps_of(patch, spacing);
+    Size::Counts {
+        points,
+        indices,
+        clamps,
+    }
 }

@@ -1,4 +1,5 @@
-//! Draws one triangle patch and prints it, then meets the answers that are no drawing.
+//! Draws one triangle patch and prints it, measures it and one with clamped levels, then meets the answers that are no
+//! drawing.
 
 use yoktvarim::{draw, measure, Answer, DomainOrigin, Patch, Settings, Size, Spacing, VertexOrder};
 
@@ -23,6 +24,21 @@ fn show(patch: &Patch, settings: &Settings, vertices: &mut [u32], indices: &mut 
     }
 }
 
+/// Measures, and prints the counts and what is told of each level; the counts, or `None` where the patch is discarded.
+fn show_size(patch: &Patch, settings: &Settings) -> Option<(usize, usize)> {
+    let Size::Counts {
+        points,
+        indices,
+        clamps,
+    } = measure(patch, settings)
+    else {
+        return None;
+    };
+    println!("measured {points} {indices}");
+    println!("{clamps:?}");
+    Some((points as usize, indices as usize))
+}
+
 fn main() {
     let patch = Patch::Triangles {
         outer: [1.0, 1.0, 1.0],
@@ -41,26 +57,26 @@ fn main() {
     show(&patch, &settings, &mut vertices, &mut indices);
 
     // Measuring says how much room one patch needs; a word less is refused.
-    if let Size::Counts {
-        points,
-        indices: count,
-    } = measure(&patch, &settings)
-    {
-        println!("measured {points} {count}");
-        let (words, count) = (3 * points as usize, count as usize);
-        show(
-            &patch,
-            &settings,
-            &mut vertices[..words - 1],
-            &mut indices[..count],
-        );
-        show(
-            &patch,
-            &settings,
-            &mut vertices[..words],
-            &mut indices[..count - 1],
-        );
-    }
+    let (points, count) = show_size(&patch, &settings).expect("not discarded");
+    show(
+        &patch,
+        &settings,
+        &mut vertices[..3 * points - 1],
+        &mut indices[..count],
+    );
+    show(
+        &patch,
+        &settings,
+        &mut vertices[..3 * points],
+        &mut indices[..count - 1],
+    );
+
+    // It also says which levels lie outside 1 to 64, the range of equal spacing: 0.5 counts as 1, and 100 as 64.
+    let clamped = Patch::Triangles {
+        outer: [0.5, 64.0, 100.0],
+        inner: 2.0,
+    };
+    show_size(&clamped, &settings).expect("not discarded");
 
     let discarded = Patch::Triangles {
         outer: [1.0, 0.0, 1.0],

@@ -1,7 +1,8 @@
 -- `level::segments_of` meets its contract: a clamped level is in the range that each callee asks. Assumes nothing.
 use borrow.Author.Needs.{needs}
+use mathlib.Core.Path.{ap}
 use Rattle.level.specs.Segments.{segmentsOf}
-use Rattle.level.proofs.Clamp.{level-from-1-to-64}
+use Rattle.level.proofs.Within.{level-from-1-to-64}
 use Rattle.level.proofs.Scale.{level-in-range}
 use Rattle.level.proofs.segments_of.Statement.{statement}
 use Rattle.level.proofs.segments_of.Tie as tie
@@ -17,7 +18,11 @@ segments-at-requires c κs = rw (c .parts-of .ensures, c .before .clamp-level .e
 
 returns : tie.Need-returns
 unfolding segmentsOf
-returns c = rw (c .segments-at .ensures, c .before .parts-of .ensures, c .before .before .clamp-level .ensures)
+returns c =
+    let clamped = c .before .before .clamp-level .ensures in (
+      rw (c .segments-at .ensures, c .before .parts-of .ensures, clamped),
+      ap (λ g. g .clamp) clamped,
+    )
 
 pub segments-of-spec : {M : Type 1} → statement M
 segments-of-spec =

@@ -19,7 +19,7 @@ segments-of-requires-2 c κs = search needs
 
 returns-2 : tie.Need-returns-2
 unfolding subdivision
-returns-2 c = rw (← c .before .before .before .discards2 .ensures, c .before .before .if1 .left, ← c .before .segments-of .ensures, ← c .segments-of2 .ensures)
+returns-2 c = rw (← c .before .before .before .discards2 .ensures, c .before .before .if1 .left, ← c .before .segments-of .ensures .all, ← c .segments-of2 .ensures .all)
 
 pub isolines-spec : {M : Type 1} → statement M
 isolines-spec =

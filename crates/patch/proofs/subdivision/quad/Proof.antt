@@ -1,12 +1,24 @@
 -- Meets its contract. Assumes nothing.
 use borrow.Author.Needs.{needs}
 use native.Mathlib.Omega.{arith}
+use Prim.Native.Nat.{_+_}
+use mathlib.Core.Path.{_≡_, sym, _∙_}
 use mathlib.Core.List.{[], _∷_}
+use lib.Ieee.{Float}
+use Rattle.level.specs.declared.Spacing.{Spacing}
+use Rattle.level.specs.declared.Segments.{Segments}
+use Rattle.patch.specs.Counted.{Counted}
 use Rattle.patch.specs.Subdivide.{subdivision}
 use Rattle.patch.proofs.Every.{total, every-one, not-every-one}
-use Rattle.patch.proofs.Counts.{count, least, counted}
+use Rattle.patch.proofs.Counts.{count, least}
 use Rattle.patch.proofs.subdivision.quad.Statement.{statement}
 use Rattle.patch.proofs.subdivision.quad.Tie as tie
+
+-- the counts of the code's sum are those of `total`
+summed : {s : Spacing} {a b c d i j : Float} {p q r t u v : Segments} → Counted s a p → Counted s b q → Counted s c r → Counted s d t → Counted s i u → Counted s j v
+    → total (count s) (a ∷ b ∷ c ∷ d ∷ i ∷ j ∷ []) ≡ p .count + q .count + r .count + t .count + u .count + v .count
+unfolding total
+summed k1 k2 k3 k4 k5 k6 = omega arith
 
 discards4-requires : tie.Need-discards4-requires
 discards4-requires c κs = search needs
@@ -34,40 +46,32 @@ segments-of-requires-6 : tie.Need-segments-of-requires-6
 segments-of-requires-6 c κs = search needs
 
 add-if2 : tie.Need-add-if2
-add-if2 c =
-    let a = c .before .before .before .before .before .before .before .before .before .before .args in
-    omega (arith, counted (a .spacing) (a .outer0) (c .before .before .before .before .before .before .before .segments-of .result) (c .before .before .before .before .before .before .before .segments-of .ensures), counted (a .spacing) (a .outer1) (c .before .before .before .before .before .before .segments-of2 .result) (c .before .before .before .before .before .before .segments-of2 .ensures))
+add-if2 c = search needs
 
 add-if2-2 : tie.Need-add-if2-2
-add-if2-2 c =
-    let a = c .before .before .before .before .before .before .before .before .before .before .before .args in
-    omega (arith, counted (a .spacing) (a .outer0) (c .before .before .before .before .before .before .before .before .segments-of .result) (c .before .before .before .before .before .before .before .before .segments-of .ensures), counted (a .spacing) (a .outer1) (c .before .before .before .before .before .before .before .segments-of2 .result) (c .before .before .before .before .before .before .before .segments-of2 .ensures), counted (a .spacing) (a .outer2) (c .before .before .before .before .before .before .segments-of3 .result) (c .before .before .before .before .before .before .segments-of3 .ensures))
+add-if2-2 c = search needs
 
 add-if2-3 : tie.Need-add-if2-3
-add-if2-3 c =
-    let a = c .before .before .before .before .before .before .before .before .before .before .before .before .args in
-    omega (arith, counted (a .spacing) (a .outer0) (c .before .before .before .before .before .before .before .before .before .segments-of .result) (c .before .before .before .before .before .before .before .before .before .segments-of .ensures), counted (a .spacing) (a .outer1) (c .before .before .before .before .before .before .before .before .segments-of2 .result) (c .before .before .before .before .before .before .before .before .segments-of2 .ensures), counted (a .spacing) (a .outer2) (c .before .before .before .before .before .before .before .segments-of3 .result) (c .before .before .before .before .before .before .before .segments-of3 .ensures), counted (a .spacing) (a .outer3) (c .before .before .before .before .before .before .segments-of4 .result) (c .before .before .before .before .before .before .segments-of4 .ensures))
+add-if2-3 c = search needs
 
 add-if2-4 : tie.Need-add-if2-4
-add-if2-4 c =
-    let a = c .before .before .before .before .before .before .before .before .before .before .before .before .before .args in
-    omega (arith, counted (a .spacing) (a .outer0) (c .before .before .before .before .before .before .before .before .before .before .segments-of .result) (c .before .before .before .before .before .before .before .before .before .before .segments-of .ensures), counted (a .spacing) (a .outer1) (c .before .before .before .before .before .before .before .before .before .segments-of2 .result) (c .before .before .before .before .before .before .before .before .before .segments-of2 .ensures), counted (a .spacing) (a .outer2) (c .before .before .before .before .before .before .before .before .segments-of3 .result) (c .before .before .before .before .before .before .before .before .segments-of3 .ensures), counted (a .spacing) (a .outer3) (c .before .before .before .before .before .before .before .segments-of4 .result) (c .before .before .before .before .before .before .before .segments-of4 .ensures), counted (a .spacing) (a .inner0) (c .before .before .before .before .before .before .segments-of5 .result) (c .before .before .before .before .before .before .segments-of5 .ensures))
+add-if2-4 c = search needs
 
 add-if2-5 : tie.Need-add-if2-5
-add-if2-5 c =
-    let a = c .before .before .before .before .before .before .before .before .before .before .before .before .before .before .args in
-    omega (arith, counted (a .spacing) (a .outer0) (c .before .before .before .before .before .before .before .before .before .before .before .segments-of .result) (c .before .before .before .before .before .before .before .before .before .before .before .segments-of .ensures), counted (a .spacing) (a .outer1) (c .before .before .before .before .before .before .before .before .before .before .segments-of2 .result) (c .before .before .before .before .before .before .before .before .before .before .segments-of2 .ensures), counted (a .spacing) (a .outer2) (c .before .before .before .before .before .before .before .before .before .segments-of3 .result) (c .before .before .before .before .before .before .before .before .before .segments-of3 .ensures), counted (a .spacing) (a .outer3) (c .before .before .before .before .before .before .before .before .segments-of4 .result) (c .before .before .before .before .before .before .before .before .segments-of4 .ensures), counted (a .spacing) (a .inner0) (c .before .before .before .before .before .before .before .segments-of5 .result) (c .before .before .before .before .before .before .before .segments-of5 .ensures), counted (a .spacing) (a .inner1) (c .before .before .before .before .before .before .segments-of6 .result) (c .before .before .before .before .before .before .segments-of6 .ensures))
+add-if2-5 c = search needs
 
 returns-2 : tie.Need-returns-2
-unfolding subdivision total
+unfolding subdivision
 returns-2 c =
-    let a = c .before .before .before .before .before .before .before .before .before .before .before .before .before .before .before .args in
-    rw (
-      ← c .before .before .before .before .before .before .before .before .before .before .before .before .before .before .discards4 .ensures,
-      c .before .before .before .before .before .before .before .before .before .before .before .before .before .if1 .left,
-      every-one (count (a .spacing)) (least (a .spacing)) (a .outer0 ∷ a .outer1 ∷ a .outer2 ∷ a .outer3 ∷ a .inner0 ∷ a .inner1 ∷ [])
-          (omega (arith, counted (a .spacing) (a .outer0) (c .before .before .before .before .before .before .before .before .before .before .before .before .segments-of .result) (c .before .before .before .before .before .before .before .before .before .before .before .before .segments-of .ensures), counted (a .spacing) (a .outer1) (c .before .before .before .before .before .before .before .before .before .before .before .segments-of2 .result) (c .before .before .before .before .before .before .before .before .before .before .before .segments-of2 .ensures), counted (a .spacing) (a .outer2) (c .before .before .before .before .before .before .before .before .before .before .segments-of3 .result) (c .before .before .before .before .before .before .before .before .before .before .segments-of3 .ensures), counted (a .spacing) (a .outer3) (c .before .before .before .before .before .before .before .before .before .segments-of4 .result) (c .before .before .before .before .before .before .before .before .before .segments-of4 .ensures), counted (a .spacing) (a .inner0) (c .before .before .before .before .before .before .before .before .segments-of5 .result) (c .before .before .before .before .before .before .before .before .segments-of5 .ensures), counted (a .spacing) (a .inner1) (c .before .before .before .before .before .before .before .segments-of6 .result) (c .before .before .before .before .before .before .before .segments-of6 .ensures))),
-    )
+    let e6 = c .before .before .before .before .before .before .before in
+    let e5 = e6 .before in
+    let e4 = e5 .before in
+    let e3 = e4 .before in
+    let e2 = e3 .before in
+    let e1 = e2 .before in
+    let a = e1 .before .before .before .args in
+    let sum = summed (e1 .segments-of .ensures) (e2 .segments-of2 .ensures) (e3 .segments-of3 .ensures) (e4 .segments-of4 .ensures) (e5 .segments-of5 .ensures) (e6 .segments-of6 .ensures) in
+    rw (← e1 .before .before .discards4 .ensures, e1 .before .if1 .left, every-one (count (a .spacing)) (least (a .spacing)) (a .outer0 ∷ a .outer1 ∷ a .outer2 ∷ a .outer3 ∷ a .inner0 ∷ a .inner1 ∷ []) (sum ∙ c .if2 .taken))
 
 as-inner-requires : tie.Need-as-inner-requires
 as-inner-requires c κs = search needs
@@ -76,12 +80,29 @@ as-inner-requires-2 : tie.Need-as-inner-requires-2
 as-inner-requires-2 c κs = search needs
 
 returns-3 : tie.Need-returns-3
-unfolding subdivision total
+unfolding subdivision
 returns-3 c =
-    let a = c .before .before .before .before .before .before .before .before .before .before .before .before .before .before .before .before .before .args in
-    let more = not-every-one (count (a .spacing)) (least (a .spacing)) (a .outer0 ∷ a .outer1 ∷ a .outer2 ∷ a .outer3 ∷ a .inner0 ∷ a .inner1 ∷ [])
-    (λ e. c .before .before .if2 .left (omega (arith, counted (a .spacing) (a .outer0) (c .before .before .before .before .before .before .before .before .before .before .before .before .before .before .segments-of .result) (c .before .before .before .before .before .before .before .before .before .before .before .before .before .before .segments-of .ensures), counted (a .spacing) (a .outer1) (c .before .before .before .before .before .before .before .before .before .before .before .before .before .segments-of2 .result) (c .before .before .before .before .before .before .before .before .before .before .before .before .before .segments-of2 .ensures), counted (a .spacing) (a .outer2) (c .before .before .before .before .before .before .before .before .before .before .before .before .segments-of3 .result) (c .before .before .before .before .before .before .before .before .before .before .before .before .segments-of3 .ensures), counted (a .spacing) (a .outer3) (c .before .before .before .before .before .before .before .before .before .before .before .segments-of4 .result) (c .before .before .before .before .before .before .before .before .before .before .before .segments-of4 .ensures), counted (a .spacing) (a .inner0) (c .before .before .before .before .before .before .before .before .before .before .segments-of5 .result) (c .before .before .before .before .before .before .before .before .before .before .segments-of5 .ensures), counted (a .spacing) (a .inner1) (c .before .before .before .before .before .before .before .before .before .segments-of6 .result) (c .before .before .before .before .before .before .before .before .before .segments-of6 .ensures)))) in
-    rw (← c .before .before .before .before .before .before .before .before .before .before .before .before .before .before .before .before .discards4 .ensures, c .before .before .before .before .before .before .before .before .before .before .before .before .before .before .before .if1 .left, more, ← c .before .before .before .before .before .before .before .before .before .before .before .before .before .before .segments-of .ensures, ← c .before .before .before .before .before .before .before .before .before .before .before .before .before .segments-of2 .ensures, ← c .before .before .before .before .before .before .before .before .before .before .before .before .segments-of3 .ensures, ← c .before .before .before .before .before .before .before .before .before .before .before .segments-of4 .ensures, ← c .before .before .before .before .before .before .before .before .before .before .segments-of5 .ensures, ← c .before .before .before .before .before .before .before .before .before .segments-of6 .ensures, ← c .before .as-inner .ensures, ← c .as-inner2 .ensures)
+    let e6 = c .before .before .before .before .before .before .before .before .before in
+    let e5 = e6 .before in
+    let e4 = e5 .before in
+    let e3 = e4 .before in
+    let e2 = e3 .before in
+    let e1 = e2 .before in
+    let a = e1 .before .before .before .args in
+    let sum = summed (e1 .segments-of .ensures) (e2 .segments-of2 .ensures) (e3 .segments-of3 .ensures) (e4 .segments-of4 .ensures) (e5 .segments-of5 .ensures) (e6 .segments-of6 .ensures) in
+    rw (
+      ← e1 .before .before .discards4 .ensures,
+      e1 .before .if1 .left,
+      not-every-one (count (a .spacing)) (least (a .spacing)) (a .outer0 ∷ a .outer1 ∷ a .outer2 ∷ a .outer3 ∷ a .inner0 ∷ a .inner1 ∷ []) (λ e. c .before .before .if2 .left (sym sum ∙ e)),
+      ← e1 .segments-of .ensures .all,
+      ← e2 .segments-of2 .ensures .all,
+      ← e3 .segments-of3 .ensures .all,
+      ← e4 .segments-of4 .ensures .all,
+      ← e5 .segments-of5 .ensures .all,
+      ← e6 .segments-of6 .ensures .all,
+      ← c .before .as-inner .ensures,
+      ← c .as-inner2 .ensures,
+    )
 
 pub quad-spec : {M : Type 1} → statement M
 quad-spec =

@@ -1,12 +1,24 @@
 -- Meets its contract. Assumes nothing.
 use borrow.Author.Needs.{needs}
 use native.Mathlib.Omega.{arith}
+use Prim.Native.Nat.{_+_}
+use mathlib.Core.Path.{_≡_, sym, _∙_}
 use mathlib.Core.List.{[], _∷_}
+use lib.Ieee.{Float}
+use Rattle.level.specs.declared.Spacing.{Spacing}
+use Rattle.level.specs.declared.Segments.{Segments}
+use Rattle.patch.specs.Counted.{Counted}
 use Rattle.patch.specs.Subdivide.{subdivision}
 use Rattle.patch.proofs.Every.{total, every-one, not-every-one}
-use Rattle.patch.proofs.Counts.{count, least, counted}
+use Rattle.patch.proofs.Counts.{count, least}
 use Rattle.patch.proofs.subdivision.triangle.Statement.{statement}
 use Rattle.patch.proofs.subdivision.triangle.Tie as tie
+
+-- the counts of the code's sum are those of `total`
+summed : {s : Spacing} {a b c i : Float} {p q r t : Segments} → Counted s a p → Counted s b q → Counted s c r → Counted s i t
+    → total (count s) (a ∷ b ∷ c ∷ i ∷ []) ≡ p .count + q .count + r .count + t .count
+unfolding total
+summed k1 k2 k3 k4 = omega arith
 
 discards3-requires : tie.Need-discards3-requires
 discards3-requires c κs = search needs
@@ -28,41 +40,47 @@ segments-of-requires-4 : tie.Need-segments-of-requires-4
 segments-of-requires-4 c κs = search needs
 
 add-if2 : tie.Need-add-if2
-add-if2 c =
-    let a = c .before .before .before .before .before .before .before .before .args in
-    omega (arith, counted (a .spacing) (a .outer0) (c .before .before .before .before .before .segments-of .result) (c .before .before .before .before .before .segments-of .ensures), counted (a .spacing) (a .outer1) (c .before .before .before .before .segments-of2 .result) (c .before .before .before .before .segments-of2 .ensures))
+add-if2 c = search needs
 
 add-if2-2 : tie.Need-add-if2-2
-add-if2-2 c =
-    let a = c .before .before .before .before .before .before .before .before .before .args in
-    omega (arith, counted (a .spacing) (a .outer0) (c .before .before .before .before .before .before .segments-of .result) (c .before .before .before .before .before .before .segments-of .ensures), counted (a .spacing) (a .outer1) (c .before .before .before .before .before .segments-of2 .result) (c .before .before .before .before .before .segments-of2 .ensures), counted (a .spacing) (a .outer2) (c .before .before .before .before .segments-of3 .result) (c .before .before .before .before .segments-of3 .ensures))
+add-if2-2 c = search needs
 
 add-if2-3 : tie.Need-add-if2-3
-add-if2-3 c =
-    let a = c .before .before .before .before .before .before .before .before .before .before .args in
-    omega (arith, counted (a .spacing) (a .outer0) (c .before .before .before .before .before .before .before .segments-of .result) (c .before .before .before .before .before .before .before .segments-of .ensures), counted (a .spacing) (a .outer1) (c .before .before .before .before .before .before .segments-of2 .result) (c .before .before .before .before .before .before .segments-of2 .ensures), counted (a .spacing) (a .outer2) (c .before .before .before .before .before .segments-of3 .result) (c .before .before .before .before .before .segments-of3 .ensures), counted (a .spacing) (a .inner0) (c .before .before .before .before .segments-of4 .result) (c .before .before .before .before .segments-of4 .ensures))
+add-if2-3 c = search needs
 
 returns-2 : tie.Need-returns-2
-unfolding subdivision total
+unfolding subdivision
 returns-2 c =
-    let a = c .before .before .before .before .before .before .before .before .before .before .before .args in
-    rw (
-      ← c .before .before .before .before .before .before .before .before .before .before .discards3 .ensures,
-      c .before .before .before .before .before .before .before .before .before .if1 .left,
-      every-one (count (a .spacing)) (least (a .spacing)) (a .outer0 ∷ a .outer1 ∷ a .outer2 ∷ a .inner0 ∷ [])
-          (omega (arith, counted (a .spacing) (a .outer0) (c .before .before .before .before .before .before .before .before .segments-of .result) (c .before .before .before .before .before .before .before .before .segments-of .ensures), counted (a .spacing) (a .outer1) (c .before .before .before .before .before .before .before .segments-of2 .result) (c .before .before .before .before .before .before .before .segments-of2 .ensures), counted (a .spacing) (a .outer2) (c .before .before .before .before .before .before .segments-of3 .result) (c .before .before .before .before .before .before .segments-of3 .ensures), counted (a .spacing) (a .inner0) (c .before .before .before .before .before .segments-of4 .result) (c .before .before .before .before .before .segments-of4 .ensures))),
-    )
+    let e4 = c .before .before .before .before .before in
+    let e3 = e4 .before in
+    let e2 = e3 .before in
+    let e1 = e2 .before in
+    let a = e1 .before .before .before .args in
+    let sum = summed (e1 .segments-of .ensures) (e2 .segments-of2 .ensures) (e3 .segments-of3 .ensures) (e4 .segments-of4 .ensures) in
+    rw (← e1 .before .before .discards3 .ensures, e1 .before .if1 .left, every-one (count (a .spacing)) (least (a .spacing)) (a .outer0 ∷ a .outer1 ∷ a .outer2 ∷ a .inner0 ∷ []) (sum ∙ c .if2 .taken))
 
 as-inner-requires : tie.Need-as-inner-requires
 as-inner-requires c κs = search needs
 
 returns-3 : tie.Need-returns-3
-unfolding subdivision total
+unfolding subdivision
 returns-3 c =
-    let a = c .before .before .before .before .before .before .before .before .before .before .before .before .args in
-    let more = not-every-one (count (a .spacing)) (least (a .spacing)) (a .outer0 ∷ a .outer1 ∷ a .outer2 ∷ a .inner0 ∷ [])
-    (λ e. c .before .if2 .left (omega (arith, counted (a .spacing) (a .outer0) (c .before .before .before .before .before .before .before .before .before .segments-of .result) (c .before .before .before .before .before .before .before .before .before .segments-of .ensures), counted (a .spacing) (a .outer1) (c .before .before .before .before .before .before .before .before .segments-of2 .result) (c .before .before .before .before .before .before .before .before .segments-of2 .ensures), counted (a .spacing) (a .outer2) (c .before .before .before .before .before .before .before .segments-of3 .result) (c .before .before .before .before .before .before .before .segments-of3 .ensures), counted (a .spacing) (a .inner0) (c .before .before .before .before .before .before .segments-of4 .result) (c .before .before .before .before .before .before .segments-of4 .ensures)))) in
-    rw (← c .before .before .before .before .before .before .before .before .before .before .before .discards3 .ensures, c .before .before .before .before .before .before .before .before .before .before .if1 .left, more, ← c .before .before .before .before .before .before .before .before .before .segments-of .ensures, ← c .before .before .before .before .before .before .before .before .segments-of2 .ensures, ← c .before .before .before .before .before .before .before .segments-of3 .ensures, ← c .before .before .before .before .before .before .segments-of4 .ensures, ← c .as-inner .ensures)
+    let e4 = c .before .before .before .before .before .before in
+    let e3 = e4 .before in
+    let e2 = e3 .before in
+    let e1 = e2 .before in
+    let a = e1 .before .before .before .args in
+    let sum = summed (e1 .segments-of .ensures) (e2 .segments-of2 .ensures) (e3 .segments-of3 .ensures) (e4 .segments-of4 .ensures) in
+    rw (
+      ← e1 .before .before .discards3 .ensures,
+      e1 .before .if1 .left,
+      not-every-one (count (a .spacing)) (least (a .spacing)) (a .outer0 ∷ a .outer1 ∷ a .outer2 ∷ a .inner0 ∷ []) (λ e. c .before .if2 .left (sym sum ∙ e)),
+      ← e1 .segments-of .ensures .all,
+      ← e2 .segments-of2 .ensures .all,
+      ← e3 .segments-of3 .ensures .all,
+      ← e4 .segments-of4 .ensures .all,
+      ← c .as-inner .ensures,
+    )
 
 pub triangle-spec : {M : Type 1} → statement M
 triangle-spec =

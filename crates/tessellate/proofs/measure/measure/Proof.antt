@@ -24,15 +24,19 @@ point-count-requires c κs = let a = c .before .before .before .args in valid (a
 index-count-requires : tie.Need-index-count-requires
 index-count-requires c κs = let a = c .before .before .before .before .args in valid (a .settings) (a .patch) (c .before .before .before .subdivide .result) (c .before .before .before .subdivide .ensures)
 
+clamps-of-requires : tie.Need-clamps-of-requires
+clamps-of-requires c κs = search needs
+
 returns-2 : tie.Need-returns-2
 unfolding measured
 returns-2 c =
-    let a = c .before .before .before .before .before .args in
-    let cut = c .before .before .before .before .subdivide in
+    let a = c .before .before .before .before .before .before .args in
+    let cut = c .before .before .before .before .before .subdivide in
     rw (
-      flag (a .settings) (a .patch) (cut .result) (cut .ensures) (c .before .before .before .is-discarded .ensures) (c .before .before .if1 .left),
-      ← many-points (a .settings) (a .patch) (cut .result) (cut .ensures) (c .before .point-count .ensures),
-      ← many-indices (a .settings) (a .patch) (cut .result) (cut .ensures) (c .index-count .ensures),
+      flag (a .settings) (a .patch) (cut .result) (cut .ensures) (c .before .before .before .before .is-discarded .ensures) (c .before .before .before .if1 .left),
+      ← many-points (a .settings) (a .patch) (cut .result) (cut .ensures) (c .before .before .point-count .ensures),
+      ← many-indices (a .settings) (a .patch) (cut .result) (cut .ensures) (c .before .index-count .ensures),
+      c .clamps-of .ensures,
     )
 
 pub measure-spec : {M : Type 1} → statement M
@@ -44,4 +48,5 @@ measure-spec =
     returns
     point-count-requires
     index-count-requires
+    clamps-of-requires
     returns-2)

@@ -8,17 +8,17 @@ use lib.Ieee.Positive.{positive, between, le-trans-positive}
 use Rattle.level.specs.Clamp.{lowest, highest, clamped, clampedLevel, Within, From1To64}
 use Rattle.level.specs.declared.Spacing.{Spacing}
 use Rattle.level.specs.declared.Spacing.the-variants.{Equal, FractionalEven, FractionalOdd}
-use Rattle.level.proofs.Order.{not-below, lt-le, numbers, le-itself}
+use Rattle.level.proofs.Order.{not-below, numbers, le-itself}
 
 -- ---- any range
 pub clamped-within : (lo hi x : Float) → T (le lo hi) → Within lo hi (clamped lo hi x)
-clamped-within lo hi x r = go (lt lo x) (lt hi x) refl refl
+clamped-within lo hi x r = go (le lo x) (lt hi x) refl refl
   where
-    go : (t u : Bool) → lt lo x ≡ t → lt hi x ≡ u → Within lo hi (cond t (cond u hi x) lo)
+    go : (t u : Bool) → le lo x ≡ t → lt hi x ≡ u → Within lo hi (cond t (cond u hi x) lo)
     go false u p q = record { least = le-itself lo (numbers lo hi r .0); most = r }
     go true true p q = record { least = r; most = le-itself hi (numbers lo hi r .1) }
     go true false p q =
-        let low : T (le lo x) = lt-le lo x (rw p tt) in
+        let low : T (le lo x) = rw p tt in
         record { least = low; most = rw (← not-below x hi (numbers lo x low .1) (numbers lo hi r .1), q) tt }
 
 -- ---- the range of a spacing
@@ -54,22 +54,19 @@ level-from-1-to-64 s x =
     }
 
 -- ---- a NaN takes the low end, and so does negative infinity; infinity takes the high end
-not-above : (lo : Float) → (lt lo nan ≡ false) × (lt lo (inf true) ≡ false)
-unfolding lt
-not-above nan = (refl, refl)
-not-above (inf true) = (refl, refl)
-not-above (inf false) = (refl, refl)
-not-above (fin s m e) = (refl, refl)
+pub not-above : (lo : Float) → T (positive lo) → (le lo nan ≡ false) × (le lo (inf true) ≡ false)
+unfolding le
+not-above (fin false m e) p = (refl, refl)
 
-under-infinity : (x : Float) → T (positive x) → lt x (inf false) ≡ true
-unfolding lt
-under-infinity (fin false m e) p = refl
+pub under-infinity : (x : Float) → T (positive x) → (lt x (inf false) ≡ true) × (le x (inf false) ≡ true)
+unfolding lt le
+under-infinity (fin false m e) p = (refl, refl)
 
 pub level-nan : (s : Spacing) → clampedLevel s nan ≡ lowest s
-level-nan s = rw (not-above (lowest s) .0)
+level-nan s = rw (not-above (lowest s) (ends s .low) .0)
 
 pub level-negative-infinity : (s : Spacing) → clampedLevel s (inf true) ≡ lowest s
-level-negative-infinity s = rw (not-above (lowest s) .1)
+level-negative-infinity s = rw (not-above (lowest s) (ends s .low) .1)
 
 pub level-infinity : (s : Spacing) → clampedLevel s (inf false) ≡ highest s
-level-infinity s = rw (under-infinity (lowest s) (ends s .low), under-infinity (highest s) (ends s .high))
+level-infinity s = rw (under-infinity (lowest s) (ends s .low) .1, under-infinity (highest s) (ends s .high) .0)

@@ -1,0 +1,75 @@
+// Which of a patch's levels lie outside their spacing's range.
+ghost use mathlib.Core.Path.{_≡_};
+ghost use Rattle.level.specs.Clamp.{clampOf};
+ghost use Rattle.patch.specs.Clamps.{clampsOf};
+use crate::kinds::Patch;
+use level::Clamp;
+use level::Spacing;
+
+// Where each level that counts lies, by the patch's kind and the levels' names in `Patch`.
+pub enum Clamps {
+    Triangles {
+        outer0: Clamp,
+        outer1: Clamp,
+        outer2: Clamp,
+        inner0: Clamp,
+    },
+    Quads {
+        outer0: Clamp,
+        outer1: Clamp,
+        outer2: Clamp,
+        outer3: Clamp,
+        inner0: Clamp,
+        inner1: Clamp,
+    },
+    Isolines {
+        outer0: Clamp,
+        outer1: Clamp,
+    },
+}
+
+// Where a level lies.
+fn clamp_of(level: f32, spacing: Spacing) -> Clamp
+    ensures { λ r. ⌜ r ≡ clampOf spacing level ⌝ }
+{
+    let clamped = level::segments_of(level, spacing);
+    clamped.clamp
+}
+
+// Where each level lies, whether or not the patch is discarded. The number of isolines has equal spacing whatever is asked.
+pub fn clamps_of(patch: Patch, spacing: Spacing) -> Clamps
+    ensures { λ r. ⌜ r ≡ clampsOf spacing patch ⌝ }
+{
+    match patch {
+        Patch::Triangles {
+            outer0,
+            outer1,
+            outer2,
+            inner0,
+        } => Clamps::Triangles {
+            outer0: clamp_of(outer0, spacing),
+            outer1: clamp_of(outer1, spacing),
+            outer2: clamp_of(outer2, spacing),
+            inner0: clamp_of(inner0, spacing),
+        },
+        Patch::Quads {
+            outer0,
+            outer1,
+            outer2,
+            outer3,
+            inner0,
+            inner1,
+        } => Clamps::Quads {
+            outer0: clamp_of(outer0, spacing),
+            outer1: clamp_of(outer1, spacing),
+            outer2: clamp_of(outer2, spacing),
+            outer3: clamp_of(outer3, spacing),
+            inner0: clamp_of(inner0, spacing),
+            inner1: clamp_of(inner1, spacing),
+        },
+        Patch::Isolines { outer0, outer1 } => Clamps::Isolines {
+            outer0: clamp_of(outer0, Spacing::Equal),
+            outer1: clamp_of(outer1, spacing),
+        },
+    }
+}
