@@ -5,7 +5,7 @@
  *     static uint32_t vertices[YOKTVARIM_VERTEX_WORDS];
  *     static uint16_t indices[YOKTVARIM_INDEX_WORDS];
  *     yoktvarim_settings settings = { YOKTVARIM_TRIANGLES, YOKTVARIM_EQUAL, YOKTVARIM_COUNTER_CLOCKWISE,
- *                                     YOKTVARIM_LOWER_LEFT, YOKTVARIM_PRIMITIVES };
+ *                                     YOKTVARIM_LOWER_LEFT, YOKTVARIM_PRIMITIVES, YOKTVARIM_GREATEST_TOP };
  *     yoktvarim_levels levels = { { 1, 1, 1 }, { 2 } };
  *     uint32_t counts[2];
  *     if (yoktvarim_is_drawn(yoktvarim_draw(&settings, &levels, vertices, YOKTVARIM_VERTEX_WORDS,
@@ -39,7 +39,8 @@ typedef enum yoktvarim_answer {
     /* 2 meant more points than an index can number, which no patch has; it is not used again */
     YOKTVARIM_NO_ROOM_FOR_VERTICES = 3, /* the vertex list has under 3 words a point */
     YOKTVARIM_NO_ROOM_FOR_INDICES = 4,  /* the index list is too short */
-    YOKTVARIM_UNKNOWN_SETTING = 8       /* counts[0] is the place, 0 to 4, of the first setting that is out of range */
+    YOKTVARIM_UNKNOWN_SETTING = 8,      /* counts[0] is the place, 0 to 4, of the first setting that is out of range */
+    YOKTVARIM_BAD_TOP = 11              /* the top is not an even number from 2 to 64 */
 } yoktvarim_answer;
 
 /* Values of yoktvarim_settings.kind, and the levels that count for each; the others are ignored. */
@@ -74,13 +75,19 @@ enum yoktvarim_point_mode {
     YOKTVARIM_POINTS = 1      /* each point once: the indices 0, 1, 2 and on */
 };
 
-/* Five bytes, in this order. */
+/* The greatest value of yoktvarim_settings.top. */
+enum {
+    YOKTVARIM_GREATEST_TOP = 64
+};
+
+/* Six bytes, in this order. A struct filled with zeros has the top 0, which is answered with YOKTVARIM_BAD_TOP. */
 typedef struct yoktvarim_settings {
     uint8_t kind;
     uint8_t spacing;
     uint8_t vertex_order;
     uint8_t domain_origin;
     uint8_t point_mode;
+    uint8_t top; /* the most segments a level gives, one less with odd spacing: an even number from 2 to 64 */
 } yoktvarim_settings;
 
 /* The tessellation levels. Any value is allowed, NaN and the infinities too. */
@@ -89,8 +96,9 @@ typedef struct yoktvarim_levels {
     float inner[2];
 } yoktvarim_levels;
 
-/* Values of yoktvarim_clamps: where a level lies against the range it is clamped to, whose ends are inside. The range is 1 to 64
- * for equal spacing, 2 to 64 for fractional even, 1 to 63 for fractional odd; that of the number of isolines is always 1 to 64. */
+/* Values of yoktvarim_clamps: where a level lies against the range it is clamped to, whose ends are inside. The range is 1 to the
+ * top for equal spacing, 2 to the top for fractional even, 1 to one less than the top for fractional odd; that of the number of
+ * isolines is always that of equal spacing. */
 enum yoktvarim_clamp {
     YOKTVARIM_NOT_TOLD = 0, /* the level does not count for the kind, or the patch was not measured */
     YOKTVARIM_BELOW = 1,    /* the low end was taken instead, for an inner NaN too */
@@ -104,7 +112,7 @@ typedef struct yoktvarim_clamps {
     uint8_t inner[2];
 } yoktvarim_clamps;
 
-/* Lists of these sizes have room for every patch: 4,225 points of 3 words each, and 8,192 triangles. */
+/* Lists of these sizes have room for every patch at every top: 4,225 points of 3 words each, and 8,192 triangles. */
 enum {
     YOKTVARIM_VERTEX_WORDS = 12675,
     YOKTVARIM_INDEX_WORDS = 24576
@@ -120,10 +128,12 @@ enum {
  * and what is written (the two lists, counts and clamps) overlaps nothing else that is passed. Nothing else is asked, whatever
  * the numbers are, and nothing is kept once the call is over.
  *
- * counts[0] and counts[1] are always written. Beside DRAWN and MEASURED they are the two counts, beside UNKNOWN_SETTING the setting's place
- * and 0, and beside every other answer 0 and 0. */
+ * BAD_TOP is told before everything else, UNKNOWN_SETTING next, and of the other answers the lowest number that applies.
+ *
+ * counts[0] and counts[1] are always written. Beside DRAWN and MEASURED they are the two counts, beside UNKNOWN_SETTING the
+ * setting's place and 0, and beside every other answer 0 and 0. */
 
-/* How many points and indices drawing would write, without lists: MEASURED, DISCARDED or UNKNOWN_SETTING.
+/* How many points and indices drawing would write, without lists: MEASURED, DISCARDED, UNKNOWN_SETTING or BAD_TOP.
  * Drawing then needs 3 * counts[0] words for vertices and counts[1] for indices.
  * All of clamps is always written: beside MEASURED, BELOW, INSIDE or ABOVE for each level that counts, and NOT_TOLD elsewhere. */
 YOKTVARIM_MUST_USE yoktvarim_answer yoktvarim_measure(const yoktvarim_settings *settings, const yoktvarim_levels *levels,
@@ -131,7 +141,7 @@ YOKTVARIM_MUST_USE yoktvarim_answer yoktvarim_measure(const yoktvarim_settings *
 
 /* Writes the patch: points as three words u, v, w to the front of vertices, which has vertex_words words, and indices that
  * number those points from 0 to the front of indices, which has index_words words. Words past the counts stay as they were.
- * Every answer but DRAWN leaves both lists as they were. The lowest number that applies is the one given. */
+ * Every answer but DRAWN leaves both lists as they were. */
 YOKTVARIM_MUST_USE yoktvarim_answer yoktvarim_draw(const yoktvarim_settings *settings, const yoktvarim_levels *levels,
                                                    uint32_t *vertices, size_t vertex_words, uint16_t *indices,
                                                    size_t index_words, uint32_t *counts);
@@ -144,7 +154,7 @@ YOKTVARIM_MUST_USE static inline unsigned yoktvarim_is_drawn(yoktvarim_answer an
 
 /* The library reads and writes exactly this. */
 YOKTVARIM_ASSERT(sizeof(yoktvarim_answer) == 4, "an answer is 32 bits: compile without -fshort-enums");
-YOKTVARIM_ASSERT(sizeof(yoktvarim_settings) == 5, "five setting bytes");
+YOKTVARIM_ASSERT(sizeof(yoktvarim_settings) == 6, "six setting bytes");
 YOKTVARIM_ASSERT(sizeof(yoktvarim_levels) == 24, "six 32-bit floats");
 YOKTVARIM_ASSERT(sizeof(yoktvarim_clamps) == 6, "a byte for each level");
 YOKTVARIM_ASSERT(sizeof(size_t) == 8, "64-bit lengths");

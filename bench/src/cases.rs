@@ -3,8 +3,8 @@
 /// A patch with its settings, as the proved library takes them.
 pub struct Case {
     pub name: &'static str,
-    /// Kind, spacing, vertex order, domain origin, point mode: the job file's values.
-    pub settings: [u8; 5],
+    /// Kind, spacing, vertex order, domain origin, point mode, top: the job file's values.
+    pub settings: [u8; 6],
     pub levels: [f32; 6],
     /// Instructions of Mesa 22.3.6's tessellator (O3) for the same patch, where they were measured.
     pub mesa: Option<u64>,
@@ -17,6 +17,8 @@ const QUADS: u8 = 1;
 const ISOLINES: u8 = 2;
 const EQUAL: u8 = 0;
 const ODD: u8 = 2;
+/// The top that Mesa's counts are for.
+const TOP: u8 = 64;
 
 const fn case(
     name: &'static str,
@@ -28,7 +30,7 @@ const fn case(
 ) -> Case {
     Case {
         name,
-        settings: [kind, spacing, 1, 1, 0],
+        settings: [kind, spacing, 1, 1, 0, TOP],
         levels,
         mesa,
         part,

@@ -37,6 +37,7 @@ fn settings_of(case: &Case) -> Settings {
         vertex_order: VertexOrder::CounterClockwise,
         domain_origin: DomainOrigin::LowerLeft,
         point_mode: false,
+        top: u32::from(case.settings[5]),
     }
 }
 

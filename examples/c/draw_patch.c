@@ -1,4 +1,5 @@
-/* Draws one triangle patch and prints it, measures it and one with clamped levels, then meets each answer that is no drawing. */
+/* Draws one triangle patch and prints it, measures it and one with clamped levels at two tops, then meets each answer that is
+ * no drawing. */
 #include <inttypes.h>
 #include <stdio.h>
 
@@ -30,6 +31,9 @@ static void show(const yoktvarim_settings *settings, const yoktvarim_levels *lev
         break;
     case YOKTVARIM_UNKNOWN_SETTING:
         printf("unknown setting at place %" PRIu32 "\n", counts[0]);
+        break;
+    case YOKTVARIM_BAD_TOP:
+        printf("bad top\n");
         break;
     }
 }
@@ -69,6 +73,7 @@ int main(void)
         .vertex_order = YOKTVARIM_COUNTER_CLOCKWISE,
         .domain_origin = YOKTVARIM_LOWER_LEFT,
         .point_mode = YOKTVARIM_PRIMITIVES,
+        .top = YOKTVARIM_GREATEST_TOP,
     };
     yoktvarim_levels levels = { .outer = { 1, 1, 1 }, .inner = { 2 } };
 
@@ -87,10 +92,20 @@ int main(void)
     if (!show_size(&settings, &clamped, counts))
         return 1;
 
+    /* With the top 16 that range is 1 to 16, and 64 counts as 16 too. */
+    yoktvarim_settings up_to_16 = settings;
+    up_to_16.top = 16;
+    if (!show_size(&up_to_16, &clamped, counts))
+        return 1;
+
     levels.outer[1] = 0;
     show(&settings, &levels, YOKTVARIM_VERTEX_WORDS, YOKTVARIM_INDEX_WORDS);
 
     settings.spacing = 3;
+    show(&settings, &levels, YOKTVARIM_VERTEX_WORDS, YOKTVARIM_INDEX_WORDS);
+
+    /* A top is an even number from 2 to 64; any other is told before everything else, here the spacing. */
+    settings.top = 15;
     show(&settings, &levels, YOKTVARIM_VERTEX_WORDS, YOKTVARIM_INDEX_WORDS);
     return 0;
 }

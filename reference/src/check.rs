@@ -59,15 +59,21 @@ pub struct Asked {
     pub vertex_order: u8,
     pub origin: u8,
     pub point_mode: u8,
+    pub top: u8,
     pub outer: [f32; 4],
 }
 
 impl Asked {
-    /// Section "Job file": settings and outer levels; `None` for settings out
-    /// of range.
+    /// Section "Job file" and Ask 10: settings and outer levels; `None` for
+    /// settings out of range. A record of 29 bytes goes without a top, and 64
+    /// stands in; in one of 30 bytes it is the sixth.
     pub fn read(bytes: &[u8]) -> Option<Asked> {
+        let (top, first_level) = match bytes.len() {
+            29 => (64, 5),
+            _ => (bytes[5], 6),
+        };
         let level = |place: usize| {
-            let at = 5 + 4 * place;
+            let at = first_level + 4 * place;
             f32::from_le_bytes([bytes[at], bytes[at + 1], bytes[at + 2], bytes[at + 3]])
         };
         let asked = Asked {
@@ -76,13 +82,15 @@ impl Asked {
             vertex_order: bytes[2],
             origin: bytes[3],
             point_mode: bytes[4],
+            top,
             outer: [level(0), level(1), level(2), level(3)],
         };
         let known = asked.kind <= 2
             && asked.spacing <= 2
             && asked.vertex_order <= 1
             && asked.origin <= 1
-            && asked.point_mode <= 1;
+            && asked.point_mode <= 1
+            && (1..=32).any(|half| asked.top == 2 * half);
         known.then_some(asked)
     }
 
@@ -108,11 +116,12 @@ impl Asked {
 }
 
 /// q(0) to q(n) of one level of an outer edge.
-pub fn places(level: f32, spacing: u8) -> Vec<i64> {
+pub fn places(level: f32, spacing: u8, top: u8) -> Vec<i64> {
+    let top = f64::from(top);
     let (low, high, step, first) = match spacing {
-        0 => (1.0, 64.0, 1, 1),
-        1 => (2.0, 64.0, 2, 2),
-        _ => (1.0, 63.0, 2, 1),
+        0 => (1.0, top, 1, 1),
+        1 => (2.0, top, 2, 2),
+        _ => (1.0, top - 1.0, 2, 1),
     };
     // An f32 from 1 to 64 times 65,536 is exact in f64.
     let scaled = f64::from(level).max(low).min(high) * 65_536.0;
@@ -205,7 +214,7 @@ fn check_edges(asked: &Asked, points: &[Point]) -> Result<(), String> {
             }
         }
         found.sort_unstable();
-        let expected = places(*level, asked.spacing);
+        let expected = places(*level, asked.spacing, asked.top);
         if found != expected {
             return Err(format!(
                 "edge {e} has places {found:?}, expected {expected:?}"
@@ -223,7 +232,7 @@ fn check_edges(asked: &Asked, points: &[Point]) -> Result<(), String> {
 fn outline(asked: &Asked) -> Vec<Point> {
     let mut all = Vec::new();
     for (e, level) in asked.outer_levels().iter().enumerate() {
-        let mut edge = places(*level, asked.spacing);
+        let mut edge = places(*level, asked.spacing, asked.top);
         edge.pop();
         all.extend(edge.iter().map(|place| point_at(asked.kind, e, *place)));
     }
@@ -461,7 +470,7 @@ pub fn check(job: &[u8], text: impl BufRead) -> Result<Summary, Fault> {
     Ok(summary)
 }
 
-/// Section "Job file": the order of answers, and where they stop.
+/// Section "Job file" and Ask 10: the order of answers, and where they stop.
 fn check_all<R: BufRead>(
     job: &[u8],
     lines: &mut Lines<R>,
@@ -469,13 +478,14 @@ fn check_all<R: BufRead>(
 ) -> Result<(), String> {
     if !job.starts_with(b"TSJ") || job.len() < 5 {
         lines.expect("refused 5")?;
-    } else if !job.starts_with(b"TSJ\x01\x00") {
+    } else if job[4] != 0 || !matches!(job[3], 1 | 2) {
         lines.expect("refused 6")?;
     } else {
-        lines.expect("TSJ 1")?;
-        for bytes in job[5..].chunks(29) {
+        lines.expect(&format!("TSJ {}", job[3]))?;
+        let length = 28 + usize::from(job[3]);
+        for bytes in job[5..].chunks(length) {
             summary.records += 1;
-            if bytes.len() < 29 {
+            if bytes.len() < length {
                 lines.expect("refused 7")?;
             } else if let Some(asked) = Asked::read(bytes) {
                 if check_record(&asked, lines)? {

@@ -2,12 +2,13 @@
 
 use crate::clamps::Clamps;
 use crate::mesh::{Mesh, Primitives};
-use crate::patch::{Patch, Settings};
+use crate::patch::{is_top, Patch, Settings};
 use crate::{isolines, quads, triangles};
 
 /// What a patch comes to when room plays no part.
 #[derive(Clone, Debug, PartialEq, Eq)]
 pub enum Answer {
+    BadTop,
     Discarded,
     Drawn {
         points: Vec<[u32; 3]>,
@@ -18,6 +19,7 @@ pub enum Answer {
 /// What measuring answers; a discarded patch has nothing to say of its levels.
 #[derive(Clone, Copy, Debug, PartialEq, Eq)]
 pub enum Measure {
+    BadTop,
     Discarded,
     Counts {
         points: usize,
@@ -33,28 +35,31 @@ pub enum Drawing {
     Discarded,
     NoRoomForVertices,
     NoRoomForIndices,
+    BadTop,
 }
 
 impl Drawing {
-    /// Section "What the cutter says": the number of each answer. 2 belonged to
-    /// an answer that Ask 6 took out, and stays unused.
+    /// Section "What the cutter says" and Ask 10: the number of each answer. 2
+    /// belonged to an answer that Ask 6 took out, and stays unused.
     pub fn number(&self) -> u32 {
         match self {
             Drawing::Drawn { .. } => 0,
             Drawing::Discarded => 1,
             Drawing::NoRoomForVertices => 3,
             Drawing::NoRoomForIndices => 4,
+            Drawing::BadTop => 11,
         }
     }
 }
 
-/// The mesh of a patch that is not discarded, before vertex order and point
-/// mode are looked at.
+/// The mesh of a patch that is not discarded, cut up to a top that is one,
+/// before vertex order and point mode are looked at.
 fn build(patch: &Patch, settings: &Settings) -> Mesh {
+    let (spacing, top) = (settings.spacing, settings.top);
     match *patch {
-        Patch::Triangles { outer, inner } => triangles::build(outer, inner, settings.spacing),
-        Patch::Quads { outer, inner } => quads::build(outer, inner, settings.spacing),
-        Patch::Isolines { outer } => isolines::build(outer, settings.spacing),
+        Patch::Triangles { outer, inner } => triangles::build(outer, inner, spacing, top),
+        Patch::Quads { outer, inner } => quads::build(outer, inner, spacing, top),
+        Patch::Isolines { outer } => isolines::build(outer, spacing, top),
     }
 }
 
@@ -80,8 +85,12 @@ fn indices(mesh: &Mesh, settings: &Settings) -> Vec<u32> {
     }
 }
 
-/// Section "What the cutter says", answers 0 and 1, for lists without end.
+/// Section "What the cutter says", answers 0 and 1, for lists without end, and
+/// Ask 10's refusal before either.
 pub fn tessellate(patch: &Patch, settings: &Settings) -> Answer {
+    if !is_top(settings.top) {
+        return Answer::BadTop;
+    }
     if patch.is_discarded() {
         return Answer::Discarded;
     }
@@ -98,19 +107,20 @@ pub fn tessellate(patch: &Patch, settings: &Settings) -> Answer {
 /// level (Ask 9).
 pub fn measure(patch: &Patch, settings: &Settings) -> Measure {
     match tessellate(patch, settings) {
+        Answer::BadTop => Measure::BadTop,
         Answer::Discarded => Measure::Discarded,
         Answer::Drawn { points, indices } => Measure::Counts {
             points: points.len(),
             indices: indices.len(),
-            levels: Clamps::of(patch, settings.spacing),
+            levels: Clamps::of(patch, settings),
         },
     }
 }
 
-/// Section "What the cutter says": the lowest of the answers 0, 1, 3 and 4 that
-/// applies. The lists change only when the answer is "drawn", and then only
-/// as far as the counts go. No patch has more than 4,225 points, so every index
-/// fits in a u16.
+/// Ask 10's 11 where the top is none; else, by section "What the cutter says",
+/// the lowest of the answers 0, 1, 3 and 4 that applies. The lists change only
+/// when the answer is "drawn", and then only as far as the counts go. No patch
+/// has more than 4,225 points, so every index fits in a u16.
 pub fn draw(
     patch: &Patch,
     settings: &Settings,
@@ -118,6 +128,7 @@ pub fn draw(
     index_list: &mut [u16],
 ) -> Drawing {
     let (points, indices) = match tessellate(patch, settings) {
+        Answer::BadTop => return Drawing::BadTop,
         Answer::Discarded => return Drawing::Discarded,
         Answer::Drawn { points, indices } => (points, indices),
     };

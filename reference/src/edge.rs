@@ -30,7 +30,7 @@ mod tests {
     use crate::patch::Spacing::{self, *};
 
     fn at_level(level: f32, spacing: Spacing) -> Vec<u32> {
-        positions(division(level, spacing))
+        positions(division(level, spacing, 64))
     }
 
     #[test]

@@ -25,20 +25,22 @@ pub struct Segments {
     pub clamp: Clamp,
 }
 
-/// Section "From a level to a number of segments": the clamp of each spacing.
-fn clamp_range(spacing: Spacing) -> (u32, u32) {
+/// Section "From a level to a number of segments": the clamp of each spacing,
+/// with Ask 10's top level for the greatest one. The top is even, so the
+/// greatest odd number is one less.
+fn clamp_range(spacing: Spacing, top: u32) -> (u32, u32) {
     match spacing {
-        Spacing::Equal => (1, 64),
-        Spacing::FractionalEven => (2, 64),
-        Spacing::FractionalOdd => (1, 63),
+        Spacing::Equal => (1, top),
+        Spacing::FractionalEven => (2, top),
+        Spacing::FractionalOdd => (1, top - 1),
     }
 }
 
 /// Same section, and Ask 9: the level after the clamp, counted in steps of
 /// 2^-23, and what the clamp found. The count is read off the sign, exponent and
 /// fraction bits of the f32. A NaN counts as lying below the range.
-fn clamped_parts(level: f32, spacing: Spacing) -> (u32, Clamp) {
-    let (low, high) = clamp_range(spacing);
+fn clamped_parts(level: f32, spacing: Spacing, top: u32) -> (u32, Clamp) {
+    let (low, high) = clamp_range(spacing, top);
     let (low, high) = (low << 23, high << 23);
     let bits = level.to_bits();
     let negative = bits >> 31 == 1;
@@ -86,8 +88,8 @@ pub fn divide(l: u32, spacing: Spacing) -> Division {
 /// step counts as a whole one), then to segments. This is the rule for every
 /// outer level and the first look at an inner one; by Ask 9 that first look
 /// decides what is said of the clamp.
-pub fn segments(level: f32, spacing: Spacing) -> Segments {
-    let (parts, clamp) = clamped_parts(level, spacing);
+pub fn segments(level: f32, spacing: Spacing, top: u32) -> Segments {
+    let (parts, clamp) = clamped_parts(level, spacing, top);
     Segments {
         division: divide(parts.div_ceil(128), spacing),
         clamp,
@@ -96,8 +98,8 @@ pub fn segments(level: f32, spacing: Spacing) -> Segments {
 
 /// Same section: a level as it stands, for drawing, which has no use for the
 /// clamp's finding (Ask 9).
-pub fn division(level: f32, spacing: Spacing) -> Division {
-    segments(level, spacing).division
+pub fn division(level: f32, spacing: Spacing, top: u32) -> Division {
+    segments(level, spacing, top).division
 }
 
 /// Same section: an inner level that gave a single segment counts as the
@@ -114,6 +116,11 @@ pub fn widen_inner(inner: Division, spacing: Spacing) -> Division {
 mod tests {
     use super::*;
     use Spacing::*;
+
+    /// Levels up to 64.
+    fn division(level: f32, spacing: Spacing) -> Division {
+        super::division(level, spacing, 64)
+    }
 
     fn n(level: f32, spacing: Spacing) -> u32 {
         division(level, spacing).n
@@ -199,29 +206,48 @@ mod tests {
         }
     }
 
-    fn clamp(level: f32, spacing: Spacing) -> Clamp {
-        segments(level, spacing).clamp
+    /// Every spacing and top with its range, as the papers have it.
+    fn ranges() -> impl Iterator<Item = (Spacing, u32, f32, f32)> {
+        (2..=64).step_by(2).flat_map(|top| {
+            [
+                (Equal, top, 1.0, top as f32),
+                (FractionalEven, top, 2.0, top as f32),
+                (FractionalOdd, top, 1.0, top as f32 - 1.0),
+            ]
+        })
     }
 
     #[test]
     fn both_sides_of_both_ends() {
-        let ranges = [
-            (Equal, 1.0, 64.0),
-            (FractionalEven, 2.0, 64.0),
-            (FractionalOdd, 1.0, 63.0),
-        ];
-        for (spacing, low, high) in ranges {
-            assert_eq!(clamp(below(low), spacing), Clamp::Below);
-            assert_eq!(clamp(low, spacing), Clamp::Inside);
-            assert_eq!(clamp(above(low), spacing), Clamp::Inside);
-            assert_eq!(clamp(below(high), spacing), Clamp::Inside);
-            assert_eq!(clamp(high, spacing), Clamp::Inside);
-            assert_eq!(clamp(above(high), spacing), Clamp::Above);
-            assert_eq!(clamp(f32::NAN, spacing), Clamp::Below);
-            assert_eq!(clamp(-f32::NAN, spacing), Clamp::Below);
-            for bits in (0..=u32::MAX).step_by(65_521) {
+        for (spacing, top, low, high) in ranges() {
+            let clamp = |level: f32| segments(level, spacing, top).clamp;
+            assert_eq!(clamp(below(low)), Clamp::Below);
+            assert_eq!(clamp(low), Clamp::Inside);
+            assert_eq!(clamp(high), Clamp::Inside);
+            assert_eq!(clamp(above(high)), Clamp::Above);
+            assert_eq!(clamp(f32::NAN), Clamp::Below);
+            assert_eq!(clamp(-f32::NAN), Clamp::Below);
+            for bits in (0..=u32::MAX).step_by(1_048_573) {
                 let level = f32::from_bits(bits);
-                assert_eq!(clamp(level, spacing), compared(level, low, high));
+                assert_eq!(clamp(level), compared(level, low, high));
+            }
+        }
+    }
+
+    /// Ask 10: all that a lower top does is to end the range earlier.
+    #[test]
+    fn levels_above_a_top_count_as_its_end_and_others_stay() {
+        for (spacing, top, low, high) in ranges() {
+            for level in [0.5, low, below(high), high] {
+                let here = super::division(level, spacing, top);
+                assert_eq!(here, division(level, spacing));
+            }
+            let end = super::division(high, spacing, top);
+            assert_eq!((end.n, end.l), (high as u32, 65_536 * high as u32));
+            for level in [above(high), high + 1.0, 64.0, 1e9, f32::INFINITY] {
+                if level > high {
+                    assert_eq!(super::division(level, spacing, top), end);
+                }
             }
         }
     }

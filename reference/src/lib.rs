@@ -7,6 +7,7 @@
 
 pub mod check;
 pub mod clamps;
+pub mod damage;
 pub mod draw;
 pub mod edge;
 pub mod isolines;

@@ -5,14 +5,17 @@ use std::fs;
 use std::io::{self, BufWriter, Read, Write};
 use std::process::ExitCode;
 
-use reference::{check, job, measures, output, random, table, text};
+use reference::job::Version;
+use reference::{check, damage, measures, output, random, table, text};
 
 const USAGE: &str = "usage:
   reference cut                          job file on input, answers on output
   reference measure                      job file on input, counts and clamps on output
   reference make                         patch descriptions on input, job file on output
   reference random SEED COUNT            job file of COUNT random records on output
-  reference random SEED COUNT cut        the answers to that job file on output
+  reference random SEED COUNT 2          the same, of version 2
+  reference random SEED COUNT cut        the answers to the first of these on output
+  reference random SEED COUNT cut 2      the answers to the second
   reference random SEED NUMBER damaged   one damaged job file on output
   reference check JOBFILE                answers on input, checked against the job file
   reference table                        the positions for equal spacing on output";
@@ -24,8 +27,11 @@ fn main() -> ExitCode {
         ["cut"] => run_cut(),
         ["measure"] => run_measure(),
         ["make"] => run_make(),
-        ["random", seed, count] => run_random(seed, count, ""),
-        ["random", seed, count, what @ ("cut" | "damaged")] => run_random(seed, count, what),
+        ["random", seed, count] => run_random(seed, count, Version::One),
+        ["random", seed, count, "2"] => run_random(seed, count, Version::Two),
+        ["random", seed, count, "cut"] => run_random_cut(seed, count, Version::One),
+        ["random", seed, count, "cut", "2"] => run_random_cut(seed, count, Version::Two),
+        ["random", seed, count, "damaged"] => run_damaged(seed, count),
         ["check", path] => run_check(path),
         ["table"] => write_out(table::text().as_bytes()),
         _ => Err(USAGE.to_string()),
@@ -71,21 +77,24 @@ fn run_measure() -> Result<(), String> {
 
 fn run_make() -> Result<(), String> {
     let text = io::read_to_string(io::stdin()).map_err(say)?;
-    let records = text::records(&text)?;
-    write_out(&job::write_job(&records))
+    write_out(&text::job(&text)?.to_bytes())
 }
 
-fn run_random(seed: &str, count: &str, what: &str) -> Result<(), String> {
-    let number = |word: &str| {
-        word.parse::<u64>()
-            .map_err(|_| format!("\"{word}\" is not a whole number"))
-    };
-    let (seed, count) = (number(seed)?, number(count)?);
-    match what {
-        "cut" => write_answers(&random::job(seed, count)),
-        "damaged" => write_out(&random::damaged_job(seed, count)),
-        _ => write_out(&random::job(seed, count)),
-    }
+fn number(word: &str) -> Result<u64, String> {
+    word.parse()
+        .map_err(|_| format!("\"{word}\" is not a whole number"))
+}
+
+fn run_random(seed: &str, count: &str, version: Version) -> Result<(), String> {
+    write_out(&random::job(number(seed)?, number(count)?, version))
+}
+
+fn run_random_cut(seed: &str, count: &str, version: Version) -> Result<(), String> {
+    write_answers(&random::job(number(seed)?, number(count)?, version))
+}
+
+fn run_damaged(seed: &str, which: &str) -> Result<(), String> {
+    write_out(&damage::damaged_job(number(seed)?, number(which)?))
 }
 
 fn run_check(path: &str) -> Result<(), String> {

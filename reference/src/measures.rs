@@ -18,6 +18,7 @@ fn word(clamp: Clamp) -> &'static str {
 /// patch that could be read.
 fn patch_line(patch: &Patch, settings: &Settings) -> String {
     match measure(patch, settings) {
+        Measure::BadTop => unreachable!("no record with a bad top can be read"),
         Measure::Discarded => "discarded\n".to_string(),
         Measure::Counts {
             points,

@@ -9,6 +9,7 @@ use crate::patch::{Patch, Settings};
 /// Section "Job file": the lines for one patch that could be read.
 fn write_patch(patch: &Patch, settings: &Settings, out: &mut impl Write) -> io::Result<()> {
     let (points, indices) = match tessellate(patch, settings) {
+        Answer::BadTop => unreachable!("no record with a bad top can be read"),
         Answer::Discarded => return writeln!(out, "discarded"),
         Answer::Drawn { points, indices } => (points, indices),
     };
@@ -34,7 +35,7 @@ pub fn write_answers(job: &[u8], out: &mut impl Write) -> io::Result<()> {
         Ok(records) => records,
         Err(refusal) => return writeln!(out, "refused {}", refusal.number()),
     };
-    writeln!(out, "TSJ 1")?;
+    writeln!(out, "TSJ {}", records.version.number())?;
     for record in records {
         match record {
             Ok((patch, settings)) => write_patch(&patch, &settings, out)?,

@@ -31,12 +31,23 @@ pub enum DomainOrigin {
     LowerLeft,
 }
 
+/// Ask 10: the top level is part of the settings, and may hold any number here;
+/// the operations refuse those that are no top.
 #[derive(Clone, Copy, Debug, PartialEq, Eq)]
 pub struct Settings {
     pub spacing: Spacing,
     pub vertex_order: VertexOrder,
     pub domain_origin: DomainOrigin,
     pub point_mode: bool,
+    pub top: u32,
+}
+
+/// The top level where none can be chosen, and the greatest there is.
+pub const GREATEST_TOP: u32 = 64;
+
+/// Ask 10: the numbers that can be a top level, 2, 4 and on to 64.
+pub fn is_top(number: u32) -> bool {
+    number.is_multiple_of(2) && (2..=GREATEST_TOP).contains(&number)
 }
 
 impl Patch {

@@ -38,9 +38,9 @@ fn outline(outer: [Division; 4], points: &mut Vec<[u32; 3]>) -> Vec<Vec<u32>> {
 }
 
 /// Section "Quads": the whole patch, every triangle of positive area.
-pub fn build(outer: [f32; 4], inner: [f32; 2], spacing: Spacing) -> Mesh {
-    let outer = outer.map(|level| division(level, spacing));
-    let inner = inner.map(|level| division(level, spacing));
+pub fn build(outer: [f32; 4], inner: [f32; 2], spacing: Spacing, top: u32) -> Mesh {
+    let outer = outer.map(|level| division(level, spacing, top));
+    let inner = inner.map(|level| division(level, spacing, top));
     if outer.iter().chain(&inner).all(|edge| edge.n == 1) {
         return plain();
     }

@@ -1,6 +1,6 @@
 //! Seeded pseudo random job files.
 
-use crate::job::{Record, HEADER, RECORD_LENGTH, SETTING_COUNTS};
+use crate::job::{Record, Version, SETTING_COUNTS};
 
 /// The splitmix64 generator.
 pub struct Random(u64);
@@ -10,7 +10,7 @@ impl Random {
         Random(seed)
     }
 
-    fn next(&mut self) -> u64 {
+    pub(crate) fn next(&mut self) -> u64 {
         self.0 = self.0.wrapping_add(0x9e37_79b9_7f4a_7c15);
         let mut z = self.0;
         z = (z ^ (z >> 30)).wrapping_mul(0xbf58_476d_1ce4_e5b9);
@@ -18,7 +18,7 @@ impl Random {
         z ^ (z >> 31)
     }
 
-    fn below(&mut self, count: u64) -> u64 {
+    pub(crate) fn below(&mut self, count: u64) -> u64 {
         self.next() % count
     }
 
@@ -163,8 +163,37 @@ fn bad_setting(random: &mut Random, place: usize) -> u8 {
     }
 }
 
-/// A record whose five settings are all known.
-fn good_record(random: &mut Random) -> Record {
+/// A byte that is no top level: 0, an odd one, or one above 64.
+fn bad_top(random: &mut Random) -> u8 {
+    match random.below(4) {
+        0 => 0,
+        1 => 2 * random.below(33) as u8 + 1,
+        2 => 66,
+        _ => (65 + random.below(191)) as u8,
+    }
+}
+
+/// Puts a value out of range at one of the five places of version 1, or at place
+/// 5, the top of version 2.
+pub(crate) fn spoil(random: &mut Random, record: &mut Record, place: usize) {
+    match place {
+        5 => record.top = bad_top(random),
+        _ => record.settings[place] = bad_setting(random, place),
+    }
+}
+
+/// One of the 32 tops; low ones and 16 come more often than others.
+fn top(random: &mut Random) -> u8 {
+    let half = match random.below(4) {
+        0 => 1 + random.below(4),
+        1 => 8,
+        _ => 1 + random.below(32),
+    };
+    2 * half as u8
+}
+
+/// A record of version 1 whose five settings are all known.
+fn good_record_without_top(random: &mut Random) -> Record {
     let settings = SETTING_COUNTS.map(|count| random.below(u64::from(count)) as u8);
     let class = random.below(32);
     let mut levels = [0; 6].map(|_: u32| level(random, class));
@@ -183,108 +212,57 @@ fn good_record(random: &mut Random) -> Record {
     for place in unused {
         levels[*place] = wild(random);
     }
-    Record { settings, levels }
+    Record {
+        settings,
+        levels,
+        ..Record::BLANK
+    }
 }
 
-/// A record; about one in thirty has a setting byte out of range, now and then
-/// more than one.
-fn record(random: &mut Random) -> Record {
-    let mut record = good_record(random);
-    if random.below(30) == 0 {
-        for _ in 0..1 + random.below(2) {
-            let place = random.below(5) as usize;
-            record.settings[place] = bad_setting(random, place);
+/// A record of version 2 whose six settings are all known; one level in four
+/// lies near its top.
+fn good_record_with_top(random: &mut Random) -> Record {
+    let mut record = good_record_without_top(random);
+    record.top = top(random);
+    let top = u64::from(record.top);
+    for level in &mut record.levels {
+        if random.below(4) == 0 {
+            *level = around_whole(random, top - 1, top + 1);
         }
     }
     record
 }
 
-/// A whole job file of `count` records.
-pub fn job(seed: u64, count: u64) -> Vec<u8> {
-    let mut random = Random::new(seed);
-    let mut bytes = HEADER.to_vec();
-    for _ in 0..count {
-        bytes.extend(record(&mut random).to_bytes());
+/// A record whose settings are all known.
+pub(crate) fn good_record(random: &mut Random, version: Version) -> Record {
+    match version {
+        Version::One => good_record_without_top(random),
+        Version::Two => good_record_with_top(random),
     }
-    bytes
 }
 
-/// How many sorts of damage there are.
-pub const DAMAGES: u64 = 11;
+/// A record; about one in thirty has a setting byte out of range, now and then
+/// more than one. In version 2 some more have a bad top.
+fn record(random: &mut Random, version: Version) -> Record {
+    let mut record = good_record(random, version);
+    if random.below(30) == 0 {
+        for _ in 0..1 + random.below(2) {
+            let place = random.below(5) as usize;
+            spoil(random, &mut record, place);
+        }
+    }
+    if version == Version::Two && random.below(30) == 0 {
+        spoil(random, &mut record, 5);
+    }
+    record
+}
 
-/// One damaged job file. The sort of damage is `which` modulo the number of
-/// sorts, so that eleven numbers in a row meet them all; everything else comes
-/// from both numbers together.
-pub fn damaged_job(seed: u64, which: u64) -> Vec<u8> {
-    let mixed_seed = Random::new(seed).next() ^ Random::new(!which).next();
-    let mut random = Random::new(mixed_seed);
-    let whole = random.below(4);
-    let mut bytes = HEADER.to_vec();
-    for _ in 0..whole {
-        bytes.extend(good_record(&mut random).to_bytes());
-    }
-    // A byte other than the one it is given.
-    fn other(random: &mut Random, byte: u8) -> u8 {
-        byte ^ (1 + random.below(255)) as u8
-    }
-    match which % DAMAGES {
-        // empty file
-        0 => bytes.clear(),
-        // header alone
-        1 => bytes.truncate(HEADER.len()),
-        // header cut to 0 to 4 bytes
-        2 => bytes.truncate(random.below(5) as usize),
-        // one byte of the mark wrong
-        3 => {
-            let place = random.below(3) as usize;
-            bytes[place] = other(&mut random, bytes[place]);
-        }
-        // low or high byte of the version wrong
-        4 => {
-            let place = 3 + random.below(2) as usize;
-            bytes[place] = other(&mut random, bytes[place]);
-        }
-        // mark and version both wrong
-        5 => {
-            bytes[0] = other(&mut random, bytes[0]);
-            bytes[3] = other(&mut random, bytes[3]);
-        }
-        // a few bytes that are no header at all
-        6 => {
-            let length = 1 + random.below(4) as usize;
-            bytes = (0..length).map(|_| random.next() as u8).collect();
-        }
-        // last record cut to 1 to 28 bytes
-        7 => {
-            let last = good_record(&mut random).to_bytes();
-            let kept = 1 + random.below(RECORD_LENGTH as u64 - 1) as usize;
-            bytes.extend(&last[..kept]);
-        }
-        // the same, with an unknown setting in what is left of it
-        8 => {
-            let mut last = good_record(&mut random);
-            last.settings[0] = bad_setting(&mut random, 0);
-            let kept = 1 + random.below(RECORD_LENGTH as u64 - 1) as usize;
-            bytes.extend(&last.to_bytes()[..kept]);
-        }
-        // an unknown setting in each of the five places, good records between
-        9 => {
-            for place in 0..5 {
-                let mut bad = good_record(&mut random);
-                bad.settings[place] = bad_setting(&mut random, place);
-                bytes.extend(bad.to_bytes());
-                bytes.extend(good_record(&mut random).to_bytes());
-            }
-        }
-        // unknown settings in all five places at once
-        _ => {
-            let mut bad = good_record(&mut random);
-            for place in 0..5 {
-                bad.settings[place] = bad_setting(&mut random, place);
-            }
-            bytes.extend(bad.to_bytes());
-            bytes.extend(good_record(&mut random).to_bytes());
-        }
+/// A whole job file of `count` records.
+pub fn job(seed: u64, count: u64, version: Version) -> Vec<u8> {
+    let mut random = Random::new(seed);
+    let mut bytes = version.header().to_vec();
+    for _ in 0..count {
+        bytes.extend(record(&mut random, version).to_bytes(version));
     }
     bytes
 }

@@ -24,8 +24,17 @@
 //! - a level: a decimal number (rounded to the nearest f32), `nan`, `inf`,
 //!   `-inf`, `-0`, or the 32 bits of the f32 as `0x` and hexadecimal digits
 //! - a level that is not given is written as 0
+//!
+//! A line `version 2` before the first patch makes a version 2 file (Ask 10).
+//! Every patch then has a top level, two words right before `outer`: `top` and a
+//! byte, 0 to 255, which may be a top that is refused.
+//!
+//! ```text
+//! version 2
+//! triangles odd     ccw          lower-left  primitives  top 16  outer 1 1 1  inner 2
+//! ```
 
-use crate::job::Record;
+use crate::job::{Job, Record, Version};
 
 /// The words of the five setting bytes, each at its value's place.
 const WORDS: [(&str, &[&str]); 5] = [
@@ -77,30 +86,38 @@ fn levels(name: &str, words: &[&str], least: usize, into: &mut [u32]) -> Result<
     Ok(())
 }
 
-/// One line without its comment; `None` where nothing is left of it.
-fn record(line: &str) -> Result<Option<Record>, String> {
-    let words: Vec<&str> = line.split_whitespace().collect();
-    if words.is_empty() {
-        return Ok(None);
+/// Ask 10: the top level of a patch, from the words after the five settings, and
+/// the words that are left. There is none in version 1.
+fn top<'a, 'w>(words: &'a [&'w str], version: Version) -> Result<(u8, &'a [&'w str]), String> {
+    match (version, words) {
+        (Version::One, _) => Ok((Record::BLANK.top, words)),
+        (Version::Two, ["top", word, rest @ ..]) => {
+            let top = word.parse();
+            let top = top.map_err(|_| format!("\"{word}\" is not a byte 0 to 255"))?;
+            Ok((top, rest))
+        }
+        (Version::Two, _) => Err("expected the word \"top\" and a byte".to_string()),
     }
-    let mut record = Record {
-        settings: [0; 5],
-        levels: [0; 6],
-    };
+}
+
+/// The words of one patch.
+fn record(words: &[&str], version: Version) -> Result<Record, String> {
+    let mut record = Record::BLANK;
     for place in 0..5 {
         let word = words
             .get(place)
             .ok_or_else(|| format!("no {} given", WORDS[place].0))?;
         record.settings[place] = setting(place, word)?;
     }
-    let mut outer: &[&str] = &words[5..];
+    let (top, mut outer) = top(&words[5..], version)?;
+    record.top = top;
     let mut inner: &[&str] = &[];
     if let Some(at) = outer.iter().position(|word| *word == "inner") {
         inner = &outer[at + 1..];
         outer = &outer[..at];
     }
     if outer.first() != Some(&"outer") {
-        return Err("expected the word \"outer\" after the five settings".to_string());
+        return Err("expected the word \"outer\" after the settings".to_string());
     }
     let (outer_least, inner_least) = match record.settings[0] {
         0 => (3, 1),
@@ -111,20 +128,34 @@ fn record(line: &str) -> Result<Option<Record>, String> {
     let (outer_bits, inner_bits) = record.levels.split_at_mut(4);
     levels("outer", &outer[1..], outer_least, outer_bits)?;
     levels("inner", inner, inner_least, inner_bits)?;
-    Ok(Some(record))
+    Ok(record)
 }
 
-/// All records of a description, or what is wrong with which line.
-pub fn records(text: &str) -> Result<Vec<Record>, String> {
-    let mut all = Vec::new();
+/// One line without its comment: nothing, the version, or one more patch.
+fn take_line(words: &[&str], job: &mut Job) -> Result<(), String> {
+    match words {
+        [] => {}
+        ["version", "2"] if job.records.is_empty() => job.version = Version::Two,
+        ["version", ..] => {
+            return Err("only \"version 2\" is known, before the first patch".to_string())
+        }
+        _ => job.records.push(record(words, job.version)?),
+    }
+    Ok(())
+}
+
+/// The job file of a description, or what is wrong with which line.
+pub fn job(text: &str) -> Result<Job, String> {
+    let mut job = Job {
+        version: Version::One,
+        records: Vec::new(),
+    };
     for (number, line) in text.lines().enumerate() {
         let without_comment = line.split('#').next().unwrap_or("");
-        match record(without_comment) {
-            Ok(found) => all.extend(found),
-            Err(what) => return Err(format!("line {}: {what}", number + 1)),
-        }
+        let words: Vec<&str> = without_comment.split_whitespace().collect();
+        take_line(&words, &mut job).map_err(|what| format!("line {}: {what}", number + 1))?;
     }
-    Ok(all)
+    Ok(job)
 }
 
 #[cfg(test)]
@@ -132,9 +163,10 @@ mod tests {
     use super::*;
 
     fn one(line: &str) -> Record {
-        let all = records(line).unwrap();
-        assert_eq!(all.len(), 1);
-        all[0]
+        let job = job(line).unwrap();
+        assert_eq!((job.version, job.records.len()), (Version::One, 1));
+        assert_eq!(job.records[0].top, 64);
+        job.records[0]
     }
 
     #[test]
@@ -215,9 +247,48 @@ mod tests {
             ),
         ];
         for (line, what) in bad {
-            let message = records(&format!("# first\n\n{line}\n")).unwrap_err();
-            assert!(message.starts_with("line 3: "), "{message}");
-            assert!(message.contains(what), "{message}");
+            expect_error(&format!("# first\n\n{line}\n"), what);
+        }
+    }
+
+    /// The error is in line 3.
+    fn expect_error(text: &str, what: &str) {
+        let message = job(text).unwrap_err();
+        assert!(message.starts_with("line 3: "), "{message}");
+        assert!(message.contains(what), "{message}");
+    }
+
+    #[test]
+    fn tops_in_version_2() {
+        let text = "
+# a comment
+version 2 # another
+quads odd cw lower-left points top 16 outer 1 2 3 4 inner 5 6
+9 9 9 9 9 top 255 outer
+isolines equal cw lower-left points top 0 outer 1 1
+";
+        let job = job(text).unwrap();
+        assert_eq!(job.version, Version::Two);
+        let tops: Vec<u8> = job.records.iter().map(|record| record.top).collect();
+        assert_eq!(tops, [16, 255, 0]);
+        assert_eq!(job.records[0].levels[5], 6f32.to_bits());
+        assert_eq!(super::job("version 2").unwrap().version, Version::Two);
+    }
+
+    #[test]
+    fn errors_about_versions_and_tops() {
+        let good = "isolines equal cw lower-left points outer 1 1";
+        let known = "only \"version 2\" is known";
+        expect_error(&format!("\n{good}\nversion 2"), known);
+        expect_error("\n\nversion 3", known);
+        expect_error("\n\nversion", known);
+        expect_error("\n\nversion 2 2", known);
+        expect_error(&format!("\nversion 2\n{good}"), "expected the word \"top\"");
+        let topped = good.replace("outer", "top 64 outer");
+        expect_error(&format!("\n\n{topped}"), "expected the word \"outer\"");
+        for word in ["256", "-2", "outer"] {
+            let topped = good.replace("outer", &format!("top {word} outer"));
+            expect_error(&format!("\nversion 2\n{topped}"), "is not a byte");
         }
     }
 }

@@ -58,9 +58,9 @@ fn inner_ring(j: usize, q: &[u32], points: &mut Vec<[u32; 3]>) -> Vec<Vec<u32>> 
 }
 
 /// Section "Triangles": the whole patch, every triangle of positive area.
-pub fn build(outer: [f32; 3], inner: f32, spacing: Spacing) -> Mesh {
-    let outer = outer.map(|level| division(level, spacing));
-    let inner = division(inner, spacing);
+pub fn build(outer: [f32; 3], inner: f32, spacing: Spacing, top: u32) -> Mesh {
+    let outer = outer.map(|level| division(level, spacing, top));
+    let inner = division(inner, spacing, top);
     if inner.n == 1 && outer.iter().all(|edge| edge.n == 1) {
         return plain();
     }

@@ -1,11 +1,13 @@
 //! Measuring: the counts of a cut, what the clamps found, and the text of both.
 
+use reference::damage::{damaged_job, DAMAGES};
+use reference::job::Version;
 use reference::measures::measures;
 use reference::output::answers;
-use reference::{job, random, text};
+use reference::{random, text};
 
 fn measured(description: &str) -> String {
-    measures(&job::write_job(&text::records(description).unwrap()))
+    measures(&text::job(description).unwrap().to_bytes())
 }
 
 #[test]
@@ -51,16 +53,47 @@ fn headers_and_cut_records() {
     assert_eq!(measures(b"TSJ\x00\x01"), "refused 6\n");
     assert_eq!(measures(b"TSJ\x01\x00"), "");
     let line = "isolines equal cw upper-left points outer 1 1";
-    let mut job = job::write_job(&text::records(line).unwrap());
+    let mut job = text::job(line).unwrap().to_bytes();
     job.extend([9; 28]);
     assert_eq!(measures(&job), "counts 2 2 inside inside\nrefused 7\n");
+}
+
+/// Ask 10: the clamps follow the top, and a bad top has place 5.
+#[test]
+fn tops() {
+    let description = "
+version 2
+triangles equal ccw lower-left primitives top 16 outer 16 16.5 1 inner 17
+triangles odd   ccw lower-left primitives top 16 outer 15 15.5 1 inner 16
+quads     odd   cw  upper-left primitives top 2  outer 1 2 0.5 64 inner nan 1.5
+isolines  odd   cw  upper-left primitives top 2  outer 2 2
+isolines  even  cw  upper-left primitives top 65 outer 0 0
+isolines  even  cw  upper-left 2          top 65 outer 0 0
+isolines  even  cw  upper-left points     top 4  outer 0 0
+";
+    let expected = "\
+counts 202 1107 inside above inside above
+counts 178 969 inside above inside above
+counts 4 6 inside above below above below above
+counts 4 4 inside above
+refused 8 5
+refused 8 4
+discarded
+";
+    assert_eq!(measured(description), expected);
+    assert_eq!(measures(b"TSJ\x02\x00"), "");
+    assert_eq!(measures(b"TSJ\x02\x00\x09"), "refused 7\n");
 }
 
 /// A measured file says what a cut one says, apart from clamps and places.
 #[test]
 fn measures_agree_with_cuts() {
-    let mut jobs: Vec<Vec<u8>> = (0..5).map(|seed| random::job(seed, 200)).collect();
-    jobs.extend((0..4 * random::DAMAGES).map(|which| random::damaged_job(3, which)));
+    let mut jobs: Vec<Vec<u8>> = Vec::new();
+    for seed in 0..5 {
+        jobs.push(random::job(seed, 200, Version::One));
+        jobs.push(random::job(seed, 200, Version::Two));
+    }
+    jobs.extend((0..4 * DAMAGES).map(|which| damaged_job(3, which)));
     for job in jobs {
         let cut = answers(&job);
         let cut: Vec<String> = cut

@@ -1,6 +1,6 @@
 //! Every example of the paper that concerns whole patches and job files.
 
-use reference::job::{self, read_header, read_record, Record, Refusal};
+use reference::job::{read_header, read_record, Job, Record, Refusal, Version};
 use reference::output::answers;
 use reference::*;
 
@@ -10,6 +10,7 @@ fn settings(spacing: Spacing) -> Settings {
         vertex_order: VertexOrder::CounterClockwise,
         domain_origin: DomainOrigin::LowerLeft,
         point_mode: false,
+        top: 64,
     }
 }
 
@@ -34,12 +35,12 @@ fn quads(outer: f32, inner: [f32; 2]) -> Patch {
 fn drawn(patch: &Patch, settings: &Settings) -> (Vec<[u32; 3]>, Vec<u32>) {
     match tessellate(patch, settings) {
         Answer::Drawn { points, indices } => (points, indices),
-        Answer::Discarded => panic!("discarded"),
+        answer => panic!("{answer:?}"),
     }
 }
 
 fn job_of(description: &str) -> Vec<u8> {
-    job::write_job(&text::records(description).unwrap())
+    text::job(description).unwrap().to_bytes()
 }
 
 // ---- the examples -------------------------------------------------------
@@ -99,7 +100,7 @@ fn counts(patch: &Patch, settings: &Settings) -> (usize, usize) {
         Measure::Counts {
             points, indices, ..
         } => (points, indices),
-        Measure::Discarded => panic!("discarded"),
+        answer => panic!("{answer:?}"),
     }
 }
 
@@ -385,16 +386,28 @@ fn headers() {
     assert_eq!(answers(b"TSJ\x01"), "refused 5\n");
     assert_eq!(answers(b"TSj\x01\x00"), "refused 5\n");
     assert_eq!(answers(b"TSj\x02\x00"), "refused 5\n");
-    assert_eq!(answers(b"TSJ\x02\x00"), "refused 6\n");
+    assert_eq!(answers(b"TSJ\x03\x00"), "refused 6\n");
+    assert_eq!(answers(b"TSJ\x00\x00"), "refused 6\n");
     assert_eq!(answers(b"TSJ\x01\x01"), "refused 6\n");
     assert_eq!(answers(b"TSJ\x00\x01"), "refused 6\n");
     assert_eq!(answers(b"TSJ\x01\x00"), "TSJ 1\n");
-    assert_eq!(read_header(b"TSJ\x01\x00ab"), Ok(&b"ab"[..]));
+    let rest = &b"ab"[..];
+    assert_eq!(read_header(b"TSJ\x01\x00ab"), Ok((Version::One, rest)));
+}
+
+fn version_1(records: &[Record]) -> Vec<u8> {
+    let job = Job {
+        version: Version::One,
+        records: records.to_vec(),
+    };
+    job.to_bytes()
 }
 
 #[test]
 fn records_cut_short_or_with_unknown_settings() {
-    let good = text::records("isolines equal cw upper-left points outer 1 1").unwrap()[0];
+    let good = text::job("isolines equal cw upper-left points outer 1 1")
+        .unwrap()
+        .records[0];
     let lines = "drawn 2 2\n0 0 0\n65536 0 0\n0\n1\n";
     let last_known = [2, 2, 1, 1, 1];
     for place in 0..5 {
@@ -402,7 +415,7 @@ fn records_cut_short_or_with_unknown_settings() {
             let mut bad = good;
             bad.settings[place] = value;
             assert_eq!(bad.decode(), Err(Refusal::UnknownSetting { place }));
-            let job = job::write_job(&[bad, good]);
+            let job = version_1(&[bad, good]);
             assert_eq!(answers(&job), format!("TSJ 1\nrefused 8\n{lines}"));
         }
     }
@@ -410,15 +423,16 @@ fn records_cut_short_or_with_unknown_settings() {
     twice.settings = [2, 9, 0, 0, 9];
     assert_eq!(twice.decode(), Err(Refusal::UnknownSetting { place: 1 }));
     for left in 1..29 {
-        let mut job = job::write_job(&[good]);
-        job.extend(&twice.to_bytes()[..left]);
+        let mut job = version_1(&[good]);
+        job.extend(&twice.to_bytes(Version::One)[..left]);
         assert_eq!(answers(&job), format!("TSJ 1\n{lines}refused 7\n"));
         let mut rest = &job[5 + 29..];
-        assert_eq!(read_record(&mut rest), Err(Refusal::TruncatedRecord));
+        let record = read_record(Version::One, &mut rest);
+        assert_eq!(record, Err(Refusal::TruncatedRecord));
         assert_eq!(rest.len(), left);
     }
     let mut end: &[u8] = &[];
-    assert_eq!(read_record(&mut end), Ok(None));
+    assert_eq!(read_record(Version::One, &mut end), Ok(None));
 }
 
 #[test]
@@ -433,11 +447,12 @@ fn discarded_in_a_job_and_bytes_of_a_record() {
 
     let record = Record {
         settings: [1, 2, 0, 1, 0],
+        top: 64,
         levels: [0x3f800000, 2, 3, 4, 5, 0xff000006],
     };
-    let bytes = record.to_bytes();
+    let bytes = record.to_bytes(Version::One);
     assert_eq!(bytes.len(), 29);
     assert_eq!(bytes[..9], [1, 2, 0, 1, 0, 0, 0, 0x80, 0x3f]);
     assert_eq!(bytes[25..], [6, 0, 0, 0xff]);
-    assert_eq!(Record::from_bytes(bytes[..].try_into().unwrap()), record);
+    assert_eq!(Record::from_bytes(&bytes, Version::One), record);
 }

@@ -10,6 +10,8 @@ use crate::raw::{self, Measured, Numbered};
 pub enum Answer {
     /// So many points of three words and so many indices stand at the fronts of the lists.
     Drawn { points: u32, indices: u32 },
+    /// The top is not an even number from 2 to 64.
+    BadTop,
     /// An outer level is NaN or not above 0.
     Discarded,
     /// The vertex list has under 3 words a point.
@@ -18,7 +20,7 @@ pub enum Answer {
     NoRoomForIndices,
 }
 
-/// What measuring answers.
+/// What measuring answers. Where both refusals apply, the bad top is given.
 #[must_use]
 #[derive(Clone, Copy, Debug, PartialEq, Eq)]
 pub enum Size {
@@ -28,6 +30,8 @@ pub enum Size {
         indices: u32,
         clamps: Clamps,
     },
+    /// The top is not an even number from 2 to 64.
+    BadTop,
     /// An outer level is NaN or not above 0.
     Discarded,
 }
@@ -57,9 +61,10 @@ pub fn draw(
         1 => Answer::Discarded,
         3 => Answer::NoRoomForVertices,
         4 => Answer::NoRoomForIndices,
-        _ => {
-            unreachable!("every setting is known, so the answer is 0, 1, 3 or 4 and not {number}")
-        }
+        11 => Answer::BadTop,
+        _ => unreachable!(
+            "every setting is known, so the answer is 0, 1, 3, 4 or 11 and not {number}"
+        ),
     }
 }
 
@@ -77,6 +82,7 @@ pub fn measure(patch: &Patch, settings: &Settings) -> Size {
             clamps: clamps_of(patch, clamps),
         },
         1 => Size::Discarded,
-        _ => unreachable!("every setting is known, so the answer is 0 or 1 and not {number}"),
+        11 => Size::BadTop,
+        _ => unreachable!("every setting is known, so the answer is 0, 1 or 11 and not {number}"),
     }
 }

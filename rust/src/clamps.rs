@@ -2,8 +2,8 @@
 
 use crate::patch::Patch;
 
-/// Where a level lies against the range it is clamped to: 1 to 64 for equal spacing, 2 to 64 for fractional even, 1 to 63
-/// for fractional odd. Either end is inside.
+/// Where a level lies against the range it is clamped to: 1 to the top for equal spacing, 2 to the top for fractional even,
+/// 1 to one less than the top for fractional odd. Either end is inside.
 #[derive(Clone, Copy, Debug, PartialEq, Eq)]
 pub enum Clamp {
     /// The low end was taken instead, for an inner NaN too.

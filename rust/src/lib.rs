@@ -1,17 +1,23 @@
 //! Tessellates a patch by the Vulkan rules, with a library whose every function is proved.
 //!
 //! ```
-//! use yoktvarim::{mesh, Patch, Settings};
+//! use yoktvarim::{mesh, BadTop, Patch, Settings};
 //!
+//! # fn main() -> Result<(), BadTop> {
 //! let patch = Patch::Triangles { outer: [1.0, 1.0, 1.0], inner: 2.0 };
-//! let settings = Settings::default(); // equal spacing, counter-clockwise, lower-left, no point mode
-//! let mesh = mesh(&patch, &settings).expect("not discarded");
+//! let settings = Settings::default(); // equal spacing, counter-clockwise, lower-left, no point mode, top 64
+//! let mesh = mesh(&patch, &settings)?.expect("not discarded");
 //! assert_eq!(mesh.points[3], [65536, 65536, 65536]);
 //! assert_eq!(mesh.indices, [0, 1, 3, 1, 2, 3, 2, 0, 3]);
+//! # Ok(())
+//! # }
 //! ```
 //!
 //! [`draw`] writes into lists of the caller's, [`measure`] says how long they have to be and which
 //! levels were clamped, and [`mesh()`] draws into lists of its own.
+//!
+//! The top of the settings says how finely a patch can be cut at most: an even number from 2 to 64. Any other number is
+//! answered with `BadTop`, before everything else.
 
 mod answer;
 mod clamps;
@@ -21,13 +27,13 @@ pub mod raw;
 
 pub use answer::{draw, measure, Answer, Size};
 pub use clamps::{Clamp, Clamps};
-pub use mesh::{mesh, Mesh};
-pub use patch::{DomainOrigin, Patch, Settings, Spacing, VertexOrder};
+pub use mesh::{mesh, BadTop, Mesh};
+pub use patch::{DomainOrigin, Patch, Settings, Spacing, VertexOrder, GREATEST_TOP};
 
-/// A vertex list of this many words has room for every patch: 4,225 points of 3 words each.
+/// A vertex list of this many words has room for every patch at every top: 4,225 points of 3 words each.
 pub const VERTEX_WORDS: usize = 12_675;
 
-/// An index list of this many words has room for every patch: 8,192 triangles.
+/// An index list of this many words has room for every patch at every top: 8,192 triangles.
 pub const INDEX_WORDS: usize = 24_576;
 
 /// What stands for 1 in a triangle patch: u, v and w of a point add up to it.

@@ -2,6 +2,8 @@
 
 use crate::answer::{draw, measure, Answer, Size};
 use crate::patch::{Patch, Settings};
+use std::error::Error;
+use std::fmt::{self, Display, Formatter};
 
 /// What drawing a patch wrote.
 #[derive(Clone, Debug, PartialEq, Eq)]
@@ -12,15 +14,40 @@ pub struct Mesh {
     pub indices: Vec<u16>,
 }
 
-/// The mesh of a patch, or `None` where the patch is discarded.
-#[must_use]
-pub fn mesh(patch: &Patch, settings: &Settings) -> Option<Mesh> {
-    let Size::Counts {
-        points, indices, ..
-    } = measure(patch, settings)
-    else {
-        return None;
-    };
+/// What [`mesh()`] says to a top that is not an even number from 2 to 64, together with that number.
+#[derive(Clone, Copy, Debug, PartialEq, Eq)]
+pub struct BadTop(pub u8);
+
+impl Display for BadTop {
+    fn fmt(&self, f: &mut Formatter<'_>) -> fmt::Result {
+        write!(f, "the top {} is not an even number from 2 to 64", self.0)
+    }
+}
+
+impl Error for BadTop {}
+
+/// The mesh of a patch, or `None` where the patch is discarded, which is no error: the rules ask for it. A bad top is one,
+/// whether or not the patch would be discarded.
+///
+/// ```
+/// use yoktvarim::{mesh, BadTop, Patch, Settings};
+///
+/// let away = Patch::Isolines { outer: [0.0, 1.0] };
+/// assert_eq!(mesh(&away, &Settings::default()), Ok(None));
+/// assert_eq!(mesh(&away, &Settings { top: 7, ..Settings::default() }), Err(BadTop(7)));
+/// ```
+pub fn mesh(patch: &Patch, settings: &Settings) -> Result<Option<Mesh>, BadTop> {
+    match measure(patch, settings) {
+        Size::Counts {
+            points, indices, ..
+        } => Ok(Some(drawn(patch, settings, points, indices))),
+        Size::BadTop => Err(BadTop(settings.top)),
+        Size::Discarded => Ok(None),
+    }
+}
+
+/// The mesh of a patch that was measured to have so many points and indices.
+fn drawn(patch: &Patch, settings: &Settings, points: u32, indices: u32) -> Mesh {
     let mut mesh = Mesh {
         points: vec![[0; 3]; points as usize],
         indices: vec![0; indices as usize],
@@ -31,7 +58,7 @@ pub fn mesh(patch: &Patch, settings: &Settings) -> Option<Mesh> {
         mesh.points.as_flattened_mut(),
         &mut mesh.indices,
     ) {
-        Answer::Drawn { .. } => Some(mesh),
-        other => unreachable!("a measured patch of at most 4,225 points is drawn: {other:?}"),
+        Answer::Drawn { .. } => mesh,
+        other => unreachable!("a measured patch is drawn where it has room: {other:?}"),
     }
 }

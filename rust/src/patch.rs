@@ -32,6 +32,9 @@ pub enum DomainOrigin {
     LowerLeft,
 }
 
+/// The greatest value of [`Settings::top`].
+pub const GREATEST_TOP: u8 = 64;
+
 #[derive(Clone, Copy, Debug, PartialEq, Eq)]
 pub struct Settings {
     pub spacing: Spacing,
@@ -39,9 +42,12 @@ pub struct Settings {
     pub domain_origin: DomainOrigin,
     /// Each point once instead of triangles or lines: the indices 0, 1, 2 and on.
     pub point_mode: bool,
+    /// The most segments that a level gives, one less with odd spacing: an even number from 2 to 64. Any other number is
+    /// answered with `BadTop`.
+    pub top: u8,
 }
 
-/// Equal spacing, triangles counter-clockwise seen from a lower-left origin, no point mode.
+/// Equal spacing, triangles counter-clockwise seen from a lower-left origin, no point mode, the top 64.
 impl Default for Settings {
     fn default() -> Self {
         Settings {
@@ -49,12 +55,13 @@ impl Default for Settings {
             vertex_order: VertexOrder::CounterClockwise,
             domain_origin: DomainOrigin::LowerLeft,
             point_mode: false,
+            top: GREATEST_TOP,
         }
     }
 }
 
-/// The five setting bytes of a call, numbered as in a job file.
-pub(crate) fn setting_bytes(patch: &Patch, settings: &Settings) -> [u8; 5] {
+/// The six setting bytes of a call, numbered as in a job file of version 2.
+pub(crate) fn setting_bytes(patch: &Patch, settings: &Settings) -> [u8; 6] {
     let kind = match patch {
         Patch::Triangles { .. } => 0,
         Patch::Quads { .. } => 1,
@@ -73,7 +80,8 @@ pub(crate) fn setting_bytes(patch: &Patch, settings: &Settings) -> [u8; 5] {
         DomainOrigin::UpperLeft => 0,
         DomainOrigin::LowerLeft => 1,
     };
-    [kind, spacing, order, origin, u8::from(settings.point_mode)]
+    let point_mode = u8::from(settings.point_mode);
+    [kind, spacing, order, origin, point_mode, settings.top]
 }
 
 /// The six levels of a call: outer one to four, inner one and two; 0 where none counts.

@@ -1,19 +1,22 @@
 //! The exported functions by their numbers, for callers that have setting bytes and levels as a job file has them.
 //!
-//! The settings are five bytes: kind (0 triangles, 1 quads, 2 isolines), spacing (0 equal, 1 even, 2 odd), vertex order
-//! (0 clockwise, 1 counter-clockwise), domain origin (0 upper-left, 1 lower-left) and point mode (0, 1). The levels are
-//! outer one to four, then inner one and two.
+//! The settings are six bytes: kind (0 triangles, 1 quads, 2 isolines), spacing (0 equal, 1 even, 2 odd), vertex order
+//! (0 clockwise, 1 counter-clockwise), domain origin (0 upper-left, 1 lower-left), point mode (0, 1) and the top level (even
+//! numbers from 2 to 64; a job file of version 1 has no such byte and means 64). The levels are outer one to four, then
+//! inner one and two.
+//!
+//! A bad top is the number 11, told before everything else. In a job file it is an unknown setting instead, at place 5.
 
 extern "C" {
     fn yoktvarim_measure(
-        settings: &[u8; 5],
+        settings: &[u8; 6],
         levels: &[f32; 6],
         counts: &mut [u32; 2],
         clamps: &mut [u8; 6],
     ) -> u32;
 
     fn yoktvarim_draw(
-        settings: &[u8; 5],
+        settings: &[u8; 6],
         levels: &[f32; 6],
         vertices: *mut u32,
         vertex_words: usize,
@@ -23,12 +26,13 @@ extern "C" {
     ) -> u32;
 }
 
-/// What [`measure`] answers, by its number: 0 measured, 1 discarded, 8 unknown setting. No other number is given.
+/// What [`measure`] answers, by its number: 0 measured, 1 discarded, 8 unknown setting, 11 bad top. No other number is
+/// given.
 #[must_use = "only the number 0 means that the patch was measured"]
 #[derive(Clone, Copy, Debug, PartialEq, Eq)]
 pub struct Measured {
     pub number: u32,
-    /// Points and indices beside 0, the place of the first unknown setting and 0 beside 8, else 0 and 0.
+    /// Points and indices beside 0, the place, 0 to 4, of the first unknown setting and 0 beside 8, else 0 and 0.
     pub counts: [u32; 2],
     /// For each level 1 below the range it is clamped to, 2 inside, 3 above. 0 where nothing is said: the level does not
     /// count for the kind, or the number is not 0.
@@ -36,17 +40,17 @@ pub struct Measured {
 }
 
 /// What [`draw`] answers, by its number: 0 drawn, 1 discarded, 3 no room for vertices, 4 no room for indices,
-/// 8 unknown setting. No other number is given.
+/// 8 unknown setting, 11 bad top. No other number is given.
 #[must_use = "only the number 0 means that something was drawn"]
 #[derive(Clone, Copy, Debug, PartialEq, Eq)]
 pub struct Numbered {
     pub number: u32,
-    /// Points and indices beside 0, the place of the first unknown setting and 0 beside 8, else 0 and 0.
+    /// Points and indices beside 0, the place, 0 to 4, of the first unknown setting and 0 beside 8, else 0 and 0.
     pub counts: [u32; 2],
 }
 
 /// How many points and indices [`draw`] would write, and which levels are clamped.
-pub fn measure(settings: &[u8; 5], levels: &[f32; 6]) -> Measured {
+pub fn measure(settings: &[u8; 6], levels: &[f32; 6]) -> Measured {
     // Both overwritten whatever the answer is.
     let mut counts = [u32::MAX; 2];
     let mut clamps = [u8::MAX; 6];
@@ -62,7 +66,7 @@ pub fn measure(settings: &[u8; 5], levels: &[f32; 6]) -> Measured {
 
 /// Writes points and indices to the fronts of the lists where the number is 0, and nothing otherwise.
 pub fn draw(
-    settings: &[u8; 5],
+    settings: &[u8; 6],
     levels: &[f32; 6],
     vertices: &mut [u32],
     indices: &mut [u16],

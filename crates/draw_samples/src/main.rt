@@ -1,5 +1,5 @@
 // Draws the rules' examples into lists with room, with one word too few in each, and with sentinel words behind the counts,
-// and writes what was answered and every word of both lists. Measures patches whose levels lie outside their range.
+// and writes what was answered and every word of both lists. Measures patches whose levels lie outside their range, and tries other tops.
 ghost use Prim.Native.Nat.{_≤_};
 use level::Clamp;
 use level::Spacing;
@@ -30,16 +30,12 @@ fn main() {
         9,
     );
     each_clamp();
+    each_top();
 }
 
 // Levels below, inside and above the range of odd spacing; the number of isolines is judged by equal spacing.
 fn each_clamp() {
-    let odd = Settings {
-        spacing: Spacing::FractionalOdd,
-        order: VertexOrder::CounterClockwise,
-        origin: DomainOrigin::LowerLeft,
-        point_mode: false,
-    };
+    let odd = odd_up_to(64);
     let quads = Patch::Quads {
         outer0: 0.5,
         outer1: 63.0,
@@ -54,6 +50,26 @@ fn each_clamp() {
         outer1: 64.0,
     };
     write_size(tessellate::measure::measure(isolines, odd));
+}
+
+// Smaller tops, and numbers that are none: a bad top is told before all else, and leaves every list as it was.
+fn each_top() {
+    write_size(tessellate::measure::measure(triangles(3.0), odd_up_to(2)));
+    draw_into(triangles(3.0), odd_up_to(2), 9, 3);
+    write_size(tessellate::measure::measure(triangles(9.0), odd_up_to(4)));
+    write_size(tessellate::measure::measure(isolines(0.0), odd_up_to(3)));
+    draw_into(isolines(0.0), odd_up_to(0), 0, 0);
+    draw_into(triangles(2.0), odd_up_to(66), 12, 9);
+}
+
+fn odd_up_to(top: u32) -> Settings {
+    Settings {
+        spacing: Spacing::FractionalOdd,
+        top,
+        order: VertexOrder::CounterClockwise,
+        origin: DomainOrigin::LowerLeft,
+        point_mode: false,
+    }
 }
 
 fn triangles(inner0: f32) -> Patch {
@@ -86,6 +102,7 @@ fn isolines(outer0: f32) -> Patch {
 fn settings(order: VertexOrder, point_mode: bool) -> Settings {
     Settings {
         spacing: Spacing::Equal,
+        top: 64,
         order,
         origin: DomainOrigin::LowerLeft,
         point_mode,
@@ -128,6 +145,7 @@ fn write_size(size: Size) {
             write_clamps(clamps);
         }
         Size::Discarded => write_word(b"measured discarded\n"),
+        Size::BadTop => write_word(b"measured bad top\n"),
     }
 }
 
@@ -181,6 +199,7 @@ fn write_answer(answer: Answer) {
         Answer::Discarded => write_word(b"discarded\n"),
         Answer::NoRoomForVertices => write_word(b"no room for vertices\n"),
         Answer::NoRoomForIndices => write_word(b"no room for indices\n"),
+        Answer::BadTop => write_word(b"bad top\n"),
     }
 }
 

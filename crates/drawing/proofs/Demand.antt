@@ -1,8 +1,10 @@
--- Demand 3 holds of every patch that is drawn, whatever its levels and settings.
+-- Demand 3 holds of every patch that is drawn, whatever its levels and settings; the top is a variable.
 -- Assumes nothing.
+use Prim.Native.Nat.{ℕ}
 use mathlib.Core.Path.{_≡_}
 use mathlib.Core.Bool.{false}
 use Rattle.level.specs.declared.Spacing.{Spacing}
+use Rattle.level.specs.Top.{Top}
 use Rattle.patch.specs.declared.kinds.Patch.{Patch}
 use Rattle.patch.specs.declared.settings.Settings.{Settings}
 use Rattle.patch.specs.Subdivide.{discards, cut, subdivision}
@@ -15,20 +17,21 @@ use Rattle.drawing.proofs.Valid.{drawn-valid}
 use Rattle.drawing.proofs.Numbered.{indices-below}
 use Rattle.drawing.proofs.Covered.{covered}
 
-pub not-discarded : (s : Spacing) (p : Patch) → discards p ≡ false → subdivision s p ≡ cut s p
+pub not-discarded : (s : Spacing) (t : ℕ) (p : Patch) → discards p ≡ false → subdivision s t p ≡ cut s t p
 unfolding subdivision
-not-discarded s p h = rw h
+not-discarded s t p h = rw h
 
-cut-demand : (set : Settings) (p : Patch) → Demand set p (points (cut (set .spacing) p)) (indexWords set (cut (set .spacing) p))
+cut-demand : (set : Settings) → Top (set .top) → (p : Patch) → Demand set p (points (cut (set .spacing) (set .top) p)) (indexWords set (cut (set .spacing) (set .top) p))
 unfolding indexWords
-cut-demand set p =
+cut-demand set top p =
     let s = set .spacing in
+    let t = set .top in
     record {
-      numbered = λ k h. all-at 0 k h (indices-below set (cut s p) (drawn-valid s p));
-      cover = λ f m. rw m (covered s p .cover f (positive (set .order) (set .origin)));
-      seams = covered s p .seams;
+      numbered = λ k h. all-at 0 k h (indices-below set (cut s t p) (drawn-valid s t top p));
+      cover = λ f m. rw m (covered s t top p .cover f (positive (set .order) (set .origin)));
+      seams = covered s t top p .seams;
     }
 
-pub demand : (set : Settings) (p : Patch) → discards p ≡ false
-    → Demand set p (points (subdivision (set .spacing) p)) (indexWords set (subdivision (set .spacing) p))
-demand set p h = rw (not-discarded (set .spacing) p h) (cut-demand set p)
+pub demand : (set : Settings) → Top (set .top) → (p : Patch) → discards p ≡ false
+    → Demand set p (points (subdivision (set .spacing) (set .top) p)) (indexWords set (subdivision (set .spacing) (set .top) p))
+demand set top p h = rw (not-discarded (set .spacing) (set .top) p h) (cut-demand set top p)

@@ -13,3 +13,4 @@ pub mod Demand
 pub mod Seams
 pub mod Starred
 pub mod Sample
+pub mod GreatestTop

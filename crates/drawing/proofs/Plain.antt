@@ -7,6 +7,7 @@ use mathlib.Core.List.{List, [], _∷_, _++_, map}
 use borrow.Author.Tests.{eqb-true}
 use lib.Ieee.{Float}
 use Rattle.level.specs.declared.Spacing.{Spacing}
+use Rattle.level.specs.Top.{Top}
 use Rattle.level.specs.Segments.{segmentsOf}
 use Rattle.level.proofs.Valid.{segments-valid}
 use Rattle.edge.specs.Table.{table}
@@ -61,14 +62,14 @@ placed-plain edge ps k none p = tt
 placed-plain edge ps k (more h hs) p = rw (along-plain h) (p .0, p .1, placed-plain edge ps (suc k) hs (p .2))
 
 -- a patch whose outer levels, with its inner ones, all give one segment
-module _ (s : Spacing) (p : Patch) (inner : List Float) (h : every (single s) (outers p ++ inner) ≡ true) where
-  ones : All TwoEnds (outerRuns s p)
-  ones = all-map (λ x. run (segmentsOf s x)) TwoEnds
-      (all-more (λ x e. two-ends (good-run _ (segments-valid s x)) (eqb-true (segmentsOf s x .count) 1 e))
-      (first-pass (single s) (outers p) inner h))
+module _ (s : Spacing) (t : ℕ) (top : Top t) (p : Patch) (inner : List Float) (h : every (single s t) (outers p ++ inner) ≡ true) where
+  ones : All TwoEnds (outerRuns s t p)
+  ones = all-map (λ x. run (segmentsOf s t x)) TwoEnds
+      (all-more (λ x e. two-ends (good-run _ (segments-valid s t top x)) (eqb-true (segmentsOf s t x .count) 1 e))
+      (first-pass (single s t) (outers p) inner h))
 
-  pub plain-outline : (place : ℕ → ℕ → ℕ → Point) → ring place 0 (outerRuns s p) 0 ≡ ring place 0 (plain (outerRuns s p)) 0
+  pub plain-outline : (place : ℕ → ℕ → ℕ → Point) → ring place 0 (outerRuns s t p) 0 ≡ ring place 0 (plain (outerRuns s t p)) 0
   plain-outline place = ring-plain place 0 0 ones
 
-  pub plain-placed : (edge : ℕ → OuterEdge) (ps : List Point) → Placed edge ps 0 (plain (outerRuns s p)) → Placed edge ps 0 (outerRuns s p)
+  pub plain-placed : (edge : ℕ → OuterEdge) (ps : List Point) → Placed edge ps 0 (plain (outerRuns s t p)) → Placed edge ps 0 (outerRuns s t p)
   plain-placed edge ps = placed-plain edge ps 0 ones

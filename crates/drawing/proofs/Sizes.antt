@@ -6,9 +6,10 @@ use mathlib.Core.Bool.{Bool, true, false}
 use native.Mathlib.Omega.{arith}
 use native.Mathlib.Nat.{mul-le-mul}
 use lib.ListN.{length}
-use lib.Ieee.{Float, isNan, le}
+use lib.Ieee.{Float, isNan, le, ofInt}
 use Rattle.level.specs.declared.Spacing.{Spacing}
 use Rattle.level.specs.declared.Spacing.the-variants.{Equal}
+use Rattle.level.specs.Top.{Top}
 use Rattle.level.specs.Scale.{parts}
 use Rattle.level.specs.Segments.{segmentsOf, asInner, innerSegments}
 use Rattle.level.proofs.Valid.{segments-valid, inner-valid}
@@ -29,14 +30,14 @@ use Rattle.drawing.proofs.Cases.{Cases, all-cases}
 area : (d m n : ℕ) → m ≤ 64 → n ≤ 64 → (m - d) * (n - d) ≤ (64 - d) * (64 - d)
 area d m n h k = mul-le-mul (omega arith) (omega arith)
 
-module _ (s : Spacing) where
-  outer : (x : Float) → segmentsOf s x .count ≤ 64
-  outer x = segments-valid s x .few
+module _ (s : Spacing) (t : ℕ) (top : Top t) where
+  outer : (x : Float) → segmentsOf s t x .count ≤ 64
+  outer x = segments-valid s t top x .few
 
-  inner : (x : Float) → innerSegments s x .count ≤ 64
-  inner x = inner-valid s x .few
+  inner : (x : Float) → innerSegments s t x .count ≤ 64
+  inner x = inner-valid s t top x .few
 
-  small : Cases s (λ p c. AtMost (mostPoints p) (mostPrimitives p) c)
+  small : Cases s t (λ p c. AtMost (mostPoints p) (mostPrimitives p) c)
   unfolding pointCount primitiveCount
   small = record {
     plain-triangle = λ a b c i _. omega arith;
@@ -55,12 +56,12 @@ module _ (s : Spacing) where
           primitives = omega (arith, outer a, outer b, outer c, outer d, area 2 _ _ m n);
         };
     lines = λ a b.
-        let m = segments-valid Equal a .few in
+        let m = segments-valid Equal t top a .few in
         let h = mul-le-mul m (outer b) in
         record { points = omega arith; primitives = omega arith };
   }
 
-  pub sizes-at-most : (p : Patch) → AtMost (mostPoints p) (mostPrimitives p) (subdivision s p)
+  pub sizes-at-most : (p : Patch) → AtMost (mostPoints p) (mostPrimitives p) (subdivision s t p)
   unfolding pointCount primitiveCount
   sizes-at-most = all-cases small (λ p. omega arith)
 
@@ -71,19 +72,19 @@ most (Quads a b c d i j) = omega arith
 most (Isolines a b) = omega arith
 
 -- at most 4,225 points, for every patch and every setting: a vertex's number always fits 16 bits
-pub points-at-most : (s : Spacing) (p : Patch) → length (points (subdivision s p)) ≤ 4225
-points-at-most s p = omega (arith, point-count (subdivision s p) (cut-valid s p), sizes-at-most s p, most p)
+pub points-at-most : (s : Spacing) (t : ℕ) → Top t → (p : Patch) → length (points (subdivision s t p)) ≤ 4225
+points-at-most s t top p = omega (arith, point-count (subdivision s t p) (cut-valid s t top p), sizes-at-most s t top p, most p)
 
 -- and at most 24,576 indices
-pub indices-at-most : (set : Settings) (p : Patch) → length (indexWords set (subdivision (set .spacing) p)) ≤ 24576
-indices-at-most set p = omega (arith, index-count set (subdivision (set .spacing) p) (cut-valid (set .spacing) p), go (set .«point_mode»))
+pub indices-at-most : (set : Settings) → Top (set .top) → (p : Patch) → length (indexWords set (subdivision (set .spacing) (set .top) p)) ≤ 24576
+indices-at-most set top p = omega (arith, index-count set (subdivision (set .spacing) (set .top) p) (cut-valid (set .spacing) (set .top) top p), go (set .«point_mode»))
   where
-    go : (mode : Bool) → countIn mode (subdivision (set .spacing) p) ≤ 24576
-    go false = omega (arith, sizes-at-most (set .spacing) p, most p)
-    go true = omega (arith, sizes-at-most (set .spacing) p, most p)
+    go : (mode : Bool) → countIn mode (subdivision (set .spacing) (set .top) p) ≤ 24576
+    go false = omega (arith, sizes-at-most (set .spacing) (set .top) top p, most p)
+    go true = omega (arith, sizes-at-most (set .spacing) (set .top) top p, most p)
 
 pub greatest : Greatest triangles64 × Greatest quads64 × Greatest isolines64
-unfolding parts segmentsOf asInner some every subdivision pointCount primitiveCount isNan le
+unfolding parts segmentsOf asInner some every subdivision pointCount primitiveCount isNan le ofInt
 greatest = (
   record { points = refl; primitives = refl },
   record { points = refl; primitives = refl },

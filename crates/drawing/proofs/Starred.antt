@@ -2,7 +2,7 @@
 -- Assumes nothing.
 use mathlib.Core.Path.{_≡_, refl}
 use mathlib.Core.List.{map}
-use lib.Ieee.{isNan, le}
+use lib.Ieee.{isNan, le, ofInt}
 use Rattle.buffer.specs.Over.{flat}
 use Rattle.level.specs.Scale.{parts}
 use Rattle.level.specs.Segments.{segmentsOf, asInner}
@@ -26,6 +26,6 @@ use Rattle.drawing.specs.Primitives.{triangles, indexWords}
 use Rattle.drawing.specs.Starred.{worked, starredTable}
 
 pub starred : map worked starredTable ≡ starredTable
-unfolding isNan le parts segmentsOf asInner position table outerNext stripFrom indices ringAt bandFrom nest gridAt joined quad
+unfolding isNan le ofInt parts segmentsOf asInner position table outerNext stripFrom indices ringAt bandFrom nest gridAt joined quad
     flat isolines some every subdivision ring rings grid points triangles indexWords
 starred = refl

@@ -33,15 +33,15 @@ Surface (Isolines a b) = ⊥
 abbrev pub outerLevel : Patch → ℕ → Float
 outerLevel p k = getD (outers p) k nan
 
--- the outer edges, each by its spacing and its own level alone
-abbrev pub outerRuns : Spacing → Patch → List Run
-outerRuns s p = map (λ x. run (segmentsOf s x)) (outers p)
+-- the outer edges, each by its spacing, its own level and the top t alone
+abbrev pub outerRuns : Spacing → ℕ → Patch → List Run
+outerRuns s t p = map (λ x. run (segmentsOf s t x)) (outers p)
 
 -- the outline's points in walk order: those that each outer edge's own q puts on it
-abbrev pub outline : Spacing → Patch → List Point
-outline s (Triangles a b c i) = ring trianglePlace 0 (outerRuns s (Triangles a b c i)) 0
-outline s (Quads a b c d i j) = ring quadPlace 0 (outerRuns s (Quads a b c d i j)) 0
-outline s (Isolines a b) = []
+abbrev pub outline : Spacing → ℕ → Patch → List Point
+outline s t (Triangles a b c i) = ring trianglePlace 0 (outerRuns s t (Triangles a b c i)) 0
+outline s t (Quads a b c d i j) = ring quadPlace 0 (outerRuns s t (Quads a b c d i j)) 0
+outline s t (Isolines a b) = []
 
 -- the outer edges of a patch: which points lie on edge k, and at which places
 abbrev pub edges : Patch → ℕ → OuterEdge
@@ -65,7 +65,7 @@ pub record Demand (set : Settings) (p : Patch) (ps : List Point) (ws : List ℕ)
   pub numbered : (k : ℕ) → k < length ws → getD ws k 0 < length ps
   -- a triangle or quad patch drawn as triangles: the seven sentences of `Cover`
   pub cover : Surface p → set .«point_mode» ≡ false
-      → Cover (positive (set .order) (set .origin)) (twiceAreaOf p) (outline (set .spacing) p) ps (facesIn ps ws)
-  -- drawn as triangles or as dots: the places on each outer edge are q(0) to q(n) of the spacing and that edge's level, and mirror;
+      → Cover (positive (set .order) (set .origin)) (twiceAreaOf p) (outline (set .spacing) (set .top) p) ps (facesIn ps ws)
+  -- drawn as triangles or as dots: the places on each outer edge are q(0) to q(n) of the spacing, that edge's level and the top, and mirror;
   -- all points drawn are asked, so no inner point lies on an outer edge
-  pub seams : Surface p → Placed (edges p) ps 0 (outerRuns (set .spacing) p)
+  pub seams : Surface p → Placed (edges p) ps 0 (outerRuns (set .spacing) (set .top) p)

@@ -19,7 +19,7 @@ pub record Output : Type 0 where
 -- what drawing a patch with these settings gives
 abbrev pub output : Settings → Patch → Output
 output set p =
-    record { vertices = points (subdivision (set .spacing) p); indices = indexWords set (subdivision (set .spacing) p) }
+    record { vertices = points (subdivision (set .spacing) (set .top) p); indices = indexWords set (subdivision (set .spacing) (set .top) p) }
 
 -- the outer levels 1, 1 and 1, and the inner level 2
 abbrev pub samplePatch : Patch

@@ -29,8 +29,8 @@ pub record AtMost (m n : ℕ) (c : Subdivision) : Type 0 where
 
 -- with equal spacing the patch has the greatest sizes of its kind
 pub record Greatest (p : Patch) : Type 0 where
-  pub points : pointCount (subdivision Equal p) ≡ mostPoints p
-  pub primitives : primitiveCount (subdivision Equal p) ≡ mostPrimitives p
+  pub points : pointCount (subdivision Equal 64 p) ≡ mostPoints p
+  pub primitives : primitiveCount (subdivision Equal 64 p) ≡ mostPrimitives p
 
 -- the patches with every level 64
 abbrev pub triangles64 : Patch

@@ -19,9 +19,9 @@ use Rattle.drawing.specs.Levels.{level1, level2, level3, level4}
 use Rattle.drawing.specs.Points.{run, points}
 use Rattle.drawing.specs.Primitives.{indexWords}
 
--- the settings of the patches: equal spacing, counter-clockwise, lower-left, no dots
+-- the settings of the patches: equal spacing, top 64, counter-clockwise, lower-left, no dots
 abbrev pub usual : Settings
-usual = record { spacing = Equal; order = CounterClockwise; origin = LowerLeft; «point_mode» = false }
+usual = record { spacing = Equal; top = 64; order = CounterClockwise; origin = LowerLeft; «point_mode» = false }
 
 -- a point and its number
 pub record Named : Type 0 where
@@ -38,17 +38,17 @@ pub data Case : Type 0 where
 abbrev pub worked : Case → Case
 worked (edge s n qs) = edge s (s .count) (along (run s))
 worked (patch p named ws) =
-    let c = subdivision (usual .spacing) p in
+    let c = subdivision (usual .spacing) (usual .top) p in
     patch p (map (λ m. record { number = m .number; point = at (points c) (m .number) }) named) (indexWords usual c)
 
 -- the table; the last two edges are given by L itself
 abbrev pub starredTable : List Case
 starredTable =
-    edge (segmentsOf Equal level1) 1 (0 ∷ 65536 ∷ [])
-    ∷ edge (segmentsOf Equal level3) 3 (0 ∷ 21846 ∷ 43690 ∷ 65536 ∷ [])
-    ∷ edge (segmentsOf Equal level4) 4 (0 ∷ 16384 ∷ 32768 ∷ 49152 ∷ 65536 ∷ [])
-    ∷ edge (segmentsOf FractionalOdd level2) 3 (0 ∷ 16384 ∷ 49152 ∷ 65536 ∷ [])
-    ∷ edge (segmentsOf FractionalEven level3) 4 (0 ∷ 10923 ∷ 32768 ∷ 54613 ∷ 65536 ∷ [])
+    edge (segmentsOf Equal 64 level1) 1 (0 ∷ 65536 ∷ [])
+    ∷ edge (segmentsOf Equal 64 level3) 3 (0 ∷ 21846 ∷ 43690 ∷ 65536 ∷ [])
+    ∷ edge (segmentsOf Equal 64 level4) 4 (0 ∷ 16384 ∷ 32768 ∷ 49152 ∷ 65536 ∷ [])
+    ∷ edge (segmentsOf FractionalOdd 64 level2) 3 (0 ∷ 16384 ∷ 49152 ∷ 65536 ∷ [])
+    ∷ edge (segmentsOf FractionalEven 64 level3) 4 (0 ∷ 10923 ∷ 32768 ∷ 54613 ∷ 65536 ∷ [])
     ∷ edge (segmentsAt FractionalOdd 65537) 3 (0 ∷ 1 ∷ 65535 ∷ 65536 ∷ [])
     ∷ edge (segmentsAt FractionalEven 131073) 4 (0 ∷ 1 ∷ 32768 ∷ 65535 ∷ 65536 ∷ [])
     ∷ patch (Triangles level1 level1 level1 level3)

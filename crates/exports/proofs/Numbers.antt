@@ -6,12 +6,13 @@ use mathlib.Core.List.{List, [], _∷_}
 use mathlib.Core.Logic.{inl, inr}
 use lib.Dec.{ltb}
 use lib.Ieee.{Float}
+use Rattle.level.specs.Top.{isTop}
 use Rattle.patch.specs.Subdivide.{discards}
 use Rattle.job.specs.Settings.{firstUnknown}
 use Rattle.tessellate.specs.declared.answer.Size.{Size}
-use Rattle.tessellate.specs.declared.answer.Size.the-variants.{Discarded}
+use Rattle.tessellate.specs.declared.answer.Size.the-variants.{Discarded, BadTop}
 use Rattle.tessellate.specs.Answers.{Told, toldSize, pointsOf, indicesOf, verdict, measured}
-use Rattle.exports.specs.Inputs.{patchIn, settingsIn}
+use Rattle.exports.specs.Inputs.{topIn, patchIn, settingsIn}
 use Rattle.exports.specs.Calls.{known, drawSays, measureSays, OneOf}
 
 -- one of two answers
@@ -19,23 +20,33 @@ either : (ns : List ℕ) (b : Bool) (s t : Told) → OneOf ns (s .number) → On
 either ns true s t h k = h
 either ns false s t h k = k
 
-size-number : (b : Bool) (s : Size) → toldSize s .number ≡ 0 → OneOf (0 ∷ 1 ∷ 8 ∷ []) (toldSize (cond b Discarded s) .number)
-size-number true s e = inr (inl refl)
-size-number false s e = inl e
-
 module _ (bs : List ℕ) (xs : List Float) where
-  pub draw-number : (v i : ℕ) → OneOf (0 ∷ 1 ∷ 3 ∷ 4 ∷ 8 ∷ []) (drawSays bs xs v i .number)
+  pub draw-number : (v i : ℕ) → OneOf (0 ∷ 1 ∷ 3 ∷ 4 ∷ 8 ∷ 11 ∷ []) (drawSays bs xs v i .number)
   unfolding known verdict
   draw-number v i =
       let set = settingsIn bs in
       let p = patchIn bs xs in
-      let of = either (0 ∷ 1 ∷ 3 ∷ 4 ∷ 8 ∷ []) in
-      of (ltb (firstUnknown bs 0) 5) _ _ (inr (inr (inr (inr (inl refl)))))
+      let of = either (0 ∷ 1 ∷ 3 ∷ 4 ∷ 8 ∷ 11 ∷ []) in
+      let eleven = inr (inr (inr (inr (inr (inl refl))))) in
+      of (isTop (topIn bs)) _ _
+      (of (ltb (firstUnknown bs 0) 5) _ _ (inr (inr (inr (inr (inl refl)))))
+      (of (isTop (set .top)) _ _
       (of (discards p) _ _ (inr (inl refl))
       (of (ltb v (3 * pointsOf set p)) _ _ (inr (inr (inl refl)))
       (of (ltb i (indicesOf set p)) _ _ (inr (inr (inr (inl refl)))) (inl refl))))
+      eleven))
+      eleven
 
-  pub measure-number : OneOf (0 ∷ 1 ∷ 8 ∷ []) (measureSays bs xs .number)
+  -- the number of a size
+  size-number : (t b : Bool) (s : Size) → toldSize s .number ≡ 0 → OneOf (0 ∷ 1 ∷ 8 ∷ 11 ∷ []) (toldSize (cond t (cond b Discarded s) BadTop) .number)
+  size-number true true s e = inr (inl refl)
+  size-number true false s e = inl e
+  size-number false b s e = inr (inr (inr (inl refl)))
+
+  pub measure-number : OneOf (0 ∷ 1 ∷ 8 ∷ 11 ∷ []) (measureSays bs xs .number)
   unfolding known measured
   measure-number =
-      either (0 ∷ 1 ∷ 8 ∷ []) (ltb (firstUnknown bs 0) 5) _ _ (inr (inr (inl refl))) (size-number (discards (patchIn bs xs)) _ refl)
+      let of = either (0 ∷ 1 ∷ 8 ∷ 11 ∷ []) in
+      of (isTop (topIn bs)) _ _
+      (of (ltb (firstUnknown bs 0) 5) _ _ (inr (inr (inl refl))) (size-number (isTop (topIn bs)) (discards (patchIn bs xs)) _ refl))
+      (inr (inr (inr (inl refl))))

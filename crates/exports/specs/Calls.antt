@@ -8,6 +8,7 @@ use mathlib.Core.Logic.{_⊎_}
 use lib.Dec.{ltb}
 use lib.Ieee.{Float}
 use lib.ListN.{length, take, getD}
+use Rattle.level.specs.Top.{isTop}
 use Rattle.patch.specs.Subdivide.{subdivision}
 use Rattle.mesh.specs.Words.{vertexWords}
 use Rattle.drawing.specs.Points.{points}
@@ -17,28 +18,32 @@ use Rattle.drawing.specs.Demand.{Demand}
 use Rattle.job.specs.Settings.{firstUnknown}
 use Rattle.tessellate.specs.Answers.{Told, toldSize, verdict, measured}
 use Rattle.tessellate.specs.Draws.{after}
-use Rattle.exports.specs.Inputs.{patchIn, settingsIn}
+use Rattle.exports.specs.Inputs.{topIn, patchIn, settingsIn}
 use Rattle.exports.specs.Clamps.{sizeClamps, noClamps}
 
 -- answer 8, unknown setting: its value is the place, 0 to 4, of the first setting byte that is out of range
 abbrev pub unknownSetting : ℕ → Told
 unknownSetting place = record { number = 8; values = place ∷ [] }
 
--- an operation's answer t is for known settings only; else it is an 8
-unfoldable pub known : List ℕ → Told → Told
-known bs t = cond (ltb (firstUnknown bs 0) 5) (unknownSetting (firstUnknown bs 0)) t
+-- answer 11: the top level is none
+abbrev pub badTop : Told
+badTop = record { number = 11; values = [] }
+
+-- an operation's answer t is for known settings only; a bad top is told before all else, and then an 8
+unfoldable pub known : {A : Type 0} → List ℕ → A → (ℕ → A) → A → A
+known bs bad unknown t = cond (isTop (topIn bs)) (cond (ltb (firstUnknown bs 0) 5) (unknown (firstUnknown bs 0)) t) bad
 
 -- what measuring has to say
 abbrev pub measureSays : List ℕ → List Float → Told
-measureSays bs xs = known bs (toldSize (measured (settingsIn bs) (patchIn bs xs)))
+measureSays bs xs = known bs badTop unknownSetting (toldSize (measured (settingsIn bs) (patchIn bs xs)))
 
 -- and what it says of the levels
-unfoldable pub measureClamps : List ℕ → List Float → List ℕ
-measureClamps bs xs = cond (ltb (firstUnknown bs 0) 5) noClamps (sizeClamps (measured (settingsIn bs) (patchIn bs xs)))
+abbrev pub measureClamps : List ℕ → List Float → List ℕ
+measureClamps bs xs = known bs noClamps (λ place. noClamps) (sizeClamps (measured (settingsIn bs) (patchIn bs xs)))
 
 -- what drawing into lists of n and m words has to say
 abbrev pub drawSays : List ℕ → List Float → ℕ → ℕ → Told
-drawSays bs xs n m = known bs (verdict (settingsIn bs) (patchIn bs xs) n m)
+drawSays bs xs n m = known bs badTop unknownSetting (verdict (settingsIn bs) (patchIn bs xs) n m)
 
 -- n is one of these numbers
 abbrev pub OneOf : List ℕ → ℕ → Type 0
@@ -61,10 +66,10 @@ pub record MeasureCalled (bs : List ℕ) (xs : List Float) (c′ k′ : List ℕ
 
 -- a call of drawing
 pub record DrawCalled (bs : List ℕ) (xs : List Float) (v i v′ i′ c′ : List ℕ) (r : ℕ) : Type 0 where
-  -- the lowest number that applies: 8, or what drawing says
+  -- 11, 8, or what drawing says
   pub says : Says (drawSays bs xs (length v) (length i)) c′ r
   -- drawn: the counted words at the front and not one more; else untouched
-  pub vertices : v′ ≡ after r v (vertexWords (points (subdivision (settingsIn bs .spacing) (patchIn bs xs))))
-  pub indices : i′ ≡ after r i (indexWords (settingsIn bs) (subdivision (settingsIn bs .spacing) (patchIn bs xs)))
+  pub vertices : v′ ≡ after r v (vertexWords (points (subdivision (settingsIn bs .spacing) (settingsIn bs .top) (patchIn bs xs))))
+  pub indices : i′ ≡ after r i (indexWords (settingsIn bs) (subdivision (settingsIn bs .spacing) (settingsIn bs .top) (patchIn bs xs)))
   -- drawn: demand 3 of the counted words, read off the lists by the counts
   pub demand : r ≡ 0 → Demand (settingsIn bs) (patchIn bs xs) (readPoints (take (3 * getD c′ 0 0) v′)) (take (getD c′ 1 0) i′)

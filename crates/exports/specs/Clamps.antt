@@ -6,7 +6,7 @@ use Rattle.level.specs.declared.Clamp.the-variants.{Below, Inside, Above}
 use Rattle.patch.specs.declared.clamps.Clamps.{Clamps}
 use Rattle.patch.specs.declared.clamps.Clamps.the-variants.{Triangles, Quads, Isolines}
 use Rattle.tessellate.specs.declared.answer.Size.{Size}
-use Rattle.tessellate.specs.declared.answer.Size.the-variants.{Counts, Discarded}
+use Rattle.tessellate.specs.declared.answer.Size.the-variants.{Counts, Discarded, BadTop}
 
 -- the byte for a level; 0 is for a level of which nothing is said
 abbrev pub clampByte : Clamp → ℕ
@@ -24,7 +24,8 @@ clampBytes (Isolines a b) = clampByte a ∷ clampByte b ∷ 0 ∷ 0 ∷ 0 ∷ 0 
 abbrev pub noClamps : List ℕ
 noClamps = 0 ∷ 0 ∷ 0 ∷ 0 ∷ 0 ∷ 0 ∷ []
 
--- a discarded patch says nothing of its levels
+-- a patch that is discarded or has a bad top says nothing of its levels
 abbrev pub sizeClamps : Size → List ℕ
 sizeClamps (Counts p i c) = clampBytes c
 sizeClamps Discarded = noClamps
+sizeClamps BadTop = noClamps

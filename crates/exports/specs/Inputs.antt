@@ -1,4 +1,4 @@
--- What a caller hands over: five setting bytes and six levels. Assumes nothing.
+-- What a caller hands over: six setting bytes and six levels. Assumes nothing.
 use Prim.Native.Nat.{ℕ}
 use mathlib.Core.List.{List}
 use lib.Ieee.{Float, nan}
@@ -29,6 +29,10 @@ levelsIn xs = record {
 abbrev pub patchIn : List ℕ → List Float → Patch
 patchIn bs xs = patchWith (kindOf (byteAt bs 0)) (levelsIn xs)
 
--- how it is to be drawn: the four bytes after the kind
+-- the top level: the last setting byte
+abbrev pub topIn : List ℕ → ℕ
+topIn bs = byteAt bs 5
+
+-- how it is to be drawn: the five bytes after the kind
 abbrev pub settingsIn : List ℕ → Settings
-settingsIn bs = settingsAt bs 0
+settingsIn bs = settingsAt bs 0 (topIn bs)

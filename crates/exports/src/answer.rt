@@ -3,7 +3,7 @@ ghost use mathlib.Core.Path.{_≡_};
 ghost use mathlib.Core.List.{[], _∷_};
 ghost use Prim.Native.Nat.{_<_};
 ghost use Rattle.tessellate.specs.Answers.{told, toldSize};
-ghost use Rattle.exports.specs.Calls.{unknownSetting, Says};
+ghost use Rattle.exports.specs.Calls.{unknownSetting, badTop, Says};
 use tessellate::answer::Answer;
 use tessellate::answer::Size;
 
@@ -22,6 +22,12 @@ pub(crate) fn say_unknown(place: usize, counts: &mut [u32; 2]) -> u32
     say(8, place as u32, 0, counts)
 }
 
+pub(crate) fn say_bad_top(counts: &mut [u32; 2]) -> u32
+    ensures { λ r. ⌜ Says badTop (now (counts .exit)) r ⌝ }
+{
+    say(11, 0, 0, counts)
+}
+
 pub(crate) fn say_size(size: Size, counts: &mut [u32; 2]) -> u32
     ensures { λ r. ⌜ Says (toldSize size) (now (counts .exit)) r ⌝ }
 {
@@ -32,6 +38,7 @@ pub(crate) fn say_size(size: Size, counts: &mut [u32; 2]) -> u32
             clamps: _,
         } => say(0, points, indices, counts),
         Size::Discarded => say(1, 0, 0, counts),
+        Size::BadTop => say_bad_top(counts),
     }
 }
 
@@ -43,5 +50,6 @@ pub(crate) fn say_answer(answer: Answer, counts: &mut [u32; 2]) -> u32
         Answer::Discarded => say(1, 0, 0, counts),
         Answer::NoRoomForVertices => say(3, 0, 0, counts),
         Answer::NoRoomForIndices => say(4, 0, 0, counts),
+        Answer::BadTop => say_bad_top(counts),
     }
 }

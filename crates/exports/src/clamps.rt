@@ -67,5 +67,6 @@ pub(crate) fn say_clamps(size: Size, clamps: &mut [u8; 6])
             clamps: told,
         } => *clamps = bytes_of(told),
         Size::Discarded => say_nothing(clamps),
+        Size::BadTop => say_nothing(clamps),
     }
 }

@@ -3,7 +3,7 @@ ghost use Rattle.exports.specs.Calls.{DrawCalled};
 
 #[no_mangle]
 pub extern "C" fn yoktvarim_draw(
-    settings: &[u8; 5],
+    settings: &[u8; 6],
     levels: &[f32; 6],
     vertices: &mut [u32],
     indices: &mut [u16],
@@ -11,6 +11,10 @@ pub extern "C" fn yoktvarim_draw(
 ) -> u32
     ensures { λ r. ⌜ DrawCalled (now (settings .entry)) (now (levels .entry)) (now (vertices .entry)) (now (indices .entry)) (now (vertices .exit)) (now (indices .exit)) (now (counts .exit)) r ⌝ }
 {
+    let top = crate::input::top_in(settings);
+    if !level::is_top(top) {
+        return crate::answer::say_bad_top(counts);
+    }
     let place = job::setting::first_unknown(settings, 0);
     if place < 5 {
         return crate::answer::say_unknown(place, counts);
@@ -18,7 +22,7 @@ pub extern "C" fn yoktvarim_draw(
     let patch = crate::input::patch_in(settings, levels);
     let answer = tessellate::draw::draw(
         patch,
-        job::setting::read_settings(settings, 0),
+        job::setting::read_settings(settings, 0, top),
         vertices,
         indices,
     );

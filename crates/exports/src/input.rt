@@ -1,10 +1,20 @@
-// The patch that a caller's settings and levels ask for.
+// The top level and the patch that a caller's settings and levels ask for.
 ghost use mathlib.Core.Path.{_≡_};
-ghost use Rattle.exports.specs.Inputs.{patchIn};
+ghost use Prim.Native.Nat.{_≤_};
+ghost use lib.ListN.{length};
+ghost use Rattle.exports.specs.Inputs.{topIn, patchIn};
 use job::setting::Kind;
 use patch::kinds::Patch;
 
-pub(crate) fn patch_in(settings: &[u8; 5], levels: &[f32; 6]) -> Patch
+// The top level, whether or not it is one.
+pub(crate) fn top_in(settings: &[u8]) -> u32
+    requires { ⌜ 6 ≤ length (now settings) ⌝ }
+    ensures { λ r. ⌜ r ≡ topIn (now (settings .entry)) ⌝ }
+{
+    settings[5] as u32
+}
+
+pub(crate) fn patch_in(settings: &[u8; 6], levels: &[f32; 6]) -> Patch
     ensures { λ r. ⌜ r ≡ patchIn (now (settings .entry)) (now (levels .entry)) ⌝ }
 {
     let kind = job::setting::kind_of(settings[0]);

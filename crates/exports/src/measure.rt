@@ -3,20 +3,25 @@ ghost use Rattle.exports.specs.Calls.{MeasureCalled};
 
 #[no_mangle]
 pub extern "C" fn yoktvarim_measure(
-    settings: &[u8; 5],
+    settings: &[u8; 6],
     levels: &[f32; 6],
     counts: &mut [u32; 2],
     clamps: &mut [u8; 6],
 ) -> u32
     ensures { λ r. ⌜ MeasureCalled (now (settings .entry)) (now (levels .entry)) (now (counts .exit)) (now (clamps .exit)) r ⌝ }
 {
+    let top = crate::input::top_in(settings);
+    if !level::is_top(top) {
+        crate::clamps::say_nothing(clamps);
+        return crate::answer::say_bad_top(counts);
+    }
     let place = job::setting::first_unknown(settings, 0);
     if place < 5 {
         crate::clamps::say_nothing(clamps);
         return crate::answer::say_unknown(place, counts);
     }
     let patch = crate::input::patch_in(settings, levels);
-    let size = tessellate::measure::measure(patch, job::setting::read_settings(settings, 0));
+    let size = tessellate::measure::measure(patch, job::setting::read_settings(settings, 0, top));
     crate::clamps::say_clamps(size, clamps);
     crate::answer::say_size(size, counts)
 }

@@ -4,6 +4,7 @@ use native.Mathlib.Omega.{arith}
 use mathlib.Core.Path.{_≡_, ap}
 use mathlib.Core.List.{List}
 use lib.ListN.{length}
+use Rattle.job.specs.declared.version.Version.{Version}
 use Rattle.job.specs.declared.cursor.Cursor.{Cursor}
 use Rattle.job.specs.declared.header.Header.the-variants.{Read}
 use Rattle.job.specs.declared.next.NextRecord.the-variants.{End}
@@ -13,5 +14,5 @@ use Rattle.job.proofs.Headers.{header-exactly}
 use Rattle.job.proofs.Records.{record-end}
 
 -- a header alone is followed by the end
-pub header-alone : (bs : List ℕ) (next : Cursor) → length bs ≡ 5 → headerOf bs ≡ Read next → recordAt bs (next .at) ≡ End
-header-alone bs next h e = record-end bs (next .at) (omega (arith, ap (λ (c : Cursor). c .at) (header-exactly bs (Read next) .0 e .3)))
+pub header-alone : (bs : List ℕ) (v : Version) (next : Cursor) → length bs ≡ 5 → headerOf bs ≡ Read v next → recordAt v bs (next .at) ≡ End
+header-alone bs v next h e = record-end v bs (next .at) (omega (arith, ap (λ (c : Cursor). c .at) (header-exactly bs (Read v next) .0 e .3)))

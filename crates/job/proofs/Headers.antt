@@ -6,12 +6,15 @@ use mathlib.Core.Path.{_≡_, refl, sym, ap, _∙_}
 use mathlib.Core.Bool.{Bool, true, false, or-true, false≢true}
 use mathlib.Core.List.{List, [], _∷_}
 use mathlib.Core.Logic.{_↔_, inl, inr}
-use borrow.Author.Tests.{lt-ltb, le-ltb, eq-eqb, ne-eqb}
+use borrow.Author.Tests.{lt-ltb, le-ltb, ne-eqb}
 use lib.ListN.{length, take}
+use Rattle.job.specs.declared.version.Version.{Version}
+use Rattle.job.specs.declared.version.Version.the-variants.{One, Two}
 use Rattle.job.specs.declared.header.Header.{Header}
 use Rattle.job.specs.declared.header.Header.the-variants.{Read, NotAJob, UnknownVersion}
 use Rattle.job.specs.Bytes.{word}
-use Rattle.job.specs.Header.{mark, startsWith, headerOf, headerNumber, HeaderRead, HeaderMeans}
+use Rattle.job.specs.Version.{versionNumber}
+use Rattle.job.specs.Header.{mark, startsWith, start, headerOf, headerNumber, HeaderRead, HeaderMeans}
 use Rattle.job.proofs.Numbers.{apart}
 use Rattle.job.proofs.Marks.{starts-take, take-starts}
 
@@ -24,19 +27,23 @@ module _ (bs : List ℕ) where
   unfolding headerOf
   header-other h = rw (h, or-true)
 
-  pub header-version : 5 ≤ length bs → startsWith mark bs ≡ true → (word 2 bs 3 ≡ 1 → ⊥) → headerOf bs ≡ UnknownVersion
+  pub header-version : 5 ≤ length bs → startsWith mark bs ≡ true → (word 2 bs 3 ≡ 1 → ⊥) → (word 2 bs 3 ≡ 2 → ⊥) → headerOf bs ≡ UnknownVersion
   unfolding headerOf
-  header-version h m v = rw (le-ltb _ _ h, m, ne-eqb _ _ v)
+  header-version h m p q = rw (le-ltb _ _ h, m, ne-eqb _ _ p, ne-eqb _ _ q)
 
-  pub header-right : 5 ≤ length bs → startsWith mark bs ≡ true → word 2 bs 3 ≡ 1 → headerOf bs ≡ Read (record { at = 5 })
+  pub header-right : 5 ≤ length bs → startsWith mark bs ≡ true → (v : Version) → word 2 bs 3 ≡ versionNumber v → headerOf bs ≡ Read v start
   unfolding headerOf
-  header-right h m v = rw (le-ltb _ _ h, m, eq-eqb _ _ v)
+  header-right h m One e = rw (le-ltb _ _ h, m, e)
+  header-right h m Two e = rw (le-ltb _ _ h, m, e)
 
   by-mark : 5 ≤ length bs → (t : Bool) → startsWith mark bs ≡ t → HeaderMeans bs (headerOf bs)
   by-mark h false m = rw (header-other m) (inr (λ e. false≢true (sym m ∙ take-starts mark bs e)))
   by-mark h true m = elim (ℕ-discrete (word 2 bs 3) 1) [
-    | yes v ↦ rw (header-right h m v) (h, starts-take mark bs m, v, refl)
-    | no v ↦ rw (header-version h m v) (h, starts-take mark bs m, v)
+    | yes e ↦ rw (header-right h m One e) (h, starts-take mark bs m, e, refl)
+    | no p ↦ elim (ℕ-discrete (word 2 bs 3) 2) [
+      | yes e ↦ rw (header-right h m Two e) (h, starts-take mark bs m, e, refl)
+      | no q ↦ rw (header-version h m p q) (h, starts-take mark bs m, p, q)
+    ]
   ]
 
   header-means : HeaderMeans bs (headerOf bs)
@@ -52,8 +59,8 @@ module _ (bs : List ℕ) where
   means-header : (r : Header) → HeaderMeans bs r → headerOf bs ≡ r
   means-header NotAJob (inl h) = header-short h
   means-header NotAJob (inr d) = other d (startsWith mark bs) refl
-  means-header UnknownVersion (h, m, v) = header-version h (take-starts mark bs m) v
-  means-header (Read next) (h, m, v, e) = header-right h (take-starts mark bs m) v ∙ rw e
+  means-header UnknownVersion (h, m, p, q) = header-version h (take-starts mark bs m) p q
+  means-header (Read v next) (h, m, n, e) = header-right h (take-starts mark bs m) v n ∙ rw e
 
   -- an answer is given exactly where it is the right one
   pub header-exactly : (r : Header) → headerOf bs ≡ r ↔ HeaderMeans bs r
@@ -62,12 +69,12 @@ module _ (bs : List ℕ) where
   is-5 : (r : Header) → HeaderMeans bs r → headerNumber r ≡ 5 ∷ [] → HeaderMeans bs NotAJob
   is-5 NotAJob m e = m
   is-5 UnknownVersion m e = absurd (apart e refl)
-  is-5 (Read next) m e = absurd (apart e refl)
+  is-5 (Read v next) m e = absurd (apart e refl)
 
   is-6 : (r : Header) → HeaderMeans bs r → headerNumber r ≡ 6 ∷ [] → HeaderMeans bs UnknownVersion
   is-6 NotAJob m e = absurd (apart e refl)
   is-6 UnknownVersion m e = m
-  is-6 (Read next) m e = absurd (apart e refl)
+  is-6 (Read v next) m e = absurd (apart e refl)
 
   -- an answer that is the definition's keeps the whole promise
   pub header-read : {r : Header} → headerOf bs ≡ r → HeaderRead bs r

@@ -7,6 +7,9 @@ use mathlib.Core.Logic.{_⊎_, _↔_}
 use lib.ListN.{length, take}
 use lib.Dec.{ltb, eqb}
 use Rattle.job.specs.Bytes.{word}
+use Rattle.job.specs.Version.{versionNumber}
+use Rattle.job.specs.declared.version.Version.the-variants.{One, Two}
+use Rattle.job.specs.declared.cursor.Cursor.{Cursor}
 use Rattle.job.specs.declared.header.Header.{Header}
 use Rattle.job.specs.declared.header.Header.the-variants.{Read, NotAJob, UnknownVersion}
 
@@ -24,23 +27,27 @@ startsWith (m ∷ ms) (b ∷ bs) = eqb b m && startsWith ms bs
 abbrev pub notAJob : List ℕ → Bool
 notAJob bs = ltb (length bs) 5 || not (startsWith mark bs)
 
--- answer 6 applies to bytes that 5 does not apply to: the version, 16 bits after the mark, is not 1
-abbrev pub otherVersion : List ℕ → Bool
-otherVersion bs = not (eqb (word 2 bs 3) 1)
+-- the first record is at byte 5
+abbrev pub start : Cursor
+start = record { at = 5 }
 
--- what the header of a job file says: the first record is at byte 5
+-- what the number of the version says: answer 6 applies where it is neither 1 nor 2
+abbrev pub byVersion : ℕ → Header
+byVersion n = cond (eqb n 1) (Read One start) (cond (eqb n 2) (Read Two start) UnknownVersion)
+
+-- what the header of a job file says: the version is 16 bits after the mark
 unfoldable pub headerOf : List ℕ → Header
-headerOf bs = cond (notAJob bs) NotAJob (cond (otherVersion bs) UnknownVersion (Read (record { at = 5 })))
+headerOf bs = cond (notAJob bs) NotAJob (byVersion (word 2 bs 3))
 
 -- when each answer is the right one
 abbrev pub HeaderMeans : List ℕ → Header → Type 0
 HeaderMeans bs NotAJob = (length bs < 5) ⊎ (take 3 bs ≡ mark → ⊥)
-HeaderMeans bs UnknownVersion = (5 ≤ length bs) × (take 3 bs ≡ mark) × (word 2 bs 3 ≡ 1 → ⊥)
-HeaderMeans bs (Read next) = (5 ≤ length bs) × (take 3 bs ≡ mark) × (word 2 bs 3 ≡ 1) × (next ≡ record { at = 5 })
+HeaderMeans bs UnknownVersion = (5 ≤ length bs) × (take 3 bs ≡ mark) × (word 2 bs 3 ≡ 1 → ⊥) × (word 2 bs 3 ≡ 2 → ⊥)
+HeaderMeans bs (Read v next) = (5 ≤ length bs) × (take 3 bs ≡ mark) × (word 2 bs 3 ≡ versionNumber v) × (next ≡ start)
 
 -- the number of each answer that refuses; none, [], where a header is read
 abbrev pub headerNumber : Header → List ℕ
-headerNumber (Read next) = []
+headerNumber (Read v next) = []
 headerNumber NotAJob = 5 ∷ []
 headerNumber UnknownVersion = 6 ∷ []
 

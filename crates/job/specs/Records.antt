@@ -7,52 +7,55 @@ use mathlib.Core.Logic.{_↔_}
 use lib.ListN.{length}
 use lib.Dec.{leb, ltb}
 use Rattle.job.specs.Bytes.{byteAt}
-use Rattle.job.specs.Settings.{choices, firstUnknown, FirstOver, AllBelow, kindOf, settingsAt}
+use Rattle.job.specs.Version.{settingBytes, recordSize}
+use Rattle.job.specs.Settings.{kindOf, settingsAt}
+use Rattle.job.specs.Tops.{topAt, unknownPlace, FirstUnknown, AllKnown}
 use Rattle.job.specs.Levels.{bitsAt, levelsOf}
+use Rattle.job.specs.declared.version.Version.{Version}
 use Rattle.job.specs.declared.cursor.Cursor.{Cursor}
 use Rattle.job.specs.declared.record.Record.{Record}
 use Rattle.job.specs.declared.next.NextRecord.{NextRecord}
 use Rattle.job.specs.declared.next.NextRecord.the-variants.{Read, End, CutRecord, UnknownSetting}
 
--- the record in the 29 bytes from `at` on: five setting bytes, then the levels
-unfoldable pub recordOf : List ℕ → ℕ → Record
-recordOf bs at = record {
+-- the record in the bytes from `at` on: the setting bytes, then the levels
+unfoldable pub recordOf : Version → List ℕ → ℕ → Record
+recordOf v bs at = record {
   kind = kindOf (byteAt bs at);
-  settings = settingsAt bs at;
-  levels = levelsOf (bitsAt bs (at + 5));
-  bits = bitsAt bs (at + 5);
+  settings = settingsAt bs at (topAt v bs at);
+  levels = levelsOf (bitsAt bs (at + settingBytes v));
+  bits = bitsAt bs (at + settingBytes v);
 }
 
 -- the cursor after the record at `at`
-abbrev pub after : ℕ → Cursor
-after at = record { at = at + 29 }
+abbrev pub after : Version → ℕ → Cursor
+after v at = record { at = at + recordSize v }
 
 -- no byte is left at the cursor, or it lies past the end
 abbrev pub atEnd : List ℕ → ℕ → Bool
 atEnd bs at = leb (length bs) at
 
--- answer 7 applies where a byte is left: there are under 29
-abbrev pub cut : List ℕ → ℕ → Bool
-cut bs at = ltb (length bs - at) 29
+-- answer 7 applies where a byte is left: there are too few for a record
+abbrev pub cut : Version → List ℕ → ℕ → Bool
+cut v bs at = ltb (length bs - at) (recordSize v)
 
--- answer 8 applies to a whole record: one of the five setting bytes is out of range
-abbrev pub unknown : List ℕ → ℕ → Bool
-unknown bs at = ltb (firstUnknown bs at) 5
+-- answer 8 applies to a whole record: one of the setting bytes is out of range
+abbrev pub unknown : Version → List ℕ → ℕ → Bool
+unknown v bs at = ltb (unknownPlace v bs at) (settingBytes v)
 
--- what is found at a cursor
-unfoldable pub recordAt : List ℕ → ℕ → NextRecord
-recordAt bs at =
+-- what is found at a cursor, in a file of a version
+unfoldable pub recordAt : Version → List ℕ → ℕ → NextRecord
+recordAt v bs at =
     cond (atEnd bs at) End
-    (cond (cut bs at) CutRecord
-    (cond (unknown bs at) (UnknownSetting (firstUnknown bs at) (after at))
-    (Read (recordOf bs at) (after at))))
+    (cond (cut v bs at) CutRecord
+    (cond (unknown v bs at) (UnknownSetting (unknownPlace v bs at) (after v at))
+    (Read (recordOf v bs at) (after v at))))
 
 -- when each answer is the right one
-abbrev pub RecordMeans : List ℕ → ℕ → NextRecord → Type 0
-RecordMeans bs at End = length bs ≤ at
-RecordMeans bs at CutRecord = (at < length bs) × (length bs < at + 29)
-RecordMeans bs at (UnknownSetting place next) = (at + 29 ≤ length bs) × FirstOver choices bs at place × (next ≡ after at)
-RecordMeans bs at (Read r next) = (at + 29 ≤ length bs) × AllBelow choices bs at × (r ≡ recordOf bs at) × (next ≡ after at)
+abbrev pub RecordMeans : Version → List ℕ → ℕ → NextRecord → Type 0
+RecordMeans v bs at End = length bs ≤ at
+RecordMeans v bs at CutRecord = (at < length bs) × (length bs < at + recordSize v)
+RecordMeans v bs at (UnknownSetting place next) = (at + recordSize v ≤ length bs) × FirstUnknown v bs at place × (next ≡ after v at)
+RecordMeans v bs at (Read r next) = (at + recordSize v ≤ length bs) × AllKnown v bs at × (r ≡ recordOf v bs at) × (next ≡ after v at)
 
 -- the number of each answer that refuses, with the place of an 8; none, [], of the others
 abbrev pub recordNumber : NextRecord → List ℕ
@@ -62,7 +65,7 @@ recordNumber CutRecord = 7 ∷ []
 recordNumber (UnknownSetting place next) = 8 ∷ place ∷ []
 
 -- what reading a record promises: the answer, and exactly when it is a 7 and when an 8 with its place
-pub record RecordRead (bs : List ℕ) (at : ℕ) (r : NextRecord) : Type 0 where
-  pub is : r ≡ recordAt bs at
-  pub refused-7 : recordNumber r ≡ 7 ∷ [] ↔ RecordMeans bs at CutRecord
-  pub refused-8 : (place : ℕ) → recordNumber r ≡ 8 ∷ place ∷ [] ↔ RecordMeans bs at (UnknownSetting place (after at))
+pub record RecordRead (v : Version) (bs : List ℕ) (at : ℕ) (r : NextRecord) : Type 0 where
+  pub is : r ≡ recordAt v bs at
+  pub refused-7 : recordNumber r ≡ 7 ∷ [] ↔ RecordMeans v bs at CutRecord
+  pub refused-8 : (place : ℕ) → recordNumber r ≡ 8 ∷ place ∷ [] ↔ RecordMeans v bs at (UnknownSetting place (after v at))

@@ -15,7 +15,7 @@ use Rattle.patch.specs.declared.settings.DomainOrigin.{DomainOrigin}
 use Rattle.patch.specs.declared.settings.DomainOrigin.the-variants.{UpperLeft, LowerLeft}
 use Rattle.patch.specs.declared.settings.Settings.{Settings}
 
--- how many values each setting byte has, in their order: kind, spacing, winding, origin, point switch
+-- how many values each of the first five setting bytes has, in their order: kind, spacing, winding, origin, point switch
 abbrev pub choices : List ℕ
 choices = 3 ∷ 3 ∷ 2 ∷ 2 ∷ 2 ∷ []
 
@@ -34,7 +34,7 @@ pub record FirstOver (limits bs : List ℕ) (at place : ℕ) : Type 0 where
 abbrev pub AllBelow : List ℕ → List ℕ → ℕ → Type 0
 AllBelow limits bs at = (k : ℕ) → k < length limits → byteAt bs (at + k) < getD limits k 0
 
--- the place of the first setting byte that is out of range; 5 where there is none
+-- the place of the first of these five bytes that is out of range; 5 where there is none
 abbrev pub firstUnknown : List ℕ → ℕ → ℕ
 firstUnknown bs at = firstOver choices bs at
 
@@ -65,11 +65,12 @@ abbrev pub pointModeOf : ℕ → Bool
 pointModeOf zero = false
 pointModeOf (suc b) = true
 
--- the settings of a record that starts at `at`, after its kind
-abbrev pub settingsAt : List ℕ → ℕ → Settings
-settingsAt bs at = record {
+-- the settings of a record that starts at `at`, after its kind; the top level is given
+abbrev pub settingsAt : List ℕ → ℕ → ℕ → Settings
+settingsAt bs at top = record {
   spacing = spacingOf (byteAt bs (at + 1));
   order = orderOf (byteAt bs (at + 2));
   origin = originOf (byteAt bs (at + 3));
   «point_mode» = pointModeOf (byteAt bs (at + 4));
+  top = top;
 }

@@ -4,11 +4,12 @@ ghost use Prim.Native.Nat.{_≤_};
 ghost use lib.ListN.{length};
 ghost use Rattle.job.specs.Header.{startsWith, HeaderRead};
 use crate::cursor::Cursor;
+use crate::version::Version;
 use crate::word::read_u16;
 
 pub enum Header {
-    // A header of version 1; the first record is at the cursor.
-    Read(Cursor),
+    // The first record is at the cursor.
+    Read { version: Version, next: Cursor },
     NotAJob,
     UnknownVersion,
 }
@@ -36,8 +37,16 @@ pub fn read_header(bytes: &[u8]) -> Header
     if !starts_with(bytes, b"TSJ") {
         return Header::NotAJob;
     }
-    if read_u16(bytes, 3) != 1 {
-        return Header::UnknownVersion;
+    let next = Cursor { at: 5 };
+    match read_u16(bytes, 3) {
+        1 => Header::Read {
+            version: Version::One,
+            next,
+        },
+        2 => Header::Read {
+            version: Version::Two,
+            next,
+        },
+        _ => Header::UnknownVersion,
     }
-    Header::Read(Cursor { at: 5 })
 }

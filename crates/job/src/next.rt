@@ -3,31 +3,37 @@ ghost use mathlib.Core.Path.{_≡_};
 ghost use Prim.Native.Nat.{_+_, _≤_};
 ghost use lib.ListN.{length};
 ghost use Rattle.job.specs.Records.{recordOf, RecordRead};
+ghost use Rattle.job.specs.Version.{recordSize};
 use crate::cursor::Cursor;
 use crate::levels::levels_of;
 use crate::levels::read_bits;
 use crate::record::Record;
-use crate::setting::first_unknown;
 use crate::setting::kind_of;
 use crate::setting::read_settings;
+use crate::top::read_top;
+use crate::top::unknown_place;
+use crate::version::Version;
+use crate::version::record_size;
+use crate::version::setting_bytes;
 
 // What is found at a cursor; `next` is past the record.
 pub enum NextRecord {
     Read { record: Record, next: Cursor },
     End,
     CutRecord,
-    // The place, from 0 to 4, of the first setting byte that is out of range.
+    // The place of the first setting byte that is out of range: 0 to 4 in version 1, 0 to 5 in version 2.
     UnknownSetting { place: usize, next: Cursor },
 }
 
-// The 29 bytes of a record whose setting bytes are in range.
-fn read_whole(bytes: &[u8], at: usize) -> Record
-    requires { ⌜ at + 29 ≤ length (now bytes) ⌝ }
-    ensures { λ r. ⌜ r ≡ recordOf (now (bytes .entry)) at ⌝ }
+// A record whose setting bytes are in range.
+fn read_whole(bytes: &[u8], version: Version, at: usize) -> Record
+    requires { ⌜ at + recordSize version ≤ length (now bytes) ⌝ }
+    ensures { λ r. ⌜ r ≡ recordOf version (now (bytes .entry)) at ⌝ }
 {
     let kind = kind_of(bytes[at]);
-    let settings = read_settings(bytes, at);
-    let bits = read_bits(bytes, at + 5);
+    let top = read_top(bytes, version, at);
+    let settings = read_settings(bytes, at, top);
+    let bits = read_bits(bytes, at + setting_bytes(version));
     let levels = levels_of(bits);
     Record {
         kind,
@@ -37,21 +43,23 @@ fn read_whole(bytes: &[u8], at: usize) -> Record
     }
 }
 
-pub fn read_record(bytes: &[u8], cursor: Cursor) -> NextRecord
-    ensures { λ r. ⌜ RecordRead (now (bytes .entry)) (cursor .at) r ⌝ }
+// What stands at a cursor in a file of a version.
+pub fn read_record(bytes: &[u8], version: Version, cursor: Cursor) -> NextRecord
+    ensures { λ r. ⌜ RecordRead version (now (bytes .entry)) (cursor .at) r ⌝ }
 {
     let at = cursor.at;
     if bytes.len() <= at {
         return NextRecord::End;
     }
-    if bytes.len() - at < 29 {
+    let size = record_size(version);
+    if bytes.len() - at < size {
         return NextRecord::CutRecord;
     }
-    let next = Cursor { at: at + 29 };
-    let place = first_unknown(bytes, at);
-    if place < 5 {
+    let next = Cursor { at: at + size };
+    let place = unknown_place(bytes, version, at);
+    if place < setting_bytes(version) {
         return NextRecord::UnknownSetting { place, next };
     }
-    let record = read_whole(bytes, at);
+    let record = read_whole(bytes, version, at);
     NextRecord::Read { record, next }
 }

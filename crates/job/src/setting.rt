@@ -1,4 +1,4 @@
-// The five setting bytes of a record: kind, spacing, vertex order, domain origin, point mode.
+// The first five setting bytes of a record: kind, spacing, vertex order, domain origin, point mode.
 ghost use mathlib.Core.Path.{_≡_};
 ghost use Prim.Native.Nat.{_+_, _≤_};
 ghost use lib.ListN.{length};
@@ -14,10 +14,10 @@ pub enum Kind {
     Isolines,
 }
 
-// How many values each setting byte has.
+// How many values each of them has.
 const CHOICES: [u8; 5] = [3, 3, 2, 2, 2];
 
-// The place, from 0 on, of the first setting byte that is out of range, and 5 where there is none.
+// The place, from 0 on, of the first of the five that is out of range, and 5 where there is none.
 pub fn first_unknown(bytes: &[u8], at: usize) -> usize
     requires { ⌜ at + 5 ≤ length (now bytes) ⌝ }
     ensures { λ r. ⌜ r ≡ firstUnknown (now (bytes .entry)) at ⌝ }
@@ -70,15 +70,16 @@ fn origin_of(byte: u8) -> DomainOrigin
     }
 }
 
-// The four setting bytes after the kind.
-pub fn read_settings(bytes: &[u8], at: usize) -> Settings
+// The four setting bytes after the kind, and a top level that is given.
+pub fn read_settings(bytes: &[u8], at: usize, top: u32) -> Settings
     requires { ⌜ at + 5 ≤ length (now bytes) ⌝ }
-    ensures { λ r. ⌜ r ≡ settingsAt (now (bytes .entry)) at ⌝ }
+    ensures { λ r. ⌜ r ≡ settingsAt (now (bytes .entry)) at top ⌝ }
 {
     Settings {
         spacing: spacing_of(bytes[at + 1]),
         order: order_of(bytes[at + 2]),
         origin: origin_of(bytes[at + 3]),
         point_mode: bytes[at + 4] != 0,
+        top,
     }
 }

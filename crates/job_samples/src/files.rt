@@ -16,7 +16,11 @@ pub fn headers() {
     header(b"first letter", b"USJ\x01\x00");
     header(b"third letter", b"TSR\x01\x00");
     header(b"version 2", b"TSJ\x02\x00");
+    header(b"version 0", b"TSJ\x00\x00");
+    header(b"version 3", b"TSJ\x03\x00");
     header(b"version 256", b"TSJ\x00\x01");
     header(b"version 257", b"TSJ\x01\x01");
-    header(b"mark and version", b"TSK\x02\x00");
+    header(b"version 258", b"TSJ\x02\x01");
+    header(b"version 512", b"TSJ\x00\x02");
+    header(b"mark and version", b"TSK\x03\x00");
 }

@@ -1,7 +1,9 @@
 // Reads job files that are good or damaged, and writes what was answered.
 mod files;
+mod read;
 mod records;
 mod show;
+mod tops;
 
 fn main() {
     files::headers();
@@ -9,4 +11,8 @@ fn main() {
     records::cut();
     records::whole();
     records::in_turn();
+    tops::unknown();
+    tops::cut();
+    tops::by_version();
+    tops::in_turn();
 }

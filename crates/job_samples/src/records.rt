@@ -1,13 +1,10 @@
-// Records: refused, whole, and one after the other.
-use crate::show::write_answer;
-use job::cursor::Cursor;
-use job::next::NextRecord;
-use job::next::read_record;
+// Records of version 1: refused, whole, and one after the other.
+use crate::read::sample;
+use crate::read::walk;
+use job::version::Version;
 
 fn record(name: &[u8], bytes: &[u8], at: usize) {
-    io::write_all(1, name);
-    io::write_all(1, b": ");
-    write_answer(read_record(bytes, Cursor { at }));
+    sample(name, bytes, Version::One, at);
 }
 
 // A record of five setting bytes and six levels of 0.
@@ -56,30 +53,5 @@ pub fn whole() {
 pub fn in_turn() {
     let bytes =
         b"TSJ\x01\x00\x01\x01\x00\x01\x00\x01\x00\x80\x7f\x02\x00\xc0\xff\x00\x00\x80\x7f\x00\x00\x80\xff\x00\x00\x80\x42\x01\x00\x80\x3f\x09\x00\x00\x00\x00------------------------\x02\x02\x01\x00\x01\x00\x00\x40\x40\x00\x00\x00\x40\x01\x02\x03\x04\x05\x06\x07\x08\x00\x00\x00\x80\xff\xff\xff\xff\x00\x01\x02";
-    walk(bytes, 5);
-}
-
-// Every record from a place on.
-fn walk(bytes: &[u8], from: usize) {
-    let mut at = from;
-    loop {
-        let answer = read_record(bytes, Cursor { at });
-        io::print_decimal(1, at as u64);
-        io::write_all(1, b": ");
-        write_answer(answer);
-        match answer {
-            NextRecord::Read { record: _, next } => {
-                at = next.at;
-            }
-            NextRecord::UnknownSetting { place: _, next } => {
-                at = next.at;
-            }
-            NextRecord::End => {
-                return;
-            }
-            NextRecord::CutRecord => {
-                return;
-            }
-        }
-    }
+    walk(bytes, Version::One, 5);
 }

@@ -5,6 +5,7 @@ use job::next::NextRecord;
 use job::record::Record;
 use job::record::patch_of;
 use job::record::settings_of;
+use job::version::version_number;
 use level::Spacing;
 use level::segments_of;
 use patch::kinds::Patch;
@@ -14,8 +15,10 @@ use patch::settings::VertexOrder;
 
 pub fn write_header(header: Header) {
     match header {
-        Header::Read(next) => {
-            io::write_all(1, b"read, next at ");
+        Header::Read { version, next } => {
+            io::write_all(1, b"version ");
+            io::print_decimal(1, version_number(version) as u64);
+            io::write_all(1, b", next at ");
             io::print_decimal(1, next.at as u64);
             io::write_all(1, b"\n");
         }
@@ -106,8 +109,9 @@ fn write_outer(outer0: f32, outer1: f32, spacing: Spacing) {
     write_level(outer1, spacing);
 }
 
+// The segments of a level under the greatest top.
 fn write_level(level: f32, spacing: Spacing) {
-    let clamped = segments_of(level, spacing);
+    let clamped = segments_of(level, spacing, 64);
     let segments = clamped.segments;
     io::write_all(1, b" ");
     io::print_decimal(1, segments.count as u64);
@@ -134,10 +138,12 @@ fn write_settings(settings: Settings) {
     }
     ;
     if settings.point_mode {
-        io::write_all(1, b", points\n");
+        io::write_all(1, b", points, top ");
     } else {
-        io::write_all(1, b", no points\n");
+        io::write_all(1, b", no points, top ");
     }
+    io::print_decimal(1, settings.top as u64);
+    io::write_all(1, b"\n");
 }
 
 fn write_bits(bits: LevelBits) {

@@ -13,6 +13,6 @@ least-count Equal L = record { kind = tt; enough = omega arith; least = λ k _ h
 least-count FractionalEven L = record { kind = omega arith; enough = omega arith; least = λ k e h. omega arith }
 least-count FractionalOdd L = record { kind = omega arith; enough = omega arith; least = λ k o h. omega arith }
 
-pub level-least-count : (s : Spacing) (x : Float) → LeastCount s (parts (clampedLevel s x)) (segmentsOf s x .count)
+pub level-least-count : (s : Spacing) (t : ℕ) (x : Float) → LeastCount s (parts (clampedLevel s t x)) (segmentsOf s t x .count)
 unfolding segmentsOf
-level-least-count s x = least-count s (parts (clampedLevel s x))
+level-least-count s t x = least-count s (parts (clampedLevel s t x))

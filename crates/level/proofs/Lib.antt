@@ -1,5 +1,6 @@
 -- Laws of levels, beyond the contracts.
 pub mod Order
+pub mod Top
 pub mod Within
 pub mod Sides
 pub mod Scale

@@ -1,15 +1,18 @@
 -- `parts`, which gives L, is the least whole number not below the level times 65536. Assumes nothing.
 use Prim.Native.Nat.{ℕ, _+_, _-_, _*_, _/_, _≤_, _<_}
-use native.Mathlib.Nat.{add-mul, mul-one, div-lt-iff-lt-mul, lt-of-lt-of-le, mul-pos}
+use mathlib.Core.Bool.{false}
+use native.Mathlib.Nat.{add-mul, mul-one, mul-assoc, div-lt-iff-lt-mul, le-trans, lt-of-lt-of-le, mul-pos}
 use native.Mathlib.Omega.{arith}
 use lib.Dec.{T, lt→ltb, lit<}
 use lib.Ieee.{Float, le}
-use lib.Ieee.Positive.{num, den, positive, den-pos, own-value, first-pos, value-pos, le→cross, cross→le, through, above-of-le}
+use lib.Ieee.Exact.{HasValue}
+use lib.Ieee.Positive.{num, den, positive, den-pos, own-value, first-pos, value-pos, value→cross, le→cross, cross→le, through, above-of-le}
+use Rattle.level.specs.Top.{Top, mostSegments}
 use Rattle.level.specs.Clamp.{lowest, highest, clampedLevel}
 use Rattle.level.specs.Scale.{parts, ofParts, LeastParts, InRange}
 use Rattle.level.specs.declared.Spacing.{Spacing}
 use Rattle.level.specs.declared.Spacing.the-variants.{Equal, FractionalEven, FractionalOdd}
-use Rattle.level.proofs.Within.{ends, level-within, level-positive}
+use Rattle.level.proofs.Within.{highest-value, ends, level-within, level-positive}
 
 -- ---- the two halves, with x as a fraction
 parts-enough : (x : Float) → num x * 65536 ≤ parts x * den x
@@ -42,23 +45,32 @@ least-parts x p =
 pub parts-rise : (x y : Float) → T (positive x) → T (positive y) → T (le x y) → parts x ≤ parts y
 parts-rise x y p q h = parts-least x (parts y) (through (num x) (num y) (parts y) (den x) (den y) 65536 (den-pos y) (le→cross x y p q h) (parts-enough y))
 
+-- L of a whole number n is at most 65536 * n
+whole-parts : (x : Float) (n : ℕ) → HasValue x false n 1 → parts x ≤ 65536 * n
+whole-parts x n v = parts-least x (65536 * n) (omega (arith, value→cross x n 1 v, mul-assoc 65536 n (den x)))
+
 -- ---- L of every level
-pub level-least-parts : (s : Spacing) (x : Float) → LeastParts (clampedLevel s x) (parts (clampedLevel s x))
-level-least-parts s x = least-parts (clampedLevel s x) (level-positive s x)
-
-pub level-parts : (s : Spacing) (x : Float) → (parts (lowest s) ≤ parts (clampedLevel s x)) × (parts (clampedLevel s x) ≤ parts (highest s))
-level-parts s x =
-    let y = clampedLevel s x in
-    let p = level-positive s x in (
-      parts-rise (lowest s) y (ends s .low) p (level-within s x .least),
-      parts-rise y (highest s) p (ends s .high) (level-within s x .most),
-    )
-
-in-range : (s : Spacing) (L : ℕ) → (parts (lowest s) ≤ L) × (L ≤ parts (highest s)) → InRange L
+-- what lies between the L of a range's ends is in range
+in-range : (s : Spacing) (t L : ℕ) → Top t → (parts (lowest s) ≤ L) × (L ≤ 65536 * mostSegments s t) → InRange L
 unfolding parts
-in-range Equal L h = omega arith
-in-range FractionalEven L h = omega arith
-in-range FractionalOdd L h = omega arith
+in-range Equal t L top h = omega arith
+in-range FractionalEven t L top h = omega arith
+in-range FractionalOdd t L top h = omega arith
 
-pub level-in-range : (s : Spacing) (x : Float) → InRange (parts (clampedLevel s x))
-level-in-range s x = in-range s (parts (clampedLevel s x)) (level-parts s x)
+module _ (s : Spacing) (t : ℕ) (top : Top t) (x : Float) where
+  pub level-least-parts : LeastParts (clampedLevel s t x) (parts (clampedLevel s t x))
+  level-least-parts = least-parts (clampedLevel s t x) (level-positive s t top x)
+
+  -- from the L of the low end to that of the most segments
+  pub level-parts : (parts (lowest s) ≤ parts (clampedLevel s t x)) × (parts (clampedLevel s t x) ≤ 65536 * mostSegments s t)
+  level-parts =
+      let e = ends s t top in
+      let y = clampedLevel s t x in
+      let p = level-positive s t top x in
+      let w = level-within s t top x in (
+        parts-rise (lowest s) y (e .low) p (w .least),
+        le-trans (parts-rise y (highest s t) p (e .high) (w .most)) (whole-parts (highest s t) (mostSegments s t) (highest-value s t top)),
+      )
+
+  pub level-in-range : InRange (parts (clampedLevel s t x))
+  level-in-range = in-range s t (parts (clampedLevel s t x)) top level-parts

@@ -1,4 +1,5 @@
 -- Which levels are told as below, inside or above their range: inside are those that the clamp leaves as they are. Assumes nothing.
+use Prim.Native.Nat.{ℕ}
 use mathlib.Core.Path.{_≡_, refl, _∙_}
 use mathlib.Core.Bool.{Bool, true, false, cond}
 use lib.Dec.{T}
@@ -6,6 +7,7 @@ use borrow.Author.Tests.{not-true}
 use lib.Ieee.{Float, nan, inf, fin, lt, le}
 use lib.Ieee.Bits.{is-true}
 use lib.Ieee.Positive.{positive, above, above-of-le, le-trans-positive}
+use Rattle.level.specs.Top.{Top}
 use Rattle.level.specs.Clamp.{lowest, highest, clamped, clampedLevel, sideOf, clampOf, Within}
 use Rattle.level.specs.declared.Spacing.{Spacing}
 use Rattle.level.specs.declared.Clamp.the-variants.{Below, Inside, Above}
@@ -39,47 +41,47 @@ from-high lo hi x p q r h = go x (above-of-le hi x q h) h
     go (fin false m e) a h = le-trans-positive lo hi (fin false m e) p q a r h
 
 -- ---- the range of a spacing
-module _ (s : Spacing) where
+module _ (s : Spacing) (t : ℕ) (top : Top t) where
   -- both ends are inside
-  pub lowest-inside : clampOf s (lowest s) ≡ Inside
+  pub lowest-inside : clampOf s t (lowest s) ≡ Inside
   unfolding clampOf
-  lowest-inside = within-inside (lowest s) (highest s) (lowest s) (record { least = le-itself (lowest s) (numbers _ _ (ends s .ordered) .0); most = ends s .ordered })
+  lowest-inside = within-inside (lowest s) (highest s t) (lowest s) (record { least = le-itself (lowest s) (numbers _ _ (ends s t top .ordered) .0); most = ends s t top .ordered })
 
-  pub highest-inside : clampOf s (highest s) ≡ Inside
+  pub highest-inside : clampOf s t (highest s t) ≡ Inside
   unfolding clampOf
-  highest-inside = within-inside (lowest s) (highest s) (highest s) (record { least = ends s .ordered; most = le-itself (highest s) (numbers _ _ (ends s .ordered) .1) })
+  highest-inside = within-inside (lowest s) (highest s t) (highest s t) (record { least = ends s t top .ordered; most = le-itself (highest s t) (numbers _ _ (ends s t top .ordered) .1) })
 
   -- a NaN and negative infinity are below, infinity is above
-  pub nan-below : clampOf s nan ≡ Below
+  pub nan-below : clampOf s t nan ≡ Below
   unfolding clampOf
-  nan-below = rw (not-above (lowest s) (ends s .low) .0)
+  nan-below = rw (not-above (lowest s) (ends s t top .low) .0)
 
-  pub negative-infinity-below : clampOf s (inf true) ≡ Below
+  pub negative-infinity-below : clampOf s t (inf true) ≡ Below
   unfolding clampOf
-  negative-infinity-below = rw (not-above (lowest s) (ends s .low) .1)
+  negative-infinity-below = rw (not-above (lowest s) (ends s t top .low) .1)
 
-  pub infinity-above : clampOf s (inf false) ≡ Above
+  pub infinity-above : clampOf s t (inf false) ≡ Above
   unfolding clampOf
-  infinity-above = rw (under-infinity (lowest s) (ends s .low) .1, under-infinity (highest s) (ends s .high) .0)
+  infinity-above = rw (under-infinity (lowest s) (ends s t top .low) .1, under-infinity (highest s t) (ends s t top .high) .0)
 
   -- a level is inside exactly when the clamp leaves it as it is
-  pub inside-as-it-is : (x : Float) → clampOf s x ≡ Inside → clampedLevel s x ≡ x
+  pub inside-as-it-is : (x : Float) → clampOf s t x ≡ Inside → clampedLevel s t x ≡ x
   unfolding clampOf
-  inside-as-it-is x e = inside-kept (lowest s) (highest s) x e
+  inside-as-it-is x e = inside-kept (lowest s) (highest s t) x e
 
-  pub as-it-is-inside : (x : Float) → clampedLevel s x ≡ x → clampOf s x ≡ Inside
+  pub as-it-is-inside : (x : Float) → clampedLevel s t x ≡ x → clampOf s t x ≡ Inside
   unfolding clampOf
-  as-it-is-inside x e = within-inside (lowest s) (highest s) x (kept-within (lowest s) (highest s) x (ends s .ordered) e)
+  as-it-is-inside x e = within-inside (lowest s) (highest s t) x (kept-within (lowest s) (highest s t) x (ends s t top .ordered) e)
 
   -- a number under the low end is below, one over the high end is above
-  pub under-below : (x : Float) → T (lt x (lowest s)) → clampOf s x ≡ Below
+  pub under-below : (x : Float) → T (lt x (lowest s)) → clampOf s t x ≡ Below
   unfolding clampOf
   under-below x h =
       let n = numbers x (lowest s) (lt-le x (lowest s) h) in
       rw (← not-below (lowest s) x (n .1) (n .0), is-true (lt x (lowest s)) h)
 
-  pub over-above : (x : Float) → T (lt (highest s) x) → clampOf s x ≡ Above
+  pub over-above : (x : Float) → T (lt (highest s t) x) → clampOf s t x ≡ Above
   unfolding clampOf
   over-above x h =
-      let low = from-high (lowest s) (highest s) x (ends s .low) (ends s .high) (ends s .ordered) (lt-le (highest s) x h) in
-      rw (is-true (le (lowest s) x) low, is-true (lt (highest s) x) h)
+      let low = from-high (lowest s) (highest s t) x (ends s t top .low) (ends s t top .high) (ends s t top .ordered) (lt-le (highest s t) x h) in
+      rw (is-true (le (lowest s) x) low, is-true (lt (highest s t) x) h)

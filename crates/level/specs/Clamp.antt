@@ -1,12 +1,14 @@
 -- The range of each spacing's levels, a level clamped to it, and where the level lay. Assumes nothing.
+use Prim.Native.Nat.{ℕ}
 use mathlib.Core.Bool.{false, cond}
 use lib.IntN.{pos}
 use lib.Dec.{T}
-use lib.Ieee.{Float, fin, lt, le}
+use lib.Ieee.{Float, fin, binary32, ofInt, lt, le}
 use Rattle.level.specs.declared.Spacing.{Spacing}
 use Rattle.level.specs.declared.Spacing.the-variants.{Equal, FractionalEven, FractionalOdd}
 use Rattle.level.specs.declared.Clamp.{Clamp}
 use Rattle.level.specs.declared.Clamp.the-variants.{Below, Inside, Above}
+use Rattle.level.specs.Top.{mostSegments}
 
 -- the low end of a spacing's range: 1, 2 or 1
 abbrev pub lowest : Spacing → Float
@@ -14,11 +16,9 @@ lowest Equal = fin false 1 (pos 0)
 lowest FractionalEven = fin false 1 (pos 1)
 lowest FractionalOdd = fin false 1 (pos 0)
 
--- the high end: 64, 64 or 63
-abbrev pub highest : Spacing → Float
-highest Equal = fin false 1 (pos 6)
-highest FractionalEven = fin false 1 (pos 6)
-highest FractionalOdd = fin false 63 (pos 0)
+-- the high end for the top level t: t, t or t - 1 as an `f32`
+abbrev pub highest : Spacing → ℕ → Float
+highest s t = ofInt binary32 (pos (mostSegments s t))
 
 -- x brought into lo .. hi; a NaN, which compares with nothing, takes the low end
 abbrev pub clamped : Float → Float → Float → Float
@@ -28,13 +28,13 @@ clamped lo hi x = cond (le lo x) (cond (lt hi x) hi x) lo
 abbrev pub sideOf : Float → Float → Float → Clamp
 sideOf lo hi x = cond (le lo x) (cond (lt hi x) Above Inside) Below
 
--- a level clamped to its spacing's range
-abbrev pub clampedLevel : Spacing → Float → Float
-clampedLevel s x = clamped (lowest s) (highest s) x
+-- a level clamped to its spacing's range, for the top level t
+abbrev pub clampedLevel : Spacing → ℕ → Float → Float
+clampedLevel s t x = clamped (lowest s) (highest s t) x
 
 -- where a level lies, by its spacing's range: the level was clamped where it is not inside
-unfoldable pub clampOf : Spacing → Float → Clamp
-clampOf s x = sideOf (lowest s) (highest s) x
+unfoldable pub clampOf : Spacing → ℕ → Float → Clamp
+clampOf s t x = sideOf (lowest s) (highest s t) x
 
 -- x is a number from lo to hi
 pub record Within (lo hi x : Float) : Type 0 where

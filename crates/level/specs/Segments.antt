@@ -16,9 +16,9 @@ segmentsAt Equal L = record { count = ceil L 65536; scaled = 65536 * ceil L 6553
 segmentsAt FractionalEven L = record { count = 2 * ceil L 131072; scaled = L }
 segmentsAt FractionalOdd L = record { count = 2 * ceil (L - 65536) 131072 + 1; scaled = L }
 
--- n and L of a level
-unfoldable pub segmentsOf : Spacing → Float → Segments
-segmentsOf s x = segmentsAt s (parts (clampedLevel s x))
+-- n and L of a level, for the top level t
+unfoldable pub segmentsOf : Spacing → ℕ → Float → Segments
+segmentsOf s t x = segmentsAt s (parts (clampedLevel s t x))
 
 -- n and L of an inner level whose own n is 1: L is taken as 65537 before rounding
 abbrev pub raised : Spacing → Segments
@@ -29,8 +29,8 @@ unfoldable pub asInner : Spacing → Segments → Segments
 asInner s own = cond (eqb (own .count) 1) (raised s) own
 
 -- n and L of an inner level
-abbrev pub innerSegments : Spacing → Float → Segments
-innerSegments s x = asInner s (segmentsOf s x)
+abbrev pub innerSegments : Spacing → ℕ → Float → Segments
+innerSegments s t x = asInner s (segmentsOf s t x)
 
 -- the numbers that a spacing rounds to: whole, even or odd
 abbrev pub Kind : Spacing → ℕ → Type 0

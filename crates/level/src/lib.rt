@@ -1,7 +1,9 @@
-// Tessellation levels: which level discards its patch, how many segments a level gives, and whether it is clamped for it.
+// Tessellation levels: which level discards its patch, how many segments a level gives, and whether it is
+// clamped for that.
 ghost use mathlib.Core.Path.{_≡_};
 ghost use lib.Ieee.{binary32, ofBits};
 ghost use Rattle.level.specs.Discard.{discarded};
+ghost use Rattle.level.specs.Top.{Top, isTop};
 ghost use Rattle.level.specs.Clamp.{lowest, highest, clampedLevel, clampOf, From1To64};
 ghost use Rattle.level.specs.Scale.{parts, InRange};
 ghost use Rattle.level.specs.Segments.{segmentsAt, segmentsOf, raised, asInner};
@@ -49,27 +51,35 @@ pub fn level_of_bits(bits: u32) -> f32
     }
 }
 
+// Whether a number can be the top level, which levels are clamped to: an even one from 2 to 64.
+pub fn is_top(top: u32) -> bool
+    ensures { λ r. ⌜ r ≡ isTop top ⌝ }
+{
+    2 <= top && top <= 64 && top % 2 == 0
+}
+
 // The least and the greatest level of a spacing.
 struct Range {
     lowest: f32,
     highest: f32,
 }
 
-fn range_of(spacing: Spacing) -> Range
-    ensures { λ r. ⌜ r ≡ record { lowest = lowest spacing; highest = highest spacing } ⌝ }
+fn range_of(spacing: Spacing, top: u32) -> Range
+    requires { ⌜ Top top ⌝ }
+    ensures { λ r. ⌜ r ≡ record { lowest = lowest spacing; highest = highest spacing top } ⌝ }
 {
     match spacing {
         Spacing::Equal => Range {
             lowest: 1.0,
-            highest: 64.0,
+            highest: top as f32,
         },
         Spacing::FractionalEven => Range {
             lowest: 2.0,
-            highest: 64.0,
+            highest: top as f32,
         },
         Spacing::FractionalOdd => Range {
             lowest: 1.0,
-            highest: 63.0,
+            highest: (top - 1) as f32,
         },
     }
 }
@@ -81,10 +91,11 @@ struct LevelInRange {
 }
 
 // The level clamped; a NaN takes the low end.
-fn clamp_level(level: f32, spacing: Spacing) -> LevelInRange
-    ensures { λ r. ⌜ r ≡ record { value = clampedLevel spacing level; clamp = clampOf spacing level } ⌝ }
+fn clamp_level(level: f32, spacing: Spacing, top: u32) -> LevelInRange
+    requires { ⌜ Top top ⌝ }
+    ensures { λ r. ⌜ r ≡ record { value = clampedLevel spacing top level; clamp = clampOf spacing top level } ⌝ }
 {
-    let range = range_of(spacing);
+    let range = range_of(spacing, top);
     if range.lowest <= level {
         if range.highest < level {
             LevelInRange {
@@ -139,12 +150,13 @@ fn segments_at(scaled: u32, spacing: Spacing) -> Segments
     }
 }
 
-// The segments of a level, and whether it was clamped.
-pub fn segments_of(level: f32, spacing: Spacing) -> Clamped
-    ensures segments { λ r. ⌜ r .segments ≡ segmentsOf spacing level ⌝ }
-    ensures clamp { λ r. ⌜ r .clamp ≡ clampOf spacing level ⌝ }
+// The segments of a level, and whether it was clamped. The range goes up to `top`, for odd spacing one less.
+pub fn segments_of(level: f32, spacing: Spacing, top: u32) -> Clamped
+    requires { ⌜ Top top ⌝ }
+    ensures segments { λ r. ⌜ r .segments ≡ segmentsOf spacing top level ⌝ }
+    ensures clamp { λ r. ⌜ r .clamp ≡ clampOf spacing top level ⌝ }
 {
-    let clamped = clamp_level(level, spacing);
+    let clamped = clamp_level(level, spacing, top);
     let segments = segments_at(parts_of(clamped.value), spacing);
     let clamp = clamped.clamp;
     Clamped { segments, clamp }

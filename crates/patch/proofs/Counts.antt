@@ -3,12 +3,13 @@
 use Prim.Native.Nat.{ℕ, _≤_}
 use lib.Ieee.{Float}
 use Rattle.level.specs.declared.Spacing.{Spacing}
+use Rattle.level.specs.Top.{Top}
 use Rattle.level.specs.Segments.{segmentsOf}
 use Rattle.level.proofs.Valid.{segments-valid}
 
 -- how many segments a level gives
-abbrev pub count : Spacing → Float → ℕ
-count s x = segmentsOf s x .count
+abbrev pub count : Spacing → ℕ → Float → ℕ
+count s t x = segmentsOf s t x .count
 
-pub least : (s : Spacing) (x : Float) → 1 ≤ count s x
-least s x = segments-valid s x .some
+pub least : (s : Spacing) (t : ℕ) → Top t → (x : Float) → 1 ≤ count s t x
+least s t top x = segments-valid s t top x .some

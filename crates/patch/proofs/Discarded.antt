@@ -1,5 +1,6 @@
 -- The subdivision says whether the patch is discarded.
 -- Assumes nothing.
+use Prim.Native.Nat.{ℕ}
 use mathlib.Core.Path.{_≡_, refl}
 use mathlib.Core.Bool.{Bool, true, false, cond}
 use mathlib.Core.List.{[], _∷_}
@@ -16,15 +17,15 @@ either : (t : Bool) (c d : Subdivision) → isDiscarded c ≡ false → isDiscar
 either true c d h k = h
 either false c d h k = k
 
-cut-draws : (s : Spacing) (p : Patch) → isDiscarded (cut s p) ≡ false
-cut-draws s (Triangles a b c i) = either (every (single s) (a ∷ b ∷ c ∷ i ∷ [])) _ _ refl refl
-cut-draws s (Quads a b c d i j) = either (every (single s) (a ∷ b ∷ c ∷ d ∷ i ∷ j ∷ [])) _ _ refl refl
-cut-draws s (Isolines a b) = refl
+cut-draws : (s : Spacing) (t : ℕ) (p : Patch) → isDiscarded (cut s t p) ≡ false
+cut-draws s t (Triangles a b c i) = either (every (single s t) (a ∷ b ∷ c ∷ i ∷ [])) _ _ refl refl
+cut-draws s t (Quads a b c d i j) = either (every (single s t) (a ∷ b ∷ c ∷ d ∷ i ∷ j ∷ [])) _ _ refl refl
+cut-draws s t (Isolines a b) = refl
 
-pub discarded-cut : (s : Spacing) (p : Patch) → isDiscarded (subdivision s p) ≡ discards p
+pub discarded-cut : (s : Spacing) (t : ℕ) (p : Patch) → isDiscarded (subdivision s t p) ≡ discards p
 unfolding subdivision
-discarded-cut s p = go (discards p)
+discarded-cut s t p = go (discards p)
   where
-    go : (t : Bool) → isDiscarded (cond t Discarded (cut s p)) ≡ t
+    go : (b : Bool) → isDiscarded (cond b Discarded (cut s t p)) ≡ b
     go true = refl
-    go false = cut-draws s p
+    go false = cut-draws s t p

@@ -2,3 +2,4 @@
 pub mod Every
 pub mod Counts
 pub mod Discarded
+pub mod Plain

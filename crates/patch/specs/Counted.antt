@@ -1,14 +1,14 @@
 -- What the code knows of a level's segments.
 -- Assumes nothing.
-use Prim.Native.Nat.{_≤_}
+use Prim.Native.Nat.{ℕ, _≤_}
 use mathlib.Core.Path.{_≡_}
 use lib.Ieee.{Float}
 use Rattle.level.specs.declared.Spacing.{Spacing}
 use Rattle.level.specs.declared.Segments.{Segments}
 use Rattle.level.specs.Segments.{segmentsOf}
 
--- r is the segments that the level x gives, at most 64
-pub record Counted (s : Spacing) (x : Float) (r : Segments) : Type 0 where
-  pub all : r ≡ segmentsOf s x
-  pub is : r .count ≡ segmentsOf s x .count
+-- r is the segments that the level x gives for the top level t; they are at most 64
+pub record Counted (s : Spacing) (t : ℕ) (x : Float) (r : Segments) : Type 0 where
+  pub all : r ≡ segmentsOf s t x
+  pub is : r .count ≡ segmentsOf s t x .count
   pub few : r .count ≤ 64

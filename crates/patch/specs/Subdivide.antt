@@ -1,5 +1,6 @@
 -- What a patch is cut into: discarded, the plain patch, or the segments (n and L) of each edge outside and inside.
 -- Assumes nothing.
+use Prim.Native.Nat.{ℕ}
 use mathlib.Core.Bool.{Bool, true, false, cond}
 use mathlib.Core.List.{List, [], _∷_}
 use lib.Dec.{eqb}
@@ -20,9 +21,9 @@ outers (Triangles a b c i) = a ∷ b ∷ c ∷ []
 outers (Quads a b c d i j) = a ∷ b ∷ c ∷ d ∷ []
 outers (Isolines a b) = a ∷ b ∷ []
 
--- a level gives one segment
-abbrev pub single : Spacing → Float → Bool
-single s x = eqb (segmentsOf s x .count) 1
+-- a level gives one segment, for the top level t
+abbrev pub single : Spacing → ℕ → Float → Bool
+single s t x = eqb (segmentsOf s t x .count) 1
 
 -- the patch is discarded: one of its outer levels is NaN or <= 0
 abbrev pub discards : Patch → Bool
@@ -30,17 +31,17 @@ discards p = some discarded (outers p)
 
 -- the segments of a patch that is not discarded; where every level that counts has n = 1 it is the plain patch.
 -- The inner level i of a quad patch gives its rows and j its columns. The number of isolines has equal spacing whatever is asked
-abbrev pub cut : Spacing → Patch → Subdivision
-cut s (Triangles a b c i) =
-    cond (every (single s) (a ∷ b ∷ c ∷ i ∷ [])) PlainTriangle
-    (Triangle (segmentsOf s a) (segmentsOf s b) (segmentsOf s c) (innerSegments s i))
-cut s (Quads a b c d i j) =
-    cond (every (single s) (a ∷ b ∷ c ∷ d ∷ i ∷ j ∷ [])) PlainQuad
-    (Quad (segmentsOf s a) (segmentsOf s b) (segmentsOf s c) (segmentsOf s d) (innerSegments s i) (innerSegments s j))
-cut s (Isolines a b) = Lines (segmentsOf Equal a) (segmentsOf s b)
+abbrev pub cut : Spacing → ℕ → Patch → Subdivision
+cut s t (Triangles a b c i) =
+    cond (every (single s t) (a ∷ b ∷ c ∷ i ∷ [])) PlainTriangle
+    (Triangle (segmentsOf s t a) (segmentsOf s t b) (segmentsOf s t c) (innerSegments s t i))
+cut s t (Quads a b c d i j) =
+    cond (every (single s t) (a ∷ b ∷ c ∷ d ∷ i ∷ j ∷ [])) PlainQuad
+    (Quad (segmentsOf s t a) (segmentsOf s t b) (segmentsOf s t c) (segmentsOf s t d) (innerSegments s t i) (innerSegments s t j))
+cut s t (Isolines a b) = Lines (segmentsOf Equal t a) (segmentsOf s t b)
 
-unfoldable pub subdivision : Spacing → Patch → Subdivision
-subdivision s p = cond (discards p) Discarded (cut s p)
+unfoldable pub subdivision : Spacing → ℕ → Patch → Subdivision
+subdivision s t p = cond (discards p) Discarded (cut s t p)
 
 -- a subdivision that draws nothing
 abbrev pub isDiscarded : Subdivision → Bool

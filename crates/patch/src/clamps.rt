@@ -1,5 +1,6 @@
 // Which of a patch's levels lie outside their spacing's range.
 ghost use mathlib.Core.Path.{_≡_};
+ghost use Rattle.level.specs.Top.{Top};
 ghost use Rattle.level.specs.Clamp.{clampOf};
 ghost use Rattle.patch.specs.Clamps.{clampsOf};
 use crate::kinds::Patch;
@@ -29,16 +30,19 @@ pub enum Clamps {
 }
 
 // Where a level lies.
-fn clamp_of(level: f32, spacing: Spacing) -> Clamp
-    ensures { λ r. ⌜ r ≡ clampOf spacing level ⌝ }
+fn clamp_of(level: f32, spacing: Spacing, top: u32) -> Clamp
+    requires { ⌜ Top top ⌝ }
+    ensures { λ r. ⌜ r ≡ clampOf spacing top level ⌝ }
 {
-    let clamped = level::segments_of(level, spacing);
+    let clamped = level::segments_of(level, spacing, top);
     clamped.clamp
 }
 
-// Where each level lies, whether or not the patch is discarded. The number of isolines has equal spacing whatever is asked.
-pub fn clamps_of(patch: Patch, spacing: Spacing) -> Clamps
-    ensures { λ r. ⌜ r ≡ clampsOf spacing patch ⌝ }
+// Where each level lies, whether or not the patch is discarded. The number of isolines has equal spacing
+// whatever is asked.
+pub fn clamps_of(patch: Patch, spacing: Spacing, top: u32) -> Clamps
+    requires { ⌜ Top top ⌝ }
+    ensures { λ r. ⌜ r ≡ clampsOf spacing top patch ⌝ }
 {
     match patch {
         Patch::Triangles {
@@ -47,10 +51,10 @@ pub fn clamps_of(patch: Patch, spacing: Spacing) -> Clamps
             outer2,
             inner0,
         } => Clamps::Triangles {
-            outer0: clamp_of(outer0, spacing),
-            outer1: clamp_of(outer1, spacing),
-            outer2: clamp_of(outer2, spacing),
-            inner0: clamp_of(inner0, spacing),
+            outer0: clamp_of(outer0, spacing, top),
+            outer1: clamp_of(outer1, spacing, top),
+            outer2: clamp_of(outer2, spacing, top),
+            inner0: clamp_of(inner0, spacing, top),
         },
         Patch::Quads {
             outer0,
@@ -60,16 +64,16 @@ pub fn clamps_of(patch: Patch, spacing: Spacing) -> Clamps
             inner0,
             inner1,
         } => Clamps::Quads {
-            outer0: clamp_of(outer0, spacing),
-            outer1: clamp_of(outer1, spacing),
-            outer2: clamp_of(outer2, spacing),
-            outer3: clamp_of(outer3, spacing),
-            inner0: clamp_of(inner0, spacing),
-            inner1: clamp_of(inner1, spacing),
+            outer0: clamp_of(outer0, spacing, top),
+            outer1: clamp_of(outer1, spacing, top),
+            outer2: clamp_of(outer2, spacing, top),
+            outer3: clamp_of(outer3, spacing, top),
+            inner0: clamp_of(inner0, spacing, top),
+            inner1: clamp_of(inner1, spacing, top),
         },
         Patch::Isolines { outer0, outer1 } => Clamps::Isolines {
-            outer0: clamp_of(outer0, Spacing::Equal),
-            outer1: clamp_of(outer1, spacing),
+            outer0: clamp_of(outer0, Spacing::Equal, top),
+            outer1: clamp_of(outer1, spacing, top),
         },
     }
 }

@@ -1,4 +1,5 @@
-// Patches, how they are to be drawn, into how many segments each of their edges is cut, and which levels are clamped for it.
+// Patches, how they are to be drawn, into how many segments each of their edges is cut, and which levels are
+// clamped for that.
 pub mod clamps;
 pub mod kinds;
 pub mod settings;

@@ -15,6 +15,8 @@ pub enum DomainOrigin {
 
 pub struct Settings {
     pub spacing: Spacing,
+    // The top level, an even number from 2 to 64 (`level::is_top`); for odd spacing levels go up to one less.
+    pub top: u32,
     pub order: VertexOrder,
     pub origin: DomainOrigin,
     pub point_mode: bool,

@@ -2,6 +2,7 @@
 ghost use mathlib.Core.Path.{_≡_};
 ghost use mathlib.Core.List.{[], _∷_};
 ghost use Rattle.level.specs.Discard.{discarded};
+ghost use Rattle.level.specs.Top.{Top};
 ghost use Rattle.patch.specs.Every.{some};
 ghost use Rattle.patch.specs.Counted.{Counted};
 ghost use Rattle.patch.specs.Subdivide.{isDiscarded, subdivision};
@@ -59,8 +60,10 @@ pub fn is_discarded(cut: Subdivision) -> bool
     }
 }
 
-pub fn subdivide(patch: Patch, spacing: Spacing) -> Subdivision
-    ensures { λ r. ⌜ r ≡ subdivision spacing patch ⌝ }
+// The segments of a patch's edges, their levels clamped to `top`, for odd spacing to one less.
+pub fn subdivide(patch: Patch, spacing: Spacing, top: u32) -> Subdivision
+    requires { ⌜ Top top ⌝ }
+    ensures { λ r. ⌜ r ≡ subdivision spacing top patch ⌝ }
 {
     match patch {
         Patch::Triangles {
@@ -68,7 +71,7 @@ pub fn subdivide(patch: Patch, spacing: Spacing) -> Subdivision
             outer1,
             outer2,
             inner0,
-        } => triangle(spacing, outer0, outer1, outer2, inner0),
+        } => triangle(spacing, top, outer0, outer1, outer2, inner0),
         Patch::Quads {
             outer0,
             outer1,
@@ -76,8 +79,8 @@ pub fn subdivide(patch: Patch, spacing: Spacing) -> Subdivision
             outer3,
             inner0,
             inner1,
-        } => quad(spacing, outer0, outer1, outer2, outer3, inner0, inner1),
-        Patch::Isolines { outer0, outer1 } => isolines(spacing, outer0, outer1),
+        } => quad(spacing, top, outer0, outer1, outer2, outer3, inner0, inner1),
+        Patch::Isolines { outer0, outer1 } => isolines(spacing, top, outer0, outer1),
     }
 }
 
@@ -113,24 +116,33 @@ fn discards4(a: f32, b: f32, c: f32, d: f32) -> bool
 }
 
 // The segments of a level, clamped or not.
-fn segments_of(level: f32, spacing: Spacing) -> Segments
-    ensures { λ r. ⌜ Counted spacing level r ⌝ }
+fn segments_of(level: f32, spacing: Spacing, top: u32) -> Segments
+    requires { ⌜ Top top ⌝ }
+    ensures { λ r. ⌜ Counted spacing top level r ⌝ }
 {
-    let clamped = level::segments_of(level, spacing);
+    let clamped = level::segments_of(level, spacing, top);
     clamped.segments
 }
 
 // A count is at least 1, so all of them are 1 where they add up to their number.
-fn triangle(spacing: Spacing, outer0: f32, outer1: f32, outer2: f32, inner0: f32) -> Subdivision
-    ensures { λ r. ⌜ r ≡ subdivision spacing (Patch.Triangles outer0 outer1 outer2 inner0) ⌝ }
+fn triangle(
+    spacing: Spacing,
+    top: u32,
+    outer0: f32,
+    outer1: f32,
+    outer2: f32,
+    inner0: f32,
+) -> Subdivision
+    requires { ⌜ Top top ⌝ }
+    ensures { λ r. ⌜ r ≡ subdivision spacing top (Patch.Triangles outer0 outer1 outer2 inner0) ⌝ }
 {
     if discards3(outer0, outer1, outer2) {
         return Subdivision::Discarded;
     }
-    let edge0 = segments_of(outer0, spacing);
-    let edge1 = segments_of(outer1, spacing);
-    let edge2 = segments_of(outer2, spacing);
-    let inner = segments_of(inner0, spacing);
+    let edge0 = segments_of(outer0, spacing, top);
+    let edge1 = segments_of(outer1, spacing, top);
+    let edge2 = segments_of(outer2, spacing, top);
+    let inner = segments_of(inner0, spacing, top);
     if edge0.count + edge1.count + edge2.count + inner.count == 4 {
         return Subdivision::PlainTriangle;
     }
@@ -145,6 +157,7 @@ fn triangle(spacing: Spacing, outer0: f32, outer1: f32, outer2: f32, inner0: f32
 
 fn quad(
     spacing: Spacing,
+    top: u32,
     outer0: f32,
     outer1: f32,
     outer2: f32,
@@ -152,25 +165,20 @@ fn quad(
     inner0: f32,
     inner1: f32,
 ) -> Subdivision
-    ensures { λ r. ⌜ r ≡ subdivision spacing (Patch.Quads outer0 outer1 outer2 outer3 inner0 inner1) ⌝ }
+    requires { ⌜ Top top ⌝ }
+    ensures { λ r. ⌜ r ≡ subdivision spacing top (Patch.Quads outer0 outer1 outer2 outer3 inner0 inner1) ⌝ }
 {
     if discards4(outer0, outer1, outer2, outer3) {
         return Subdivision::Discarded;
     }
-    let edge0 = segments_of(outer0, spacing);
-    let edge1 = segments_of(outer1, spacing);
-    let edge2 = segments_of(outer2, spacing);
-    let edge3 = segments_of(outer3, spacing);
-    let inner_rows = segments_of(inner0, spacing);
-    let inner_columns = segments_of(inner1, spacing);
-    if edge0.count
-        + edge1.count
-        + edge2.count
-        + edge3.count
-        + inner_rows.count
-        + inner_columns.count
-        == 6
-    {
+    let edge0 = segments_of(outer0, spacing, top);
+    let edge1 = segments_of(outer1, spacing, top);
+    let edge2 = segments_of(outer2, spacing, top);
+    let edge3 = segments_of(outer3, spacing, top);
+    let inner_rows = segments_of(inner0, spacing, top);
+    let inner_columns = segments_of(inner1, spacing, top);
+    let outline = edge0.count + edge1.count + edge2.count + edge3.count;
+    if outline + inner_rows.count + inner_columns.count == 6 {
         return Subdivision::PlainQuad;
     }
     let rows = level::as_inner(inner_rows, spacing);
@@ -185,13 +193,14 @@ fn quad(
     }
 }
 
-fn isolines(spacing: Spacing, outer0: f32, outer1: f32) -> Subdivision
-    ensures { λ r. ⌜ r ≡ subdivision spacing (Patch.Isolines outer0 outer1) ⌝ }
+fn isolines(spacing: Spacing, top: u32, outer0: f32, outer1: f32) -> Subdivision
+    requires { ⌜ Top top ⌝ }
+    ensures { λ r. ⌜ r ≡ subdivision spacing top (Patch.Isolines outer0 outer1) ⌝ }
 {
     if discards2(outer0, outer1) {
         return Subdivision::Discarded;
     }
-    let lines = segments_of(outer0, Spacing::Equal);
-    let along = segments_of(outer1, spacing);
+    let lines = segments_of(outer0, Spacing::Equal, top);
+    let along = segments_of(outer1, spacing, top);
     Subdivision::Lines { lines, along }
 }

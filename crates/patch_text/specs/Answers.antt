@@ -2,6 +2,7 @@
 use Prim.Native.Nat.{ℕ, zero, suc, _+_, _*_, _/_, _≤_}
 use mathlib.Core.Bool.{cond}
 use mathlib.Core.List.{List, _++_}
+use Rattle.level.specs.Top.{isTop}
 use Rattle.patch.specs.declared.kinds.Patch.{Patch}
 use Rattle.patch.specs.declared.settings.Settings.{Settings}
 use Rattle.patch.specs.Subdivide.{discards, subdivision}
@@ -9,7 +10,7 @@ use Rattle.mesh.specs.Words.{vertexWords}
 use Rattle.drawing.specs.Points.{points}
 use Rattle.drawing.specs.Primitives.{indexWords}
 use Rattle.tessellate.specs.declared.answer.Answer.{Answer}
-use Rattle.tessellate.specs.declared.answer.Answer.the-variants.{Drawn, Discarded, NoRoomForVertices, NoRoomForIndices}
+use Rattle.tessellate.specs.declared.answer.Answer.the-variants.{Drawn, Discarded, NoRoomForVertices, NoRoomForIndices, BadTop}
 use Rattle.tessellate.specs.Answers.{told, pointsOf, indicesOf, verdict}
 use Rattle.text.specs.Heads.{drawnLine, discardedLine, refusedLine}
 use Rattle.text.specs.Lines.{rows}
@@ -28,6 +29,7 @@ answerText width vertices indices (Drawn P I) = listText width vertices indices 
 answerText width vertices indices Discarded = discardedLine
 answerText width vertices indices NoRoomForVertices = refusedLine (told NoRoomForVertices .number)
 answerText width vertices indices NoRoomForIndices = refusedLine (told NoRoomForIndices .number)
+answerText width vertices indices BadTop = refusedLine (told BadTop .number)
 
 -- lists of v and i words hold P points and I indices
 pub record Mesh (width v i P I : ℕ) : Type 0 where
@@ -42,13 +44,14 @@ Prints width v i (Drawn P I) = Mesh width v i P I × (28 + 33 * P + 18 * (I / wi
 Prints width v i Discarded = Unit {0}
 Prints width v i NoRoomForVertices = Unit {0}
 Prints width v i NoRoomForIndices = Unit {0}
+Prints width v i BadTop = Unit {0}
 
 -- ---- of patches
 
 -- the text of a patch that is drawn
 unfoldable pub drawnText : Settings → Patch → List ℕ
 drawnText set p =
-    listText (widthOf (set .«point_mode») p) (vertexWords (points (subdivision (set .spacing) p))) (indexWords set (subdivision (set .spacing) p)) (pointsOf set p) (indicesOf set p)
+    listText (widthOf (set .«point_mode») p) (vertexWords (points (subdivision (set .spacing) (set .top) p))) (indexWords set (subdivision (set .spacing) (set .top) p)) (pointsOf set p) (indicesOf set p)
 
 -- the text of the answer with a number, to drawing a patch
 abbrev pub textBy : Settings → Patch → ℕ → List ℕ
@@ -60,6 +63,6 @@ textBy set p (suc (suc n)) = refusedLine (suc (suc n))
 abbrev pub patchText : Settings → Patch → ℕ → ℕ → List ℕ
 patchText set p v i = textBy set p (verdict set p v i .number)
 
--- what is said of a patch that is drawn into full-size lists: it is discarded, or drawn
+-- what is said of a patch that is drawn into full-size lists: its top is bad, it is discarded, or drawn
 abbrev pub recordText : Settings → Patch → List ℕ
-recordText set p = cond (discards p) discardedLine (drawnText set p)
+recordText set p = cond (isTop (set .top)) (cond (discards p) discardedLine (drawnText set p)) (refusedLine 11)

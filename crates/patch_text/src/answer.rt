@@ -30,6 +30,7 @@ fn put_answer(
         Answer::Discarded => text::put_discarded(out, at),
         Answer::NoRoomForVertices => text::put_refused(out, at, 3),
         Answer::NoRoomForIndices => text::put_refused(out, at, 4),
+        Answer::BadTop => text::put_refused(out, at, 11),
     }
 }
 

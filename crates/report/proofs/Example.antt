@@ -1,8 +1,8 @@
--- The customer's sample: the whole text for a job of one triangle record, from its bytes. Assumes nothing.
+-- The customer's sample: the whole text for a job of one triangle record, from its bytes, in each version. Assumes nothing.
 use Prim.Native.Nat.{ℕ}
 use mathlib.Core.Path.{_≡_, refl}
 use mathlib.Core.List.{List, [], _∷_}
-use lib.Ieee.{ofBits, isNan, le}
+use lib.Ieee.{ofBits, ofInt, isNan, le}
 use Rattle.buffer.specs.Over.{flat}
 use Rattle.level.specs.Scale.{parts}
 use Rattle.level.specs.Segments.{segmentsOf, asInner}
@@ -24,6 +24,7 @@ use Rattle.drawing.specs.Primitives.{triangles, indexWords}
 use Rattle.job.specs.Bytes.{word}
 use Rattle.job.specs.Header.{startsWith, headerOf}
 use Rattle.job.specs.Settings.{firstOver}
+use Rattle.job.specs.Tops.{unknownPlace}
 use Rattle.job.specs.Records.{recordOf, recordAt}
 use Rattle.text.specs.Digits.{digitsIn, digits}
 use Rattle.text.specs.Lines.{line, rows}
@@ -36,7 +37,19 @@ abbrev sampleJob : List ℕ
 sampleJob =
     0x54 ∷ 0x53 ∷ 0x4A ∷ 1 ∷ 0 ∷ 0 ∷ 0 ∷ 1 ∷ 1 ∷ 0 ∷ 0 ∷ 0 ∷ 128 ∷ 63 ∷ 0 ∷ 0 ∷ 128 ∷ 63 ∷ 0 ∷ 0 ∷ 128 ∷ 63 ∷ 0 ∷ 0 ∷ 0 ∷ 0 ∷ 0 ∷ 0 ∷ 0 ∷ 64 ∷ 0 ∷ 0 ∷ 0 ∷ 0 ∷ []
 
+-- its text
 pub sample-text : jobText sampleJob ≡ bytes "TSJ 1\ndrawn 4 9\n0 196608 0\n0 0 196608\n196608 0 0\n65536 65536 65536\n0 1 3\n1 2 3\n2 0 3\n"
-unfolding ofBits isNan le parts segmentsOf asInner position table outerNext stripFrom indices ringAt bandFrom nest some every subdivision ring rings points triangles indexWords vertexWords word
-    startsWith headerOf firstOver recordOf recordAt flat digitsIn digits line rows drawnText answers jobText
+unfolding ofBits ofInt isNan le parts segmentsOf asInner position table outerNext stripFrom indices ringAt bandFrom nest some every subdivision ring rings points triangles indexWords vertexWords word
+    startsWith headerOf firstOver unknownPlace recordOf recordAt flat digitsIn digits line rows drawnText answers jobText
 sample-text = refl
+
+-- the same patch in version 2, with the top level 2, which the inner level 4 is clamped to
+abbrev sampleTwo : List ℕ
+sampleTwo =
+    0x54 ∷ 0x53 ∷ 0x4A ∷ 2 ∷ 0 ∷ 0 ∷ 0 ∷ 1 ∷ 1 ∷ 0 ∷ 2 ∷ 0 ∷ 0 ∷ 128 ∷ 63 ∷ 0 ∷ 0 ∷ 128 ∷ 63 ∷ 0 ∷ 0 ∷ 128 ∷ 63 ∷ 0 ∷ 0 ∷ 0 ∷ 0 ∷ 0 ∷ 0 ∷ 128 ∷ 64 ∷ 0 ∷ 0 ∷ 0 ∷ 0 ∷ []
+
+-- its text
+pub sample-two-text : jobText sampleTwo ≡ bytes "TSJ 2\ndrawn 4 9\n0 196608 0\n0 0 196608\n196608 0 0\n65536 65536 65536\n0 1 3\n1 2 3\n2 0 3\n"
+unfolding ofBits ofInt isNan le parts segmentsOf asInner position table outerNext stripFrom indices ringAt bandFrom nest some every subdivision ring rings points triangles indexWords vertexWords word
+    startsWith headerOf firstOver unknownPlace recordOf recordAt flat digitsIn digits line rows drawnText answers jobText
+sample-two-text = refl

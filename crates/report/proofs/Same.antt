@@ -7,15 +7,20 @@ use native.Mathlib.Nat.{add-assoc, add-zero}
 use native.Mathlib.Omega.{arith}
 use lib.ListN.{length, List·getD-append}
 use lib.Seq.{getD-append-add}
+use Rattle.job.specs.declared.version.Version.{Version}
+use Rattle.job.specs.declared.version.Version.the-variants.{One, Two}
 use Rattle.job.specs.declared.levels.LevelBits.{LevelBits}
 use Rattle.job.specs.declared.record.Record.{Record}
 use Rattle.job.specs.declared.next.NextRecord.the-variants.{Read, End, CutRecord, UnknownSetting}
+use Rattle.job.specs.Version.{settingBytes, recordSize}
 use Rattle.job.specs.Bytes.{byteAt, word}
-use Rattle.job.specs.Settings.{choices, firstOver, firstUnknown, kindOf, settingsAt}
+use Rattle.job.specs.Settings.{choices, firstOver, kindOf, settingsAt}
+use Rattle.job.specs.Tops.{topAt, unknownPlace}
 use Rattle.job.specs.Levels.{bitsAt, levelsOf}
 use Rattle.job.specs.Records.{recordOf, after, atEnd, cut, unknown, recordAt}
 use Rattle.patch.specs.declared.settings.Settings.{Settings}
 use Rattle.report.specs.Replies.{reply}
+use Rattle.report.proofs.Sizes.{settings-least}
 
 -- k bytes from a on and k bytes from b on are the same
 abbrev pub Agree : ℕ → List ℕ → ℕ → List ℕ → ℕ → Type 0
@@ -59,31 +64,48 @@ module _ (bs cs : List ℕ) where
       w : (m : ℕ) → m + 4 ≤ 24 → word 4 bs (a + m) ≡ word 4 cs (b + m)
       w m l = word-agrees 4 (a + m) (b + m) (later m 4 a b (fewer (m + 4) 24 a b l h))
 
-  settings-agree : (a b : ℕ) → Agree 5 bs a cs b → settingsAt bs a ≡ settingsAt cs b
-  settings-agree a b h = rw (h 1 (omega arith), h 2 (omega arith), h 3 (omega arith), h 4 (omega arith))
+  -- the top level, where the setting bytes agree
+  top-agrees : (v : Version) (a b : ℕ) → Agree (settingBytes v) bs a cs b → topAt v bs a ≡ topAt v cs b
+  top-agrees One a b h = refl
+  top-agrees Two a b h = h 5 (omega arith)
+
+  -- the place of the first setting byte that is out of range
+  place-agrees : (v : Version) (a b : ℕ) → Agree (settingBytes v) bs a cs b → unknownPlace v bs a ≡ unknownPlace v cs b
+  unfolding unknownPlace
+  place-agrees One a b h = over-agrees choices a b h
+  place-agrees Two a b h = rw (over-agrees choices a b (fewer 5 6 a b (omega arith) h), top-agrees Two a b h)
+
+  -- the settings, with a top level that is given
+  settings-agree : (a b t : ℕ) → Agree 5 bs a cs b → settingsAt bs a t ≡ settingsAt cs b t
+  settings-agree a b t h = rw (h 1 (omega arith), h 2 (omega arith), h 3 (omega arith), h 4 (omega arith))
 
   -- a record's parts: the byte of its kind, its settings and the bits of its levels
   ofParts : ℕ → Settings → LevelBits → Record
   ofParts kind settings bits = record { kind = kindOf kind; settings = settings; levels = levelsOf bits; bits = bits }
 
-  record-agrees : (a b : ℕ) → Agree 29 bs a cs b → recordOf bs a ≡ recordOf cs b
+  -- the record, by its parts one after the other
+  record-agrees : (v : Version) (a b : ℕ) → Agree (recordSize v) bs a cs b → recordOf v bs a ≡ recordOf v cs b
   unfolding recordOf ofParts
-  record-agrees a b h =
-      ap (λ (k : ℕ). ofParts k (settingsAt bs a) (bitsAt bs (a + 5))) (first 28 a b h)
-      ∙ ap (λ (s : Settings). ofParts (byteAt cs b) s (bitsAt bs (a + 5))) (settings-agree a b (fewer 5 29 a b (omega arith) h))
-      ∙ ap (ofParts (byteAt cs b) (settingsAt cs b)) (bits-agree (a + 5) (b + 5) (later 5 24 a b h))
+  record-agrees v a b h =
+      let s = settingBytes v in
+      let settings = fewer s (recordSize v) a b (omega arith) h in
+      let five = fewer 5 s a b (settings-least v) settings in
+      ap (λ (k : ℕ). ofParts k (settingsAt bs a (topAt v bs a)) (bitsAt bs (a + s))) (first 4 a b five)
+      ∙ ap (λ (t : ℕ). ofParts (byteAt cs b) (settingsAt bs a t) (bitsAt bs (a + s))) (top-agrees v a b settings)
+      ∙ ap (λ (x : Settings). ofParts (byteAt cs b) x (bitsAt bs (a + s))) (settings-agree a b (topAt v cs b) five)
+      ∙ ap (ofParts (byteAt cs b) (settingsAt cs b (topAt v cs b))) (bits-agree (a + s) (b + s) (later s 24 a b h))
 
   -- the same is said of it
-  pub reply-agrees : (a b : ℕ) → Agree 29 bs a cs b → atEnd bs a ≡ atEnd cs b → cut bs a ≡ cut cs b → reply (recordAt bs a) ≡ reply (recordAt cs b)
+  pub reply-agrees : (v : Version) (a b : ℕ) → Agree (recordSize v) bs a cs b → atEnd bs a ≡ atEnd cs b → cut v bs a ≡ cut v cs b → reply (recordAt v bs a) ≡ reply (recordAt v cs b)
   unfolding recordAt
-  reply-agrees a b h e c =
-      let r = record-agrees a b h in
-      let u = over-agrees choices a b (fewer 5 29 a b (omega arith) h) in
-      rw (e, c, u, r) (go (atEnd cs b) (cut cs b) (unknown cs b))
+  reply-agrees v a b h e c =
+      let r = record-agrees v a b h in
+      let u = place-agrees v a b (fewer (settingBytes v) (recordSize v) a b (omega arith) h) in
+      rw (e, c, u, r) (go (atEnd cs b) (cut v cs b) (unknown v cs b))
     where
       go : (e c u : Bool)
-          → reply (cond e End (cond c CutRecord (cond u (UnknownSetting (firstUnknown cs b) (after a)) (Read (recordOf cs b) (after a)))))
-          ≡ reply (cond e End (cond c CutRecord (cond u (UnknownSetting (firstUnknown cs b) (after b)) (Read (recordOf cs b) (after b)))))
+          → reply (cond e End (cond c CutRecord (cond u (UnknownSetting (unknownPlace v cs b) (after v a)) (Read (recordOf v cs b) (after v a)))))
+          ≡ reply (cond e End (cond c CutRecord (cond u (UnknownSetting (unknownPlace v cs b) (after v b)) (Read (recordOf v cs b) (after v b)))))
       go true c u = refl
       go false true u = refl
       go false false true = refl

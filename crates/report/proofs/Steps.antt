@@ -7,32 +7,34 @@ use native.Mathlib.Decide.{decLe}
 use native.Mathlib.Omega.{arith}
 use borrow.Author.Tests.{ltb-true, ltb-false, le-leb, lt-leb}
 use lib.ListN.{length}
+use Rattle.job.specs.declared.version.Version.{Version}
 use Rattle.job.specs.declared.next.NextRecord.the-variants.{Read, CutRecord, UnknownSetting}
-use Rattle.job.specs.Settings.{firstUnknown}
+use Rattle.job.specs.Version.{recordSize}
+use Rattle.job.specs.Tops.{unknownPlace}
 use Rattle.job.specs.Records.{recordOf, after, cut, unknown, recordAt}
 use Rattle.report.specs.Replies.{reply, goesOn}
 use Rattle.report.specs.Jobs.{answers, answersFrom}
 
-module _ (bs : List ℕ) where
+module _ (v : Version) (bs : List ℕ) where
   -- reading goes on past the record, or at the end
-  pub goes-on : (at : ℕ) → at < length bs → goesOn (length bs) (recordAt bs at) ≡ min (at + 29) (length bs)
+  pub goes-on : (at : ℕ) → at < length bs → goesOn (length bs) (recordAt v bs at) ≡ min (at + recordSize v) (length bs)
   unfolding recordAt
-  goes-on at h = rw (lt-leb (length bs) at h) (go (cut bs at) (unknown bs at) refl)
+  goes-on at h = rw (lt-leb (length bs) at h) (go (cut v bs at) (unknown v bs at) refl)
     where
-      go : (c u : Bool) → cut bs at ≡ c
-          → goesOn (length bs) (cond c CutRecord (cond u (UnknownSetting (firstUnknown bs at) (after at)) (Read (recordOf bs at) (after at)))) ≡ min (at + 29) (length bs)
-      go true u e = omega (arith, ltb-true (length bs - at) 29 e)
-      go false true e = omega (arith, ltb-false (length bs - at) 29 e)
-      go false false e = omega (arith, ltb-false (length bs - at) 29 e)
+      go : (c u : Bool) → cut v bs at ≡ c
+          → goesOn (length bs) (cond c CutRecord (cond u (UnknownSetting (unknownPlace v bs at) (after v at)) (Read (recordOf v bs at) (after v at)))) ≡ min (at + recordSize v) (length bs)
+      go true u e = omega (arith, ltb-true (length bs - at) (recordSize v) e)
+      go false true e = omega (arith, ltb-false (length bs - at) (recordSize v) e)
+      go false false e = omega (arith, ltb-false (length bs - at) (recordSize v) e)
 
   -- there is nothing to answer at the end
-  pub answers-end : (k at : ℕ) → length bs ≤ at → answers k bs at ≡ []
+  pub answers-end : (k at : ℕ) → length bs ≤ at → answers v k bs at ≡ []
   unfolding answers recordAt
   answers-end zero at h = refl
   answers-end (suc k) at h = rw (le-leb (length bs) at h) (answers-end k (length bs) (omega arith))
 
   -- more turns than there are records change nothing
-  pub answers-same : (k m at : ℕ) → length bs ≤ at + k → length bs ≤ at + m → answers k bs at ≡ answers m bs at
+  pub answers-same : (k m at : ℕ) → length bs ≤ at + k → length bs ≤ at + m → answers v k bs at ≡ answers v m bs at
   unfolding answers
   answers-same zero m at h l = rw (answers-end m at (omega arith))
   answers-same (suc k) zero at h l = rw (answers-end (suc k) at (omega arith))
@@ -41,10 +43,10 @@ module _ (bs : List ℕ) where
         | yes e ↦ answers-end (suc k) at e ∙ sym (answers-end (suc m) at e)
         | no e ↦
             let next = goes-on at (omega arith) in
-            ap (λ (l : List ℕ). reply (recordAt bs at) ++ l) (answers-same k m (goesOn (length bs) (recordAt bs at)) (omega arith) (omega arith))
+            ap (λ (l : List ℕ). reply (recordAt v bs at) ++ l) (answers-same k m (goesOn (length bs) (recordAt v bs at)) (omega arith) (omega arith))
       ]
 
   -- a record, and the records after it
-  pub answers-step : (at : ℕ) → answersFrom bs at ≡ reply (recordAt bs at) ++ answersFrom bs (goesOn (length bs) (recordAt bs at))
+  pub answers-step : (at : ℕ) → answersFrom v bs at ≡ reply (recordAt v bs at) ++ answersFrom v bs (goesOn (length bs) (recordAt v bs at))
   unfolding answers
   answers-step at = answers-same (length bs) (suc (length bs)) at (omega arith) (omega arith)

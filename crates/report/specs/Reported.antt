@@ -3,13 +3,14 @@ use Prim.Native.Nat.{ℕ, _≤_, _<_}
 use mathlib.Core.Path.{_≡_}
 use mathlib.Core.List.{List, _++_}
 use lib.ListN.{length, take}
+use Rattle.job.specs.declared.version.Version.{Version}
 use Rattle.report.specs.declared.records.Progress.{Progress}
 use Rattle.report.specs.Jobs.{answersFrom}
 
 -- out is the output after the call
-pub record Reported (bs : List ℕ) (from : ℕ) (out : List ℕ) (r : Progress) : Type 0 where
+pub record Reported (v : Version) (bs : List ℕ) (from : ℕ) (out : List ℕ) (r : Progress) : Type 0 where
   -- what was written, and the answers from the next place on, are the answers from the first place on
-  pub text : answersFrom bs from ≡ take (r .written) out ++ answersFrom bs (r .next)
+  pub text : answersFrom v bs from ≡ take (r .written) out ++ answersFrom v bs (r .next)
   pub fits : r .written ≤ length out
   -- where there is a record, at least one is answered
   pub on : from < length bs → from < r .next

@@ -5,6 +5,7 @@ use mathlib.Core.Path.{_≡_, sym, ap, _∙_}
 use mathlib.Core.Bool.{Bool}
 use native.Mathlib.Omega.{arith}
 use lib.ListN.{length}
+use Rattle.level.specs.Top.{Top}
 use Rattle.patch.specs.declared.kinds.Patch.{Patch}
 use Rattle.patch.specs.declared.settings.Settings.{Settings}
 use Rattle.patch.specs.declared.subdivision.Subdivision.{Subdivision}
@@ -19,23 +20,23 @@ use Rattle.drawing.proofs.Valid.{cut-valid}
 use Rattle.tessellate.specs.Answers.{pointsOf, indicesOf}
 use Rattle.tessellate.proofs.Cuts.{valid-as}
 
-module _ (set : Settings) (p : Patch) (c : Subdivision) (is : c ≡ subdivision (set .spacing) p) where
+module _ (set : Settings) (top : Top (set .top)) (p : Patch) (c : Subdivision) (is : c ≡ subdivision (set .spacing) (set .top) p) where
   -- every edge has an n and L that an edge can have
   pub valid : ValidCut c
-  valid = valid-as (cut-valid (set .spacing) p) (sym is)
+  valid = valid-as (cut-valid (set .spacing) (set .top) top p) (sym is)
 
   -- the test for a discarded patch
   pub flag : {t b : Bool} → t ≡ isDiscarded c → t ≡ b → discards p ≡ b
-  flag f h = sym (discarded-cut (set .spacing) p) ∙ ap isDiscarded (sym is) ∙ sym f ∙ h
+  flag f h = sym (discarded-cut (set .spacing) (set .top) p) ∙ ap isDiscarded (sym is) ∙ sym f ∙ h
 
   -- every vertex has a number of 16 bits
   pub few : length (points c) ≤ 65535
-  few = rw is (omega (arith, points-at-most (set .spacing) p))
+  few = rw is (omega (arith, points-at-most (set .spacing) (set .top) top p))
 
   -- the counts
   pub many-points : {n : ℕ} → n ≡ pointCount c → n ≡ pointsOf set p
-  many-points e = e ∙ ap pointCount is ∙ sym (point-count (subdivision (set .spacing) p) (cut-valid (set .spacing) p))
+  many-points e = e ∙ ap pointCount is ∙ sym (point-count (subdivision (set .spacing) (set .top) p) (cut-valid (set .spacing) (set .top) top p))
 
   pub many-indices : {n : ℕ} → n ≡ countIn (set .«point_mode») c → n ≡ indicesOf set p
   many-indices e =
-      e ∙ ap (countIn (set .«point_mode»)) is ∙ sym (index-count set (subdivision (set .spacing) p) (cut-valid (set .spacing) p))
+      e ∙ ap (countIn (set .«point_mode»)) is ∙ sym (index-count set (subdivision (set .spacing) (set .top) p) (cut-valid (set .spacing) (set .top) top p))

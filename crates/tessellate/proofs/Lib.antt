@@ -1,5 +1,6 @@
 -- The laws of `tessellate`.
 mod Products
+pub mod Tops
 mod Cuts
 mod Modes
 mod Counted

@@ -26,7 +26,7 @@ pub record Drew (set : Settings) (p : Patch) (v i v′ i′ : List ℕ) (r : Ans
   -- the lowest number that applies, with both counts where drawn
   pub answer : told r ≡ verdict set p (length v) (length i)
   -- drawn: the counted words at the front and not one more; else untouched
-  pub vertices : v′ ≡ after (told r .number) v (vertexWords (points (subdivision (set .spacing) p)))
-  pub indices : i′ ≡ after (told r .number) i (indexWords set (subdivision (set .spacing) p))
+  pub vertices : v′ ≡ after (told r .number) v (vertexWords (points (subdivision (set .spacing) (set .top) p)))
+  pub indices : i′ ≡ after (told r .number) i (indexWords set (subdivision (set .spacing) (set .top) p))
   -- drawn with P points and I indices: demand 3, read off the lists
   pub demand : (P I : ℕ) → told r ≡ record { number = 0; values = P ∷ I ∷ [] } → Demand set p (readPoints (take (3 * P) v′)) (take I i′)

@@ -7,6 +7,7 @@ pub enum Answer {
     Discarded,
     NoRoomForVertices,
     NoRoomForIndices,
+    BadTop,
 }
 
 // How many points and indices a patch has, and where each level that counts lies, if it is not discarded.
@@ -17,4 +18,5 @@ pub enum Size {
         clamps: Clamps,
     },
     Discarded,
+    BadTop,
 }

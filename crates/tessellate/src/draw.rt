@@ -8,10 +8,14 @@ pub fn draw(patch: Patch, settings: Settings, vertices: &mut [u32], indices: &mu
     ensures { λ r. ⌜ Drew settings patch (now (vertices .entry)) (now (indices .entry)) (now (vertices .exit)) (now (indices .exit)) r ⌝ }
 {
     let spacing = settings.spacing;
+    let top = settings.top;
     let order = settings.order;
     let origin = settings.origin;
     let point_mode = settings.point_mode;
-    let cut = patch::subdivision::subdivide(patch, spacing);
+    if !level::is_top(top) {
+        return Answer::BadTop;
+    }
+    let cut = patch::subdivision::subdivide(patch, spacing, top);
     if patch::subdivision::is_discarded(cut) {
         return Answer::Discarded;
     }

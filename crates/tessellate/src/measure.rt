@@ -10,14 +10,18 @@ pub fn measure(patch: Patch, settings: Settings) -> Size
     ensures { λ r. ⌜ r ≡ measured settings patch ⌝ }
 {
     let spacing = settings.spacing;
+    let top = settings.top;
     let point_mode = settings.point_mode;
-    let cut = patch::subdivision::subdivide(patch, spacing);
+    if !level::is_top(top) {
+        return Size::BadTop;
+    }
+    let cut = patch::subdivision::subdivide(patch, spacing, top);
     if patch::subdivision::is_discarded(cut) {
         return Size::Discarded;
     }
     let points = crate::count::point_count(cut);
     let indices = crate::count::index_count(cut, point_mode);
-    let clamps = patch::clamps::clamps_of(patch, spacing);
+    let clamps = patch::clamps::clamps_of(patch, spacing, top);
     Size::Counts {
         points,
         indices,

@@ -11,9 +11,9 @@ abbrev pub bytes : String → List ℕ
 bytes string.[] = []
 bytes (string._∷_ c s) = code c ∷ bytes s
 
--- the first line of all
-abbrev pub titleLine : List ℕ
-titleLine = bytes "TSJ 1\n"
+-- the first line of all: the version of the job file
+abbrev pub titleLine : ℕ → List ℕ
+titleLine version = bytes "TSJ " ++ line (version ∷ [])
 
 -- a record that was drawn: the counts of its points and its indices
 abbrev pub drawnLine : ℕ → ℕ → List ℕ

@@ -1,18 +1,31 @@
 // The lines that carry words.
+ghost use mathlib.Core.List.{[], _∷_, _++_};
 ghost use Prim.Native.Nat.{_+_, _≤_};
 ghost use lib.ListN.{length};
 ghost use Rattle.buffer.specs.Over.{Wrote};
 ghost use Rattle.text.specs.Heads.{titleLine, drawnLine, discardedLine, refusedLine};
+ghost use Rattle.text.specs.Lines.{line};
 use crate::bytes::put_bytes;
 use crate::line::put_line1;
 use crate::line::put_line2;
 
-// The first line of all.
-pub fn put_title(out: &mut [u8], at: usize) -> usize
-    requires { ⌜ at + 6 ≤ length (now out) ⌝ }
-    ensures { λ r. ⌜ Wrote (now (out .entry)) at titleLine (now (out .exit)) r ⌝ }
+// A word and a number on a line.
+fn put_worded(out: &mut [u8], at: usize, word: &[u8], n: u32) -> usize
+    requires { ⌜ at + length (now word) + 11 ≤ length (now out) ⌝ }
+    ensures { λ r. ⌜ Wrote (now (out .entry)) at (now (word .entry) ++ line (n ∷ [])) (now (out .exit)) r ⌝ }
+    ensures { λ r. ⌜ r ≤ at + length (now (word .entry)) + 11 ⌝ }
 {
-    put_bytes(out, at, b"TSJ 1\n")
+    let w = put_bytes(out, at, word);
+    put_line1(out, w, n)
+}
+
+// The first line of all, by the version of the job file.
+pub fn put_title(out: &mut [u8], at: usize, version: u32) -> usize
+    requires { ⌜ at + 15 ≤ length (now out) ⌝ }
+    ensures { λ r. ⌜ Wrote (now (out .entry)) at (titleLine version) (now (out .exit)) r ⌝ }
+    ensures { λ r. ⌜ r ≤ at + 15 ⌝ }
+{
+    put_worded(out, at, b"TSJ ", version)
 }
 
 // The first line of a record that was drawn.
@@ -39,6 +52,5 @@ pub fn put_refused(out: &mut [u8], at: usize, n: u32) -> usize
     ensures { λ r. ⌜ Wrote (now (out .entry)) at (refusedLine n) (now (out .exit)) r ⌝ }
     ensures { λ r. ⌜ r ≤ at + 19 ⌝ }
 {
-    let w = put_bytes(out, at, b"refused ");
-    put_line1(out, w, n)
+    put_worded(out, at, b"refused ", n)
 }

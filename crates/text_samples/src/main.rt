@@ -5,8 +5,8 @@ use libc::STDOUT_FILENO;
 
 // A triangle patch of four points and three triangles, after the title.
 fn put_record(out: &mut [u8], at: usize) -> usize
-    requires { ⌜ at + 220 ≤ length (now out) ⌝ }
-    ensures { λ r. ⌜ r ≤ at + 220 ⌝ }
+    requires { ⌜ at + 229 ≤ length (now out) ⌝ }
+    ensures { λ r. ⌜ r ≤ at + 229 ⌝ }
 {
     let vertices = [
         0u32,
@@ -23,7 +23,7 @@ fn put_record(out: &mut [u8], at: usize) -> usize
         65536,
     ];
     let indices = [0u16, 1, 3, 1, 2, 3, 2, 0, 3];
-    let a = text::put_title(out, at);
+    let a = text::put_title(out, at, 1);
     let b = text::put_drawn(out, a, 4, 9);
     let c = text::put_points(out, b, &vertices, 0, 4);
     text::put_primitives(out, c, &indices, 3, 0, 3)
@@ -65,16 +65,17 @@ fn put_numbers(out: &mut [u8], at: usize) -> usize
     w
 }
 
-// Answers without a list, and primitives of one and of two indices.
+// Answers without a list, primitives of one and of two indices, and the title of a file of version 2.
 fn put_rest(out: &mut [u8], at: usize) -> usize
-    requires { ⌜ at + 119 ≤ length (now out) ⌝ }
-    ensures { λ r. ⌜ r ≤ at + 119 ⌝ }
+    requires { ⌜ at + 134 ≤ length (now out) ⌝ }
+    ensures { λ r. ⌜ r ≤ at + 134 ⌝ }
 {
     let indices = [5u16, 65535, 12, 345];
     let a = text::put_discarded(out, at);
     let b = text::put_refused(out, a, 8);
     let c = text::put_primitives(out, b, &indices, 1, 1, 3);
-    text::put_primitives(out, c, &indices, 2, 0, 2)
+    let d = text::put_primitives(out, c, &indices, 2, 0, 2);
+    text::put_title(out, d, 2)
 }
 
 fn main() {

@@ -1,7 +1,9 @@
-//! Draws one triangle patch and prints it, measures it and one with clamped levels, then meets the answers that are no
-//! drawing.
+//! Draws one triangle patch and prints it, measures it and one with clamped levels at two tops, then meets the answers that
+//! are no drawing.
 
-use yoktvarim::{draw, measure, Answer, DomainOrigin, Patch, Settings, Size, Spacing, VertexOrder};
+use yoktvarim::{
+    draw, measure, Answer, DomainOrigin, Patch, Settings, Size, Spacing, VertexOrder, GREATEST_TOP,
+};
 
 /// Draws into the lists, and prints what came of it: a line a point, then a line a triangle.
 fn show(patch: &Patch, settings: &Settings, vertices: &mut [u32], indices: &mut [u16]) {
@@ -18,13 +20,14 @@ fn show(patch: &Patch, settings: &Settings, vertices: &mut [u32], indices: &mut 
                 println!("{} {} {}", triangle[0], triangle[1], triangle[2]);
             }
         }
+        Answer::BadTop => println!("bad top"),
         Answer::Discarded => println!("discarded"),
         Answer::NoRoomForVertices => println!("no room for vertices"),
         Answer::NoRoomForIndices => println!("no room for indices"),
     }
 }
 
-/// Measures, and prints the counts and what is told of each level; the counts, or `None` where the patch is discarded.
+/// Measures, and prints the counts and what is told of each level; the counts, or `None` where it was not measured.
 fn show_size(patch: &Patch, settings: &Settings) -> Option<(usize, usize)> {
     let Size::Counts {
         points,
@@ -49,6 +52,7 @@ fn main() {
         vertex_order: VertexOrder::CounterClockwise,
         domain_origin: DomainOrigin::LowerLeft,
         point_mode: false,
+        top: GREATEST_TOP,
     };
 
     // Lists of these sizes have room for every patch.
@@ -78,9 +82,23 @@ fn main() {
     };
     show_size(&clamped, &settings).expect("not discarded");
 
+    // With the top 16 that range is 1 to 16, and 64 counts as 16 too.
+    let up_to_16 = Settings {
+        top: 16,
+        ..settings
+    };
+    show_size(&clamped, &up_to_16).expect("not discarded");
+
     let discarded = Patch::Triangles {
         outer: [1.0, 0.0, 1.0],
         inner: 2.0,
     };
     show(&discarded, &settings, &mut vertices, &mut indices);
+
+    // A top is an even number from 2 to 64; any other is told before everything else, here that the patch is discarded.
+    let bad = Settings {
+        top: 15,
+        ..settings
+    };
+    show(&discarded, &bad, &mut vertices, &mut indices);
 }

@@ -1,29 +1,62 @@
 -- `level::range_of` meets its contract: each arm has its spacing's two ends. Assumes nothing.
 use borrow.Author.Needs.{needs}
-use lib.Ieee.{ofBits}
+use Prim.Native.Nat.{ℕ, _^_, _≤_}
+use native.Mathlib.Omega.{arith}
+use lib.Dec.{T, le→leb}
+use lib.IntN.{pos}
+use lib.Ieee.{binary32, ofBits, inFloat}
 use Rattle.level.proofs.range_of.Statement.{statement}
 use Rattle.level.proofs.range_of.Tie as tie
+
+-- an `f32` holds every number up to the top
+held : (n : ℕ) → n ≤ 64 → T (inFloat binary32 (pos n))
+unfolding inFloat
+held n h = le→leb n (2 ^ 24) (omega arith)
 
 enum-told : tie.Need-enum-told
 enum-told c = search needs
 
+int-to-float-t4 : tie.Need-int-to-float-t4
+int-to-float-t4 c = held _ (omega arith)
+
 enum-told-2 : tie.Need-enum-told-2
 enum-told-2 c = search needs
+
+int-to-float-t5 : tie.Need-int-to-float-t5
+int-to-float-t5 c = held _ (omega arith)
 
 enum-told-3 : tie.Need-enum-told-3
 enum-told-3 c = search needs
 
+sub-t6 : tie.Need-sub-t6
+sub-t6 c = search needs
+
+int-to-float-t7 : tie.Need-int-to-float-t7
+int-to-float-t7 c = held _ (omega arith)
+
 returns : tie.Need-returns
 unfolding ofBits
-returns c = rw (c .enum-told .given .1)
+returns c = rw (c .before .enum-told .given .1)
 
 returns-2 : tie.Need-returns-2
 unfolding ofBits
-returns-2 c = rw (c .enum-told2 .given .1)
+returns-2 c = rw (c .before .enum-told2 .given .1)
 
 returns-3 : tie.Need-returns-3
 unfolding ofBits
-returns-3 c = rw (c .enum-told3 .given .1)
+returns-3 c = rw (c .before .enum-told3 .given .1)
 
 pub range-of-spec : {M : Type 1} → statement M
-range-of-spec = tie.close (tie.spec enum-told enum-told-2 enum-told-3 returns returns-2 returns-3)
+range-of-spec =
+    tie.close
+    (tie.spec
+    enum-told
+    int-to-float-t4
+    enum-told-2
+    int-to-float-t5
+    enum-told-3
+    sub-t6
+    int-to-float-t7
+    returns
+    returns-2
+    returns-3)

@@ -11,10 +11,10 @@ clamp-level-requires : tie.Need-clamp-level-requires
 clamp-level-requires c κs = search needs
 
 parts-of-requires : tie.Need-parts-of-requires
-parts-of-requires c κs = rw (c .clamp-level .ensures) (level-from-1-to-64 (c .before .args .spacing) (c .before .args .level))
+parts-of-requires c κs = rw (c .clamp-level .ensures) (let a = c .before .args in level-from-1-to-64 (a .spacing) (a .top) (c .before .pre) (a .level))
 
 segments-at-requires : tie.Need-segments-at-requires
-segments-at-requires c κs = rw (c .parts-of .ensures, c .before .clamp-level .ensures) (level-in-range (c .before .before .args .spacing) (c .before .before .args .level))
+segments-at-requires c κs = rw (c .parts-of .ensures, c .before .clamp-level .ensures) (let a = c .before .before .args in level-in-range (a .spacing) (a .top) (c .before .before .pre) (a .level))
 
 returns : tie.Need-returns
 unfolding segmentsOf

@@ -1,20 +1,42 @@
--- `exports::measure::yoktvarim_measure` meets its contract: a return for an unknown setting and one for what measuring answers. Assumes nothing.
+-- `exports::measure::yoktvarim_measure` meets its contract: a return for a bad top, one for an unknown setting and one for what measuring
+-- answers. Assumes nothing.
 use borrow.Author.Needs.{needs}
-use Rattle.exports.proofs.Calls.{measure-unknown, measure-known}
+use mathlib.Core.Path.{ap, _∙_}
+use Rattle.level.specs.Top.{isTop}
+use Rattle.job.specs.Settings.{settingsAt}
+use Rattle.tessellate.proofs.Tops.{good, bad}
+use Rattle.exports.proofs.Calls.{measure-bad, measure-unknown, measure-known}
 use Rattle.exports.proofs.measure.yoktvarim_measure.Statement.{statement}
 use Rattle.exports.proofs.measure.yoktvarim_measure.Tie as tie
 
-first-unknown-requires : tie.Need-first-unknown-requires
-first-unknown-requires c κs = search needs
+top-in-requires : tie.Need-top-in-requires
+top-in-requires c κs = search needs
 
-say-unknown-requires : tie.Need-say-unknown-requires
-say-unknown-requires c κs = search needs
+is-top-requires : tie.Need-is-top-requires
+is-top-requires c κs = search needs
 
 say-nothing-requires : tie.Need-say-nothing-requires
 say-nothing-requires c κs = search needs
 
+say-bad-top-requires : tie.Need-say-bad-top-requires
+say-bad-top-requires c κs = search needs
+
 returns : tie.Need-returns
-returns c = measure-unknown _ _ (c .before .before .before .before .before .first-unknown .ensures) (c .before .before .before .before .if1 .taken) (c .say-unknown .ensures) (c .before .before .say-nothing .ensures)
+returns c = measure-bad _ _ (bad (c .before .before .before .before .before .is-top .result) (c .before .before .before .before .before .is-top .ensures ∙ ap isTop (c .before .before .before .before .before .before .top-in .ensures)) (c .before .before .before .before .if1 .taken)) (c .say-bad-top .ensures) (c .before .before .say-nothing .ensures)
+
+first-unknown-requires : tie.Need-first-unknown-requires
+first-unknown-requires c κs = search needs
+
+say-nothing-requires-2 : tie.Need-say-nothing-requires-2
+say-nothing-requires-2 c κs = search needs
+
+say-unknown-requires : tie.Need-say-unknown-requires
+say-unknown-requires c κs = search needs
+
+returns-2 : tie.Need-returns-2
+returns-2 c =
+    measure-unknown _ _ (good (c .before .before .before .before .before .before .before .before .is-top .result) (c .before .before .before .before .before .before .before .before .is-top .ensures ∙ ap isTop (c .before .before .before .before .before .before .before .before .before .top-in .ensures)) (c .before .before .before .before .before .before .before .if1 .left))
+    (c .before .before .before .before .before .first-unknown .ensures) (c .before .before .before .before .if2 .taken) (c .say-unknown .ensures) (c .before .before .say-nothing2 .ensures)
 
 patch-in-requires : tie.Need-patch-in-requires
 patch-in-requires c κs = search needs
@@ -25,28 +47,34 @@ read-settings-requires c κs = search needs
 measure-requires : tie.Need-measure-requires
 measure-requires c κs = search needs
 
-say-size-requires : tie.Need-say-size-requires
-say-size-requires c κs = search needs
-
 say-clamps-requires : tie.Need-say-clamps-requires
 say-clamps-requires c κs = search needs
 
-returns-2 : tie.Need-returns-2
-returns-2 c =
-    measure-known _ _ (c .before .before .before .before .before .before .before .before .before .first-unknown .ensures) (c .before .before .before .before .before .before .before .before .if1 .left) (c .before .before .before .before .before .read-settings .ensures) (c .before .before .before .before .before .before .before .patch-in .ensures)
+say-size-requires : tie.Need-say-size-requires
+say-size-requires c κs = search needs
+
+returns-3 : tie.Need-returns-3
+returns-3 c =
+    measure-known _ _ (good (c .before .before .before .before .before .before .before .before .before .before .before .before .is-top .result) (c .before .before .before .before .before .before .before .before .before .before .before .before .is-top .ensures ∙ ap isTop (c .before .before .before .before .before .before .before .before .before .before .before .before .before .top-in .ensures)) (c .before .before .before .before .before .before .before .before .before .before .before .if1 .left))
+    (c .before .before .before .before .before .before .before .before .before .first-unknown .ensures) (c .before .before .before .before .before .before .before .before .if2 .left) (c .before .before .before .before .before .read-settings .ensures ∙ ap (settingsAt (c .before .before .before .before .before .before .before .before .before .before .before .before .before .before .before .args .settings .now) 0) (c .before .before .before .before .before .before .before .before .before .before .before .before .before .top-in .ensures)) (c .before .before .before .before .before .before .before .patch-in .ensures)
     (c .before .before .before .before .measure .ensures) (c .say-size .ensures) (c .before .before .say-clamps .ensures)
 
 pub yoktvarim-measure-spec : {M : Type 1} → statement M
 yoktvarim-measure-spec =
     tie.close
     (tie.spec
-    first-unknown-requires
+    top-in-requires
+    is-top-requires
     say-nothing-requires
-    say-unknown-requires
+    say-bad-top-requires
     returns
+    first-unknown-requires
+    say-nothing-requires-2
+    say-unknown-requires
+    returns-2
     patch-in-requires
     read-settings-requires
     measure-requires
     say-clamps-requires
     say-size-requires
-    returns-2)
+    returns-3)

@@ -1,4 +1,4 @@
--- `job::header::read_header` meets its contract: each return is one of the four ways through `headerOf`. Assumes nothing.
+-- `job::header::read_header` meets its contract: each return is one of the ways through `headerOf`. Assumes nothing.
 use borrow.Author.Needs.{needs}
 use borrow.Author.Tests.{not-true, not-false}
 use Prim.Native.Nat.{_≤_}
@@ -7,6 +7,7 @@ use mathlib.Core.Path.{_≡_, sym, _∙_}
 use mathlib.Core.Bool.{true}
 use lib.ListN.{length}
 use denote.Ref.{now}
+use Rattle.job.specs.declared.version.Version.the-variants.{One, Two}
 use Rattle.job.specs.Header.{mark, startsWith}
 use Rattle.job.proofs.Headers.{header-read, header-short, header-other, header-version, header-right}
 use Rattle.job.proofs.header.read_header.Statement.{statement}
@@ -35,12 +36,16 @@ read-u16-requires : tie.Need-read-u16-requires
 read-u16-requires c κs = search needs
 
 returns-3 : tie.Need-returns-3
-returns-3 c =
-    header-read _ (header-version _ (long (c .before .before)) (marked (c .before .before)) (λ e. c .if3 .taken (c .before .read-u16 .ensures ∙ e)))
+returns-3 c = header-read _ (header-right _ (long (c .before .before)) (marked (c .before .before)) One (sym (c .before .read-u16 .ensures) ∙ c .match .keys1))
 
 returns-4 : tie.Need-returns-4
-returns-4 c =
-    header-read _ (header-right _ (long (c .before .before)) (marked (c .before .before)) (sym (c .before .read-u16 .ensures) ∙ c .if3 .left))
+returns-4 c = header-read _ (header-right _ (long (c .before .before)) (marked (c .before .before)) Two (sym (c .before .read-u16 .ensures) ∙ c .match .keys2))
+
+returns-5 : tie.Need-returns-5
+returns-5 c =
+    let read = c .before .read-u16 .ensures in
+    header-read _
+    (header-version _ (long (c .before .before)) (marked (c .before .before)) (λ e. c .match .rest .0 .1 (read ∙ e)) (λ e. c .match .rest .1 (read ∙ e)))
 
 pub read-header-spec : {M : Type 1} → statement M
 read-header-spec =
@@ -52,4 +57,5 @@ read-header-spec =
     returns-2
     read-u16-requires
     returns-3
-    returns-4)
+    returns-4
+    returns-5)

@@ -7,44 +7,58 @@ use Rattle.job.proofs.next.read_record.Statement.{statement}
 use Rattle.job.proofs.next.read_record.Tie as tie
 
 returns : tie.Need-returns
-returns c = record-read _ _ (record-end _ _ (c .if1 .taken))
+returns c = record-read _ _ _ (record-end _ _ _ (c .if1 .taken))
+
+record-size-requires : tie.Need-record-size-requires
+record-size-requires c κs = search needs
 
 sub-if2 : tie.Need-sub-if2
 sub-if2 c = search needs
 
 returns-2 : tie.Need-returns-2
-returns-2 c = record-read _ _ (record-cut _ _ (c .before .if1 .left) (omega (arith, c .if2 .taken)))
+returns-2 c = record-read _ _ _ (record-cut _ _ _ (c .before .before .if1 .left) (omega (arith, c .before .record-size .ensures, c .if2 .taken)))
 
-add-t7 : tie.Need-add-t7
-add-t7 c = search needs
+add-t9 : tie.Need-add-t9
+add-t9 c = search needs
 
-first-unknown-requires : tie.Need-first-unknown-requires
-first-unknown-requires c κs = search needs
+unknown-place-requires : tie.Need-unknown-place-requires
+unknown-place-requires c κs = search needs
+
+setting-bytes-requires : tie.Need-setting-bytes-requires
+setting-bytes-requires c κs = search needs
 
 returns-3 : tie.Need-returns-3
 returns-3 c =
-    let place = c .before .first-unknown .ensures in
-    record-read _ _ (record-unknown _ _ (omega (arith, c .before .before .if2 .left)) (omega (arith, place, c .if3 .taken)) ∙ rw (sym place))
+    let found = c .before .before in
+    let place = found .unknown-place .ensures in
+    let size = found .before .before .record-size .ensures in
+    record-read _ _ _
+    (record-unknown _ _ _ (omega (arith, size, found .before .if2 .left)) (omega (arith, place, c .before .setting-bytes .ensures, c .if3 .taken))
+    ∙ rw (sym place, sym size))
 
 read-whole-requires : tie.Need-read-whole-requires
 read-whole-requires c κs = search needs
 
 returns-4 : tie.Need-returns-4
 returns-4 c =
-    let place = c .before .before .first-unknown .ensures in
-    record-read _ _
-    (record-whole _ _ (omega (arith, c .before .before .before .if2 .left)) (omega (arith, place, c .before .if3 .left))
-    ∙ rw (sym (c .read-whole .ensures)))
+    let found = c .before .before .before in
+    let place = found .unknown-place .ensures in
+    let size = found .before .before .record-size .ensures in
+    record-read _ _ _
+    (record-whole _ _ _ (omega (arith, size, found .before .if2 .left)) (omega (arith, place, c .before .before .setting-bytes .ensures, c .before .if3 .left))
+    ∙ rw (sym (c .read-whole .ensures), sym size))
 
 pub read-record-spec : {M : Type 1} → statement M
 read-record-spec =
     tie.close
     (tie.spec
     returns
+    record-size-requires
     sub-if2
     returns-2
-    add-t7
-    first-unknown-requires
+    add-t9
+    unknown-place-requires
+    setting-bytes-requires
     returns-3
     read-whole-requires
     returns-4)

@@ -10,8 +10,14 @@ shared-slice-read-kind-of c = search needs
 kind-of-requires : tie.Need-kind-of-requires
 kind-of-requires c κs = search needs
 
+read-top-requires : tie.Need-read-top-requires
+read-top-requires c κs = search needs
+
 read-settings-requires : tie.Need-read-settings-requires
 read-settings-requires c κs = search needs
+
+setting-bytes-requires : tie.Need-setting-bytes-requires
+setting-bytes-requires c κs = search needs
 
 add-read-bits : tie.Need-add-read-bits
 add-read-bits c = search needs
@@ -25,8 +31,16 @@ levels-of-requires c κs = search needs
 returns : tie.Need-returns
 unfolding recordOf
 returns c =
-    let settings = c .before .before in
-    rw (c .levels-of .ensures, c .before .read-bits .ensures, settings .read-settings .ensures, settings .before .kind-of .ensures)
+    let bits = c .before in
+    let settings = bits .before .before in
+    rw (
+      c .levels-of .ensures,
+      bits .read-bits .ensures,
+      bits .before .setting-bytes .ensures,
+      settings .read-settings .ensures,
+      settings .before .read-top .ensures,
+      settings .before .before .kind-of .ensures,
+    )
 
 pub read-whole-spec : {M : Type 1} → statement M
 read-whole-spec =
@@ -34,7 +48,9 @@ read-whole-spec =
     (tie.spec
     shared-slice-read-kind-of
     kind-of-requires
+    read-top-requires
     read-settings-requires
+    setting-bytes-requires
     add-read-bits
     read-bits-requires
     levels-of-requires

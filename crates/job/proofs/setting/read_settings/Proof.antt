@@ -31,11 +31,11 @@ shared-slice-read-origin-of c = search needs
 origin-of-requires : tie.Need-origin-of-requires
 origin-of-requires c κs = search needs
 
-add-t15 : tie.Need-add-t15
-add-t15 c = search needs
+add-t16 : tie.Need-add-t16
+add-t16 c = search needs
 
-shared-slice-read-t17 : tie.Need-shared-slice-read-t17
-shared-slice-read-t17 c = search needs
+shared-slice-read-t18 : tie.Need-shared-slice-read-t18
+shared-slice-read-t18 c = search needs
 
 returns : tie.Need-returns
 returns c =
@@ -55,6 +55,6 @@ read-settings-spec =
     add-origin-of
     shared-slice-read-origin-of
     origin-of-requires
-    add-t15
-    shared-slice-read-t17
+    add-t16
+    shared-slice-read-t18
     returns)

@@ -1,7 +1,7 @@
 -- Meets its contract. Assumes nothing.
 use borrow.Author.Needs.{needs}
 use native.Mathlib.Omega.{arith}
-use Prim.Native.Nat.{_+_}
+use Prim.Native.Nat.{ℕ, _+_}
 use mathlib.Core.Path.{_≡_, sym, _∙_}
 use mathlib.Core.List.{[], _∷_}
 use lib.Ieee.{Float}
@@ -15,8 +15,8 @@ use Rattle.patch.proofs.subdivision.quad.Statement.{statement}
 use Rattle.patch.proofs.subdivision.quad.Tie as tie
 
 -- the counts of the code's sum are those of `total`
-summed : {s : Spacing} {a b c d i j : Float} {p q r t u v : Segments} → Counted s a p → Counted s b q → Counted s c r → Counted s d t → Counted s i u → Counted s j v
-    → total (count s) (a ∷ b ∷ c ∷ d ∷ i ∷ j ∷ []) ≡ p .count + q .count + r .count + t .count + u .count + v .count
+summed : {s : Spacing} {n : ℕ} {a b c d i j : Float} {p q r t u v : Segments} → Counted s n a p → Counted s n b q → Counted s n c r → Counted s n d t → Counted s n i u → Counted s n j v
+    → total (count s n) (a ∷ b ∷ c ∷ d ∷ i ∷ j ∷ []) ≡ p .count + q .count + r .count + t .count + u .count + v .count
 unfolding total
 summed k1 k2 k3 k4 k5 k6 = omega arith
 
@@ -45,20 +45,20 @@ segments-of-requires-5 c κs = search needs
 segments-of-requires-6 : tie.Need-segments-of-requires-6
 segments-of-requires-6 c κs = search needs
 
+add-outline : tie.Need-add-outline
+add-outline c = search needs
+
+add-outline-2 : tie.Need-add-outline-2
+add-outline-2 c = search needs
+
+add-outline-3 : tie.Need-add-outline-3
+add-outline-3 c = search needs
+
 add-if2 : tie.Need-add-if2
 add-if2 c = search needs
 
 add-if2-2 : tie.Need-add-if2-2
 add-if2-2 c = search needs
-
-add-if2-3 : tie.Need-add-if2-3
-add-if2-3 c = search needs
-
-add-if2-4 : tie.Need-add-if2-4
-add-if2-4 c = search needs
-
-add-if2-5 : tie.Need-add-if2-5
-add-if2-5 c = search needs
 
 returns-2 : tie.Need-returns-2
 unfolding subdivision
@@ -71,7 +71,7 @@ returns-2 c =
     let e1 = e2 .before in
     let a = e1 .before .before .before .args in
     let sum = summed (e1 .segments-of .ensures) (e2 .segments-of2 .ensures) (e3 .segments-of3 .ensures) (e4 .segments-of4 .ensures) (e5 .segments-of5 .ensures) (e6 .segments-of6 .ensures) in
-    rw (← e1 .before .before .discards4 .ensures, e1 .before .if1 .left, every-one (count (a .spacing)) (least (a .spacing)) (a .outer0 ∷ a .outer1 ∷ a .outer2 ∷ a .outer3 ∷ a .inner0 ∷ a .inner1 ∷ []) (sum ∙ c .if2 .taken))
+    rw (← e1 .before .before .discards4 .ensures, e1 .before .if1 .left, every-one (count (a .spacing) (a .top)) (least (a .spacing) (a .top) (e1 .before .before .before .pre)) (a .outer0 ∷ a .outer1 ∷ a .outer2 ∷ a .outer3 ∷ a .inner0 ∷ a .inner1 ∷ []) (sum ∙ c .if2 .taken))
 
 as-inner-requires : tie.Need-as-inner-requires
 as-inner-requires c κs = search needs
@@ -93,7 +93,7 @@ returns-3 c =
     rw (
       ← e1 .before .before .discards4 .ensures,
       e1 .before .if1 .left,
-      not-every-one (count (a .spacing)) (least (a .spacing)) (a .outer0 ∷ a .outer1 ∷ a .outer2 ∷ a .outer3 ∷ a .inner0 ∷ a .inner1 ∷ []) (λ e. c .before .before .if2 .left (sym sum ∙ e)),
+      not-every-one (count (a .spacing) (a .top)) (least (a .spacing) (a .top) (e1 .before .before .before .pre)) (a .outer0 ∷ a .outer1 ∷ a .outer2 ∷ a .outer3 ∷ a .inner0 ∷ a .inner1 ∷ []) (λ e. c .before .before .if2 .left (sym sum ∙ e)),
       ← e1 .segments-of .ensures .all,
       ← e2 .segments-of2 .ensures .all,
       ← e3 .segments-of3 .ensures .all,
@@ -116,11 +116,11 @@ quad-spec =
     segments-of-requires-4
     segments-of-requires-5
     segments-of-requires-6
+    add-outline
+    add-outline-2
+    add-outline-3
     add-if2
     add-if2-2
-    add-if2-3
-    add-if2-4
-    add-if2-5
     returns-2
     as-inner-requires
     as-inner-requires-2

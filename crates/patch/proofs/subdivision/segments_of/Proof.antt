@@ -11,7 +11,7 @@ segments-of-requires c κs = search needs
 returns : tie.Need-returns
 returns c =
     let a = c .before .before .args in
-    rw (c .before .segments-of .ensures .0) (record { all = refl; is = refl; few = segments-valid (a .spacing) (a .level) .few })
+    rw (c .before .segments-of .ensures .0) (record { all = refl; is = refl; few = segments-valid (a .spacing) (a .top) (c .before .before .pre) (a .level) .few })
 
 pub segments-of-spec : {M : Type 1} → statement M
 segments-of-spec = tie.close (tie.spec segments-of-requires returns)

@@ -24,13 +24,13 @@ isolines-requires : tie.Need-isolines-requires
 isolines-requires c κs = search needs
 
 returns : tie.Need-returns
-returns c = c .triangle .ensures ∙ ap (subdivision (c .before .before .before .before .args .spacing)) (sym (c .before .before .patch .given .1))
+returns c = c .triangle .ensures ∙ ap (subdivision (c .before .before .before .before .args .spacing) (c .before .before .before .before .args .top)) (sym (c .before .before .patch .given .1))
 
 returns-2 : tie.Need-returns-2
-returns-2 c = c .quad .ensures ∙ ap (subdivision (c .before .before .before .before .args .spacing)) (sym (c .before .before .patch2 .given .1))
+returns-2 c = c .quad .ensures ∙ ap (subdivision (c .before .before .before .before .args .spacing) (c .before .before .before .before .args .top)) (sym (c .before .before .patch2 .given .1))
 
 returns-3 : tie.Need-returns-3
-returns-3 c = c .isolines .ensures ∙ ap (subdivision (c .before .before .before .before .args .spacing)) (sym (c .before .before .patch3 .given .1))
+returns-3 c = c .isolines .ensures ∙ ap (subdivision (c .before .before .before .before .args .spacing) (c .before .before .before .before .args .top)) (sym (c .before .before .patch3 .given .1))
 
 pub subdivide-spec : {M : Type 1} → statement M
 subdivide-spec =

@@ -1,7 +1,7 @@
 -- Meets its contract. Assumes nothing.
 use borrow.Author.Needs.{needs}
 use native.Mathlib.Omega.{arith}
-use Prim.Native.Nat.{_+_}
+use Prim.Native.Nat.{ℕ, _+_}
 use mathlib.Core.Path.{_≡_, sym, _∙_}
 use mathlib.Core.List.{[], _∷_}
 use lib.Ieee.{Float}
@@ -15,8 +15,8 @@ use Rattle.patch.proofs.subdivision.triangle.Statement.{statement}
 use Rattle.patch.proofs.subdivision.triangle.Tie as tie
 
 -- the counts of the code's sum are those of `total`
-summed : {s : Spacing} {a b c i : Float} {p q r t : Segments} → Counted s a p → Counted s b q → Counted s c r → Counted s i t
-    → total (count s) (a ∷ b ∷ c ∷ i ∷ []) ≡ p .count + q .count + r .count + t .count
+summed : {s : Spacing} {n : ℕ} {a b c i : Float} {p q r t : Segments} → Counted s n a p → Counted s n b q → Counted s n c r → Counted s n i t
+    → total (count s n) (a ∷ b ∷ c ∷ i ∷ []) ≡ p .count + q .count + r .count + t .count
 unfolding total
 summed k1 k2 k3 k4 = omega arith
 
@@ -57,7 +57,7 @@ returns-2 c =
     let e1 = e2 .before in
     let a = e1 .before .before .before .args in
     let sum = summed (e1 .segments-of .ensures) (e2 .segments-of2 .ensures) (e3 .segments-of3 .ensures) (e4 .segments-of4 .ensures) in
-    rw (← e1 .before .before .discards3 .ensures, e1 .before .if1 .left, every-one (count (a .spacing)) (least (a .spacing)) (a .outer0 ∷ a .outer1 ∷ a .outer2 ∷ a .inner0 ∷ []) (sum ∙ c .if2 .taken))
+    rw (← e1 .before .before .discards3 .ensures, e1 .before .if1 .left, every-one (count (a .spacing) (a .top)) (least (a .spacing) (a .top) (e1 .before .before .before .pre)) (a .outer0 ∷ a .outer1 ∷ a .outer2 ∷ a .inner0 ∷ []) (sum ∙ c .if2 .taken))
 
 as-inner-requires : tie.Need-as-inner-requires
 as-inner-requires c κs = search needs
@@ -74,7 +74,7 @@ returns-3 c =
     rw (
       ← e1 .before .before .discards3 .ensures,
       e1 .before .if1 .left,
-      not-every-one (count (a .spacing)) (least (a .spacing)) (a .outer0 ∷ a .outer1 ∷ a .outer2 ∷ a .inner0 ∷ []) (λ e. c .before .if2 .left (sym sum ∙ e)),
+      not-every-one (count (a .spacing) (a .top)) (least (a .spacing) (a .top) (e1 .before .before .before .pre)) (a .outer0 ∷ a .outer1 ∷ a .outer2 ∷ a .inner0 ∷ []) (λ e. c .before .if2 .left (sym sum ∙ e)),
       ← e1 .segments-of .ensures .all,
       ← e2 .segments-of2 .ensures .all,
       ← e3 .segments-of3 .ensures .all,

@@ -36,6 +36,12 @@ enum-told-3 c = search needs
 put-refused-requires-2 : tie.Need-put-refused-requires-2
 put-refused-requires-2 c κs = search needs
 
+enum-told-4 : tie.Need-enum-told-4
+enum-told-4 c = search needs
+
+put-refused-requires-3 : tie.Need-put-refused-requires-3
+put-refused-requires-3 c κs = search needs
+
 same-length : tie.Need-same-length
 same-length c = search needs
 
@@ -68,6 +74,14 @@ returns-4 c =
     let a = c .before .before .before .before .before .before .before .before .before .args in
     wrote-as (answerText (a .width) (a .vertices .now) (a .indices .now)) (c .before .before .before .before .enum-told3 .given .1) (c .before .before .put-refused2 .ensures .0)
 
+same-length-5 : tie.Need-same-length-5
+same-length-5 c = search needs
+
+returns-5 : tie.Need-returns-5
+returns-5 c =
+    let a = c .before .before .before .before .before .before .before .before .before .args in
+    wrote-as (answerText (a .width) (a .vertices .now) (a .indices .now)) (c .before .before .before .before .enum-told4 .given .1) (c .before .before .put-refused3 .ensures .0)
+
 pub put-answer-spec : {M : Type 1} → statement M
 put-answer-spec =
     tie.close
@@ -80,6 +94,8 @@ put-answer-spec =
     put-refused-requires
     enum-told-3
     put-refused-requires-2
+    enum-told-4
+    put-refused-requires-3
     same-length
     returns
     same-length-2
@@ -87,4 +103,6 @@ put-answer-spec =
     same-length-3
     returns-3
     same-length-4
-    returns-4)
+    returns-4
+    same-length-5
+    returns-5)

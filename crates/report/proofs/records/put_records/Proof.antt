@@ -10,17 +10,17 @@ use Rattle.report.proofs.records.put_records.Statement.{statement}
 use Rattle.report.proofs.records.put_records.Tie as tie
 
 abbrev Inv-loop : tie.InvT-loop
-Inv-loop out₀ bytes from vertices₀ indices₀ most written₀ at₀ out vertices indices written at =
-    Answering bytes from out written at × ((most ≡ length out₀ - 286909) × (length out ≡ length out₀) × (length vertices ≡ length vertices₀) × (length indices ≡ length indices₀))
+Inv-loop out₀ bytes version from vertices₀ indices₀ most written₀ at₀ out vertices indices written at =
+    Answering version bytes from out written at × ((most ≡ length out₀ - 286909) × (length out ≡ length out₀) × (length vertices ≡ length vertices₀) × (length indices ≡ length indices₀))
 
 abbrev μ-loop : tie.MeasureT-loop
-μ-loop out₀ bytes from vertices₀ indices₀ most written₀ at₀ out vertices indices written at = length bytes - at
+μ-loop out₀ bytes version from vertices₀ indices₀ most written₀ at₀ out vertices indices written at = length bytes - at
 
 sub-most : tie.Need-sub-most Inv-loop μ-loop
 sub-most c = search needs
 
 loop-holds : tie.Need-loop-holds Inv-loop μ-loop
-loop-holds c = (answering-start _ _ _, search needs)
+loop-holds c = (answering-start _ _ _ _, search needs)
 
 read-record-requires : tie.Need-read-record-requires Inv-loop μ-loop
 read-record-requires c κs = search needs
@@ -33,12 +33,12 @@ next-place-requires c κs = search needs
 
 loop-less : tie.Need-loop-less Inv-loop μ-loop
 loop-less c =
-    omega (arith, answering-next (c .before .before .before .before .before .before .before .before .before .before .before .before .before .before .before .before .before .before .before .args .bytes .now) (c .before .before .before .before .before .before .before .before .before .before .before .before .before .loop-test .taken) (c .before .before .before .before .before .before .before .before .before .before .before .read-record .ensures .is) (c .next-place .ensures))
+    omega (arith, answering-next _ (c .before .before .before .before .before .before .before .before .before .before .before .before .before .before .before .before .before .before .before .args .bytes .now) (c .before .before .before .before .before .before .before .before .before .before .before .before .before .loop-test .taken) (c .before .before .before .before .before .before .before .before .before .before .before .read-record .ensures .is) (c .next-place .ensures))
 
 loop-again : tie.Need-loop-again Inv-loop μ-loop
 loop-again c =
     let l = c .before .before .before .before .before .before .before .before .before .before .before .before .before .before in
-    (answering-step (l .before .before .before .before .before .args .bytes .now) (c .before .before .before .before .before .before .before .before .before .before .before .before .before .loop-test .taken) (c .before .before .before .before .before .before .before .before .before .before .before .read-record .ensures .is) (c .next-place .ensures) (c .before .before .before .before .before .before .before .put-reply .ensures) (l .loop .inv .0), search needs)
+    (answering-step _ (l .before .before .before .before .before .args .bytes .now) (c .before .before .before .before .before .before .before .before .before .before .before .before .before .loop-test .taken) (c .before .before .before .before .before .before .before .before .before .before .before .read-record .ensures .is) (c .next-place .ensures) (c .before .before .before .before .before .before .before .put-reply .ensures) (l .loop .inv .0), search needs)
 
 same-length : tie.Need-same-length Inv-loop μ-loop
 same-length c = search needs

@@ -6,10 +6,10 @@ use Rattle.report.proofs.run.answer_chunks.Statement.{statement}
 use Rattle.report.proofs.run.answer_chunks.Tie as tie
 
 abbrev Inv-loop : tie.InvT-loop
-Inv-loop out₀ vertices₀ indices₀ turns₀ out vertices indices turns = (length out ≡ length out₀) × (length vertices ≡ length vertices₀) × (length indices ≡ length indices₀)
+Inv-loop out₀ version vertices₀ indices₀ turns₀ out vertices indices turns = (length out ≡ length out₀) × (length vertices ≡ length vertices₀) × (length indices ≡ length indices₀)
 
 abbrev μ-loop : tie.MeasureT-loop
-μ-loop out₀ vertices₀ indices₀ turns₀ out vertices indices turns = turns
+μ-loop out₀ version vertices₀ indices₀ turns₀ out vertices indices turns = turns
 
 loop-holds : tie.Need-loop-holds Inv-loop μ-loop
 loop-holds c = search needs

@@ -33,8 +33,8 @@ slice-aggregate-write-all c = front _ _ (wrote-within zero-le (c .before .before
 write-all-requires : tie.Need-write-all-requires
 write-all-requires c κs = search needs
 
-is-read-requires : tie.Need-is-read-requires
-is-read-requires c κs = search needs
+rest-of-requires : tie.Need-rest-of-requires
+rest-of-requires c κs = search needs
 
 same-length : tie.Need-same-length
 same-length c = search needs
@@ -61,7 +61,7 @@ answer-header-spec =
     slice-reshare-prefix-write-all
     slice-aggregate-write-all
     write-all-requires
-    is-read-requires
+    rest-of-requires
     same-length
     returns
     same-length-2

@@ -9,10 +9,10 @@ use Rattle.report.proofs.run.answer_records.Statement.{statement}
 use Rattle.report.proofs.run.answer_records.Tie as tie
 
 abbrev Inv-loop : tie.InvT-loop
-Inv-loop out₀ bytes vertices₀ indices₀ at₀ out vertices indices at = (length out ≡ length out₀) × (length vertices ≡ length vertices₀) × (length indices ≡ length indices₀)
+Inv-loop out₀ bytes version vertices₀ indices₀ at₀ out vertices indices at = (length out ≡ length out₀) × (length vertices ≡ length vertices₀) × (length indices ≡ length indices₀)
 
 abbrev μ-loop : tie.MeasureT-loop
-μ-loop out₀ bytes vertices₀ indices₀ at₀ out vertices indices at = length bytes - at
+μ-loop out₀ bytes version vertices₀ indices₀ at₀ out vertices indices at = length bytes - at
 
 loop-holds : tie.Need-loop-holds Inv-loop μ-loop
 loop-holds c = search needs

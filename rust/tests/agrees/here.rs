@@ -1,6 +1,7 @@
 //! The second program's values as this crate has them.
 
 use reference::job::{Record, Refusal};
+use reference::patch::is_top;
 use yoktvarim::raw::Measured;
 use yoktvarim::{Answer, Clamp, Clamps, DomainOrigin, Patch, Settings, Size, Spacing, VertexOrder};
 
@@ -28,6 +29,7 @@ pub fn settings_here(settings: &reference::Settings) -> Settings {
             reference::DomainOrigin::LowerLeft => DomainOrigin::LowerLeft,
         },
         point_mode: settings.point_mode,
+        top: u8::try_from(settings.top).expect("a top of one byte"),
     }
 }
 
@@ -40,6 +42,7 @@ pub fn answer_here(drawing: reference::Drawing) -> Answer {
         reference::Drawing::Discarded => Answer::Discarded,
         reference::Drawing::NoRoomForVertices => Answer::NoRoomForVertices,
         reference::Drawing::NoRoomForIndices => Answer::NoRoomForIndices,
+        reference::Drawing::BadTop => Answer::BadTop,
     }
 }
 
@@ -69,6 +72,7 @@ fn clamps_here(clamps: reference::Clamps) -> Clamps {
 
 pub fn size_here(measure: reference::Measure) -> Size {
     match measure {
+        reference::Measure::BadTop => Size::BadTop,
         reference::Measure::Discarded => Size::Discarded,
         reference::Measure::Counts {
             points,
@@ -115,14 +119,18 @@ fn nothing_told(number: u32, counts: [u32; 2]) -> Measured {
     }
 }
 
-/// What measuring a record comes to by its number.
+/// What measuring a record comes to by its number. A bad top goes before unknown settings here, and after them in a file.
 pub fn measured_here(record: &Record) -> Measured {
+    if !is_top(u32::from(record.top)) {
+        return nothing_told(11, [0, 0]);
+    }
     let (patch, settings) = match record.decode() {
         Ok(known) => known,
         Err(Refusal::UnknownSetting { place }) => return nothing_told(8, [place as u32, 0]),
         Err(other) => panic!("{other:?}"),
     };
     match reference::measure(&patch, &settings) {
+        reference::Measure::BadTop => panic!("the top of {record:?} is a good one"),
         reference::Measure::Discarded => nothing_told(1, [0, 0]),
         reference::Measure::Counts {
             points,

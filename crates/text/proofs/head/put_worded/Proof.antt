@@ -4,11 +4,8 @@ use native.Mathlib.Omega.{arith}
 use mathlib.Core.List.{[], _∷_}
 use Rattle.buffer.proofs.Laws.{wrote-then}
 use Rattle.text.proofs.Lines.{none, more, line-length}
-use Rattle.text.proofs.head.put_refused.Statement.{statement}
-use Rattle.text.proofs.head.put_refused.Tie as tie
-
-slice-aggregate-put-bytes : tie.Need-slice-aggregate-put-bytes
-slice-aggregate-put-bytes c = search needs
+use Rattle.text.proofs.head.put_worded.Statement.{statement}
+use Rattle.text.proofs.head.put_worded.Tie as tie
 
 put-bytes-requires : tie.Need-put-bytes-requires
 put-bytes-requires c κs = search needs
@@ -27,5 +24,5 @@ returns c =
     let a = p .before .before .before .before .args in
     (wrote-then (omega arith) (p .put-bytes .ensures) (c .before .before .put-line1 .ensures), omega (arith, line-length 9 (a .n ∷ []) (more (omega arith) none)))
 
-pub put-refused-spec : {M : Type 1} → statement M
-put-refused-spec = tie.close (tie.spec slice-aggregate-put-bytes put-bytes-requires put-line1-requires same-length returns)
+pub put-worded-spec : {M : Type 1} → statement M
+put-worded-spec = tie.close (tie.spec put-bytes-requires put-line1-requires same-length returns)

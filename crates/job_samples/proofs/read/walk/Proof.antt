@@ -1,4 +1,4 @@
--- `job_samples::records::walk` ends: each record that is read or passed over brings the cursor nearer to the end.
+-- `job_samples::read::walk` ends: each record that is read or passed over brings the cursor nearer to the end.
 -- Assumes nothing.
 use borrow.Author.Needs.{needs}
 use Prim.Native.Nat.{_-_}
@@ -7,14 +7,14 @@ use mathlib.Core.Path.{sym, ap, _∙_}
 use lib.ListN.{length}
 use Rattle.job.specs.declared.cursor.Cursor.{Cursor}
 use Rattle.job.proofs.Records.{record-exactly}
-use Rattle.job_samples.proofs.records.walk.Statement.{statement}
-use Rattle.job_samples.proofs.records.walk.Tie as tie
+use Rattle.job_samples.proofs.read.walk.Statement.{statement}
+use Rattle.job_samples.proofs.read.walk.Tie as tie
 
 abbrev Inv-loop : tie.InvT-loop
-Inv-loop bytes from at₀ t7 at = Unit
+Inv-loop bytes version from at₀ t7 at = Unit
 
 abbrev μ-loop : tie.MeasureT-loop
-μ-loop bytes from at₀ t7 at = length bytes - at
+μ-loop bytes version from at₀ t7 at = length bytes - at
 
 loop-holds : tie.Need-loop-holds Inv-loop μ-loop
 loop-holds c = search needs
@@ -40,7 +40,7 @@ enum-known-answer c = search needs
 loop-less : tie.Need-loop-less Inv-loop μ-loop
 loop-less c =
     let told = c .before .before .before .before .before .before .before .read-record .ensures .is in
-    let h = record-exactly _ _ _ .0 (sym told ∙ c .before .answer .given .1) in
+    let h = record-exactly _ _ _ _ .0 (sym told ∙ c .before .answer .given .1) in
     omega (arith, h .0, ap (λ (x : Cursor). x .at) (h .3))
 
 loop-again : tie.Need-loop-again Inv-loop μ-loop
@@ -52,7 +52,7 @@ enum-known-answer-2 c = search needs
 loop-less-2 : tie.Need-loop-less-2 Inv-loop μ-loop
 loop-less-2 c =
     let told = c .before .before .before .before .before .before .before .read-record .ensures .is in
-    let h = record-exactly _ _ _ .0 (sym told ∙ c .before .answer2 .given .1) in
+    let h = record-exactly _ _ _ _ .0 (sym told ∙ c .before .answer2 .given .1) in
     omega (arith, h .0, ap (λ (x : Cursor). x .at) (h .2))
 
 loop-again-2 : tie.Need-loop-again-2 Inv-loop μ-loop

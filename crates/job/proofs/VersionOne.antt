@@ -1,0 +1,36 @@
+-- Version 1 is read as before there was a version 2. Assumes nothing.
+use Prim.Native.Nat.{ℕ, _+_, _-_, _≤_}
+use mathlib.Core.Path.{_≡_, refl}
+use mathlib.Core.Bool.{cond}
+use mathlib.Core.List.{List}
+use mathlib.Core.Logic.{_↔_}
+use lib.Dec.{leb, ltb}
+use lib.ListN.{length, take}
+use Rattle.job.specs.declared.version.Version.the-variants.{One}
+use Rattle.job.specs.declared.cursor.Cursor.{Cursor}
+use Rattle.job.specs.declared.header.Header.the-variants as header
+use Rattle.job.specs.declared.next.NextRecord.the-variants.{Read, End, CutRecord, UnknownSetting}
+use Rattle.job.specs.Bytes.{byteAt, word}
+use Rattle.job.specs.Header.{mark, headerOf}
+use Rattle.job.specs.Settings.{firstUnknown, kindOf, settingsAt}
+use Rattle.job.specs.Tops.{unknownPlace}
+use Rattle.job.specs.Levels.{bitsAt, levelsOf}
+use Rattle.job.specs.Records.{recordOf, recordAt}
+use Rattle.job.proofs.Headers.{header-exactly}
+
+-- its header
+pub header-one : (bs : List ℕ) (next : Cursor)
+    → headerOf bs ≡ header.Read One next ↔ (5 ≤ length bs) × (take 3 bs ≡ mark) × (word 2 bs 3 ≡ 1) × (next ≡ record { at = 5 })
+header-one bs next = header-exactly bs (header.Read One next)
+
+-- its records: 29 bytes, five limits, and the top level 64
+pub version-one : (bs : List ℕ) (at : ℕ)
+    → recordAt One bs at
+    ≡ cond (leb (length bs) at) End
+    (cond (ltb (length bs - at) 29) CutRecord
+    (cond (ltb (firstUnknown bs at) 5) (UnknownSetting (firstUnknown bs at) (record { at = at + 29 }))
+    (Read
+    (record { kind = kindOf (byteAt bs at); settings = settingsAt bs at 64; levels = levelsOf (bitsAt bs (at + 5)); bits = bitsAt bs (at + 5) })
+    (record { at = at + 29 }))))
+unfolding unknownPlace recordOf recordAt
+version-one bs at = refl

@@ -1,0 +1,18 @@
+-- Meets its contract: no record is longer than 30 bytes. Assumes nothing.
+use borrow.Author.Needs.{needs}
+use native.Mathlib.Omega.{arith}
+use Rattle.report.proofs.Sizes.{size-most}
+use Rattle.report.proofs.run.chunk_size.Statement.{statement}
+use Rattle.report.proofs.run.chunk_size.Tie as tie
+
+record-size-requires : tie.Need-record-size-requires
+record-size-requires c κs = search needs
+
+mul-result : tie.Need-mul-result
+mul-result c = omega (arith, size-most (c .before .args .version))
+
+returns : tie.Need-returns
+returns c = (search needs, omega (arith, size-most (c .before .args .version)))
+
+pub chunk-size-spec : {M : Type 1} → statement M
+chunk-size-spec = tie.close (tie.spec record-size-requires mul-result returns)

@@ -1,0 +1,6 @@
+// The program of `tsj`, run on a job of version 2: patches under several tops, and tops that are none.
+fn main() {
+    let mut vertices: [u32; 12675] = [0; 12675];
+    let mut indices: [u16; 24576] = [0; 24576];
+    report::run::run(&mut vertices, &mut indices);
+}

@@ -1,0 +1,85 @@
+//! The functions by their numbers, on setting bytes of every value.
+
+use crate::here::measured_here;
+use crate::marked::Lists;
+use crate::records::{levels, records, setting_bytes};
+use reference::job::{Record, Version, SETTING_COUNTS};
+use yoktvarim::raw::{self, Measured, Numbered};
+
+/// How many words stand behind the longest list that a patch needs.
+const BEHIND: usize = 7;
+
+/// Compares both functions in lists with room for every patch; what measuring told.
+pub fn compare_numbers(record: &Record) -> Measured {
+    let (settings, levels) = (setting_bytes(record), levels(record));
+    let measured = raw::measure(&settings, &levels);
+    assert_eq!(measured, measured_here(record), "{record:?}");
+    let mut lists = Lists::new(
+        yoktvarim::VERTEX_WORDS + BEHIND,
+        yoktvarim::INDEX_WORDS + BEHIND,
+    );
+    let drawn = raw::draw(&settings, &levels, &mut lists.vertices, &mut lists.indices);
+    // With room for everything drawing has the same number and counts.
+    let Numbered { number, counts } = drawn;
+    assert_eq!(
+        (number, counts),
+        (measured.number, measured.counts),
+        "{record:?}"
+    );
+    let (words, written) = match number {
+        0 => (3 * counts[0] as usize, counts[1] as usize),
+        _ => (0, 0),
+    };
+    assert!(lists.are_written(words, written), "{record:?}");
+    measured
+}
+
+/// Each of these numbers is told of more than a hundred random records, and no other of any.
+fn tells_all_of(numbers: &[usize], version: Version) {
+    let mut told = [0; 12];
+    for record in records(9, 6_000, version) {
+        told[compare_numbers(&record).number as usize] += 1;
+    }
+    for (number, times) in told.into_iter().enumerate() {
+        let expected = if numbers.contains(&number) {
+            101..=6_000
+        } else {
+            0..=0
+        };
+        assert!(expected.contains(&times), "{version:?} {told:?}");
+    }
+}
+
+#[test]
+fn random_numbers() {
+    tells_all_of(&[0, 1, 8], Version::One);
+    tells_all_of(&[0, 1, 8, 11], Version::Two);
+}
+
+#[test]
+fn each_setting_at_each_value() {
+    let known = records(10, 1, Version::One)[0];
+    for (place, count) in SETTING_COUNTS.into_iter().enumerate() {
+        for value in 0..=255 {
+            let mut record = known;
+            record.settings = [0; 5];
+            record.settings[place] = value;
+            let unknown = compare_numbers(&record).number == 8;
+            assert_eq!(unknown, value >= count, "{record:?}");
+        }
+    }
+}
+
+#[test]
+fn later_unknown_settings_have_no_say() {
+    for first in 0..5 {
+        let mut settings = [0, 0, 0, 0, 0, 64];
+        settings[first..5].fill(255);
+        let refused = Measured {
+            number: 8,
+            counts: [first as u32, 0],
+            clamps: [0; 6],
+        };
+        assert_eq!(raw::measure(&settings, &[1.0; 6]), refused);
+    }
+}
