@@ -7,10 +7,10 @@
  *     yoktvarim_settings settings = { YOKTVARIM_TRIANGLES, YOKTVARIM_EQUAL, YOKTVARIM_COUNTER_CLOCKWISE,
  *                                     YOKTVARIM_LOWER_LEFT, YOKTVARIM_PRIMITIVES, YOKTVARIM_GREATEST_TOP };
  *     yoktvarim_levels levels = { { 1, 1, 1 }, { 2 } };
- *     uint32_t counts[2];
- *     if (yoktvarim_is_drawn(yoktvarim_draw(&settings, &levels, vertices, YOKTVARIM_VERTEX_WORDS,
- *                                           indices, YOKTVARIM_INDEX_WORDS, counts)))
- *         use(vertices, counts[0], indices, counts[1]);
+ *     uint32_t points, corners;
+ *     if (yoktvarim_is_drawn(yoktvarim_draw_points(&settings, &levels, vertices, YOKTVARIM_VERTEX_WORDS, &points)) &&
+ *         yoktvarim_is_drawn(yoktvarim_draw_indices(&settings, &levels, indices, YOKTVARIM_INDEX_WORDS, &corners)))
+ *         use(vertices, points, indices, corners);
  */
 #ifndef YOKTVARIM_H
 #define YOKTVARIM_H
@@ -33,13 +33,13 @@ extern "C" {
 
 /* What a call answers. No other number is ever given. 0 is the one yes: ask yoktvarim_is_drawn, not `if (answer)`. */
 typedef enum yoktvarim_answer {
-    YOKTVARIM_DRAWN = 0,                /* counts[0] points and counts[1] indices were written */
-    YOKTVARIM_MEASURED = 0,             /* what yoktvarim_measure's 0 means: that many would be written */
+    YOKTVARIM_DRAWN = 0,                /* *count points, or *count indices, were written */
+    YOKTVARIM_MEASURED = 0,             /* what yoktvarim_measure's 0 means: so many would be written */
     YOKTVARIM_DISCARDED = 1,            /* an outer level that counts is NaN or not above 0 */
     /* 2 meant more points than an index can number, which no patch has; it is not used again */
     YOKTVARIM_NO_ROOM_FOR_VERTICES = 3, /* the vertex list has under 3 words a point */
     YOKTVARIM_NO_ROOM_FOR_INDICES = 4,  /* the index list is too short */
-    YOKTVARIM_UNKNOWN_SETTING = 8,      /* counts[0] is the place, 0 to 4, of the first setting that is out of range */
+    YOKTVARIM_UNKNOWN_SETTING = 8,      /* the count is the place, 0 to 4, of the first setting that is out of range */
     YOKTVARIM_BAD_TOP = 11              /* the top is not an even number from 2 to 64 */
 } yoktvarim_answer;
 
@@ -124,27 +124,47 @@ enum {
     YOKTVARIM_ONE_IN_QUADS = 65536       /* quads and isolines, whose w is 0 */
 };
 
-/* Both calls take memory of the caller's: no pointer is NULL, not even that of a list of 0 words, each is aligned for its type,
- * and what is written (the two lists, counts and clamps) overlaps nothing else that is passed. Nothing else is asked, whatever
+/* Every call takes memory of the caller's: no pointer is NULL, not even that of a list of 0 words, each is aligned for its type,
+ * and what is written (the list, the counts and the clamps) overlaps nothing else that is passed. Nothing else is asked, whatever
  * the numbers are, and nothing is kept once the call is over.
  *
  * BAD_TOP is told before everything else, UNKNOWN_SETTING next, and of the other answers the lowest number that applies.
  *
- * counts[0] and counts[1] are always written. Beside DRAWN and MEASURED they are the two counts, beside UNKNOWN_SETTING the
- * setting's place and 0, and beside every other answer 0 and 0. */
+ * Counts are always written. Beside UNKNOWN_SETTING the first, or only, one is the setting's place; whatever is not told is 0. */
 
 /* How many points and indices drawing would write, without lists: MEASURED, DISCARDED, UNKNOWN_SETTING or BAD_TOP.
- * Drawing then needs 3 * counts[0] words for vertices and counts[1] for indices.
+ * Beside MEASURED counts[0] is the number of points and counts[1] that of indices; drawing needs 3 * counts[0] words for
+ * vertices and counts[1] for indices.
  * All of clamps is always written: beside MEASURED, BELOW, INSIDE or ABOVE for each level that counts, and NOT_TOLD elsewhere. */
 YOKTVARIM_MUST_USE yoktvarim_answer yoktvarim_measure(const yoktvarim_settings *settings, const yoktvarim_levels *levels,
                                                       uint32_t *counts, yoktvarim_clamps *clamps);
 
-/* Writes the patch: points as three words u, v, w to the front of vertices, which has vertex_words words, and indices that
- * number those points from 0 to the front of indices, which has index_words words. Words past the counts stay as they were.
- * Every answer but DRAWN leaves both lists as they were. */
-YOKTVARIM_MUST_USE yoktvarim_answer yoktvarim_draw(const yoktvarim_settings *settings, const yoktvarim_levels *levels,
-                                                   uint32_t *vertices, size_t vertex_words, uint16_t *indices,
-                                                   size_t index_words, uint32_t *counts);
+/* Drawing is two calls, each with a list of its own. Either writes to the front of its list and leaves the words past that as they
+ * were; every answer but DRAWN leaves the whole list as it was. With lists that have room for every patch both draw or neither.
+ * For both or neither in shorter lists measure first, and test the room in the order of the numbers:
+ *
+ *     yoktvarim_answer answer = yoktvarim_measure(&settings, &levels, counts, &clamps);
+ *     if (answer != YOKTVARIM_MEASURED)
+ *         return answer;
+ *     if (vertex_words < 3 * counts[0])
+ *         return YOKTVARIM_NO_ROOM_FOR_VERTICES;
+ *     if (index_words < counts[1])
+ *         return YOKTVARIM_NO_ROOM_FOR_INDICES;
+ *
+ * Then both calls answer DRAWN. */
+
+/* Writes the points of the patch as three words u, v, w each to vertices, which has vertex_words words; *count is how many points.
+ * DRAWN, DISCARDED, NO_ROOM_FOR_VERTICES, UNKNOWN_SETTING or BAD_TOP. */
+YOKTVARIM_MUST_USE yoktvarim_answer yoktvarim_draw_points(const yoktvarim_settings *settings, const yoktvarim_levels *levels,
+                                                          uint32_t *vertices, size_t vertex_words, uint32_t *count);
+
+/* Writes the indices of the patch, which number its points from 0, to indices, which has index_words words; *count is how many.
+ * DRAWN, DISCARDED, NO_ROOM_FOR_INDICES, UNKNOWN_SETTING or BAD_TOP.
+ * Indices may be kept while points are drawn again: two patches of the same kind, point mode, vertex order and origin, neither
+ * discarded, have equal indices if each level that counts gives as many segments (an inner level's 1 raised as the rules say) and
+ * both are the plain patch, which nothing divides, or neither is. */
+YOKTVARIM_MUST_USE yoktvarim_answer yoktvarim_draw_indices(const yoktvarim_settings *settings, const yoktvarim_levels *levels,
+                                                           uint16_t *indices, size_t index_words, uint32_t *count);
 
 /* 1 for YOKTVARIM_DRAWN, 0 for every other answer. */
 YOKTVARIM_MUST_USE static inline unsigned yoktvarim_is_drawn(yoktvarim_answer answer)

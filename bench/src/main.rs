@@ -1,4 +1,5 @@
-//! Speed of drawing: `bench` prints times as ratios, `bench draw CASE TIMES` draws one case for an instruction counter.
+//! Speed of drawing: `bench` prints times as ratios, `bench draw CASE TIMES` draws one case for an instruction counter. A draw
+//! is both calls, that for points and that for indices.
 
 mod cases;
 mod proved;

@@ -1,16 +1,22 @@
-//! The proved drawing operation, called as C calls it.
+//! The proved drawing operations, called as C calls them.
 
 use crate::cases::Case;
 
 extern "C" {
-    fn yoktvarim_draw(
+    fn yoktvarim_draw_points(
         settings: *const u8,
         levels: *const f32,
         vertices: *mut u32,
         vertices_length: usize,
+        count: *mut u32,
+    ) -> u32;
+
+    fn yoktvarim_draw_indices(
+        settings: *const u8,
+        levels: *const f32,
         indices: *mut u16,
         indices_length: usize,
-        counts: *mut u32,
+        count: *mut u32,
     ) -> u32;
 }
 
@@ -29,20 +35,38 @@ impl Lists {
     }
 }
 
-/// Draws a case and gives the points and indices written.
-pub fn draw(case: &Case, lists: &mut Lists) -> (usize, usize) {
-    let mut counts = [0u32; 2];
+fn draw_points(case: &Case, vertices: &mut [u32]) -> usize {
+    let mut count = 0;
     let answer = unsafe {
-        yoktvarim_draw(
+        yoktvarim_draw_points(
             case.settings.as_ptr(),
             case.levels.as_ptr(),
-            lists.vertices.as_mut_ptr(),
-            lists.vertices.len(),
-            lists.indices.as_mut_ptr(),
-            lists.indices.len(),
-            counts.as_mut_ptr(),
+            vertices.as_mut_ptr(),
+            vertices.len(),
+            &mut count,
         )
     };
-    assert_eq!(answer, 0, "{} is drawn", case.name);
-    (counts[0] as usize, counts[1] as usize)
+    assert_eq!(answer, 0, "the points of {} are drawn", case.name);
+    count as usize
+}
+
+fn draw_indices(case: &Case, indices: &mut [u16]) -> usize {
+    let mut count = 0;
+    let answer = unsafe {
+        yoktvarim_draw_indices(
+            case.settings.as_ptr(),
+            case.levels.as_ptr(),
+            indices.as_mut_ptr(),
+            indices.len(),
+            &mut count,
+        )
+    };
+    assert_eq!(answer, 0, "the indices of {} are drawn", case.name);
+    count as usize
+}
+
+/// Draws a case by both calls and gives the points and indices written.
+pub fn draw(case: &Case, lists: &mut Lists) -> (usize, usize) {
+    let points = draw_points(case, &mut lists.vertices);
+    (points, draw_indices(case, &mut lists.indices))
 }

@@ -1,5 +1,5 @@
-/* Draws one triangle patch and prints it, measures it and one with clamped levels at two tops, then meets each answer that is
- * no drawing. */
+/* Draws one triangle patch and prints it, measures it and one with clamped levels at two tops, meets each answer that is no
+ * drawing, and draws points again over indices that are kept. */
 #include <inttypes.h>
 #include <stdio.h>
 
@@ -8,11 +8,29 @@
 static uint32_t vertices[YOKTVARIM_VERTEX_WORDS];
 static uint16_t indices[YOKTVARIM_INDEX_WORDS];
 
+/* Draws into lists of so many words, into both or neither: the room for both is tested before anything is written. */
+static yoktvarim_answer draw(const yoktvarim_settings *settings, const yoktvarim_levels *levels, size_t vertex_words,
+                             size_t index_words, uint32_t *counts)
+{
+    yoktvarim_clamps clamps;
+    yoktvarim_answer answer = yoktvarim_measure(settings, levels, counts, &clamps);
+    if (answer != YOKTVARIM_MEASURED)
+        return answer;
+    if (vertex_words < 3 * counts[0])
+        return YOKTVARIM_NO_ROOM_FOR_VERTICES;
+    if (index_words < counts[1])
+        return YOKTVARIM_NO_ROOM_FOR_INDICES;
+    answer = yoktvarim_draw_points(settings, levels, vertices, vertex_words, &counts[0]);
+    if (!yoktvarim_is_drawn(answer))
+        return answer;
+    return yoktvarim_draw_indices(settings, levels, indices, index_words, &counts[1]);
+}
+
 /* Draws into lists of so many words, and prints what came of it: a line a point, then a line a triangle. */
 static void show(const yoktvarim_settings *settings, const yoktvarim_levels *levels, size_t vertex_words, size_t index_words)
 {
     uint32_t counts[2];
-    switch (yoktvarim_draw(settings, levels, vertices, vertex_words, indices, index_words, counts)) {
+    switch (draw(settings, levels, vertex_words, index_words, counts)) {
     case YOKTVARIM_DRAWN:
         printf("drawn %" PRIu32 " %" PRIu32 "\n", counts[0], counts[1]);
         for (uint32_t p = 0; p < counts[0]; p++)
@@ -65,6 +83,25 @@ static int show_size(const yoktvarim_settings *settings, const yoktvarim_levels 
     return 1;
 }
 
+/* Draws the indices once, and the points again for each place of a slider that moves the inner level: with odd spacing every level
+ * above 1 and up to 3 gives three segments, so the indices stay what they were. 0 where something was not drawn. */
+static int slide(yoktvarim_settings settings)
+{
+    settings.spacing = YOKTVARIM_FRACTIONAL_ODD;
+    yoktvarim_levels levels = { .outer = { 1, 1, 1 }, .inner = { 1.5f } };
+    uint32_t count;
+    if (!yoktvarim_is_drawn(yoktvarim_draw_indices(&settings, &levels, indices, YOKTVARIM_INDEX_WORDS, &count)))
+        return 0;
+    printf("kept %" PRIu32 "\n", count);
+    for (; levels.inner[0] <= 3; levels.inner[0] += 0.5f) {
+        if (!yoktvarim_is_drawn(yoktvarim_draw_points(&settings, &levels, vertices, YOKTVARIM_VERTEX_WORDS, &count)))
+            return 0;
+        const uint32_t *last = &vertices[3 * (count - 1)];
+        printf("inner %.1f: last point %" PRIu32 " %" PRIu32 " %" PRIu32 "\n", (double)levels.inner[0], last[0], last[1], last[2]);
+    }
+    return 1;
+}
+
 int main(void)
 {
     yoktvarim_settings settings = {
@@ -96,6 +133,9 @@ int main(void)
     yoktvarim_settings up_to_16 = settings;
     up_to_16.top = 16;
     if (!show_size(&up_to_16, &clamped, counts))
+        return 1;
+
+    if (!slide(settings))
         return 1;
 
     levels.outer[1] = 0;

@@ -1,151 +1,87 @@
-//! The operations on one patch: tessellating, measuring, drawing into lists.
+//! Drawing into lent lists. Ask 7 made two operations of it, one for the points
+//! and one for the indices, so that either can be kept while the other changes.
+//!
+//! The answers keep their numbers from the section "What the cutter says" and
+//! from Ask 10. 2 belonged to an answer that Ask 6 took out, and stays unused.
 
-use crate::clamps::Clamps;
-use crate::mesh::{Mesh, Primitives};
-use crate::patch::{is_top, Patch, Settings};
-use crate::{isolines, quads, triangles};
+use crate::patch::{Patch, Settings};
+use crate::tessellate::{tessellate, Answer};
 
-/// What a patch comes to when room plays no part.
-#[derive(Clone, Debug, PartialEq, Eq)]
-pub enum Answer {
-    BadTop,
-    Discarded,
-    Drawn {
-        points: Vec<[u32; 3]>,
-        indices: Vec<u32>,
-    },
-}
-
-/// What measuring answers; a discarded patch has nothing to say of its levels.
+/// What drawing points answers.
 #[derive(Clone, Copy, Debug, PartialEq, Eq)]
-pub enum Measure {
-    BadTop,
-    Discarded,
-    Counts {
-        points: usize,
-        indices: usize,
-        levels: Clamps,
-    },
-}
-
-/// What drawing into two lists answers.
-#[derive(Clone, Copy, Debug, PartialEq, Eq)]
-pub enum Drawing {
-    Drawn { points: usize, indices: usize },
+pub enum PointsAnswer {
+    Drawn { points: usize },
     Discarded,
     NoRoomForVertices,
-    NoRoomForIndices,
     BadTop,
 }
 
-impl Drawing {
-    /// Section "What the cutter says" and Ask 10: the number of each answer. 2
-    /// belonged to an answer that Ask 6 took out, and stays unused.
+impl PointsAnswer {
     pub fn number(&self) -> u32 {
         match self {
-            Drawing::Drawn { .. } => 0,
-            Drawing::Discarded => 1,
-            Drawing::NoRoomForVertices => 3,
-            Drawing::NoRoomForIndices => 4,
-            Drawing::BadTop => 11,
+            PointsAnswer::Drawn { .. } => 0,
+            PointsAnswer::Discarded => 1,
+            PointsAnswer::NoRoomForVertices => 3,
+            PointsAnswer::BadTop => 11,
         }
     }
 }
 
-/// The mesh of a patch that is not discarded, cut up to a top that is one,
-/// before vertex order and point mode are looked at.
-fn build(patch: &Patch, settings: &Settings) -> Mesh {
-    let (spacing, top) = (settings.spacing, settings.top);
-    match *patch {
-        Patch::Triangles { outer, inner } => triangles::build(outer, inner, spacing, top),
-        Patch::Quads { outer, inner } => quads::build(outer, inner, spacing, top),
-        Patch::Isolines { outer } => isolines::build(outer, spacing, top),
+/// What drawing indices answers.
+#[derive(Clone, Copy, Debug, PartialEq, Eq)]
+pub enum IndicesAnswer {
+    Drawn { indices: usize },
+    Discarded,
+    NoRoomForIndices,
+    BadTop,
+}
+
+impl IndicesAnswer {
+    pub fn number(&self) -> u32 {
+        match self {
+            IndicesAnswer::Drawn { .. } => 0,
+            IndicesAnswer::Discarded => 1,
+            IndicesAnswer::NoRoomForIndices => 4,
+            IndicesAnswer::BadTop => 11,
+        }
     }
 }
 
-/// Sections "Strips" and "Isolines and dots": the list of indices. Triangles
-/// swap their second and third corner for the other turn; lines never change;
-/// point mode lists every point once.
-fn indices(mesh: &Mesh, settings: &Settings) -> Vec<u32> {
-    if settings.point_mode {
-        return (0..mesh.points.len() as u32).collect();
-    }
-    match &mesh.primitives {
-        Primitives::Triangles(list) => list
-            .iter()
-            .flat_map(|&[a, b, c]| {
-                if settings.area_is_positive() {
-                    [a, b, c]
-                } else {
-                    [a, c, b]
-                }
-            })
-            .collect(),
-        Primitives::Lines(list) => list.iter().flatten().copied().collect(),
-    }
-}
-
-/// Section "What the cutter says", answers 0 and 1, for lists without end, and
-/// Ask 10's refusal before either.
-pub fn tessellate(patch: &Patch, settings: &Settings) -> Answer {
-    if !is_top(settings.top) {
-        return Answer::BadTop;
-    }
-    if patch.is_discarded() {
-        return Answer::Discarded;
-    }
-    let mesh = build(patch, settings);
-    let indices = indices(&mesh, settings);
-    Answer::Drawn {
-        points: mesh.points,
-        indices,
-    }
-}
-
-/// Section "What the cutter says", on measuring: the counts a drawing would
-/// have, whether or not it could be done, and what the clamp found for each
-/// level (Ask 9).
-pub fn measure(patch: &Patch, settings: &Settings) -> Measure {
-    match tessellate(patch, settings) {
-        Answer::BadTop => Measure::BadTop,
-        Answer::Discarded => Measure::Discarded,
-        Answer::Drawn { points, indices } => Measure::Counts {
-            points: points.len(),
-            indices: indices.len(),
-            levels: Clamps::of(patch, settings),
-        },
-    }
-}
-
-/// Ask 10's 11 where the top is none; else, by section "What the cutter says",
-/// the lowest of the answers 0, 1, 3 and 4 that applies. The lists change only
-/// when the answer is "drawn", and then only as far as the counts go. No patch
-/// has more than 4,225 points, so every index fits in a u16.
-pub fn draw(
-    patch: &Patch,
-    settings: &Settings,
-    vertex_list: &mut [u32],
-    index_list: &mut [u16],
-) -> Drawing {
-    let (points, indices) = match tessellate(patch, settings) {
-        Answer::BadTop => return Drawing::BadTop,
-        Answer::Discarded => return Drawing::Discarded,
-        Answer::Drawn { points, indices } => (points, indices),
+/// Ask 7, the points: 11 where the top is none, else the lowest of 0, 1 and 3
+/// that applies. The list changes only when the answer is "drawn", and then only
+/// in the three words of each point.
+pub fn draw_points(patch: &Patch, settings: &Settings, vertex_list: &mut [u32]) -> PointsAnswer {
+    let points = match tessellate(patch, settings) {
+        Answer::BadTop => return PointsAnswer::BadTop,
+        Answer::Discarded => return PointsAnswer::Discarded,
+        Answer::Drawn { points, .. } => points,
     };
-    if vertex_list.len() < 3 * points.len() {
-        return Drawing::NoRoomForVertices;
-    }
-    if index_list.len() < indices.len() {
-        return Drawing::NoRoomForIndices;
-    }
-    for (place, value) in vertex_list.iter_mut().zip(points.iter().flatten()) {
-        *place = *value;
-    }
-    for (place, value) in index_list.iter_mut().zip(&indices) {
-        *place = *value as u16;
-    }
-    Drawing::Drawn {
+    let Some(words) = vertex_list.get_mut(..3 * points.len()) else {
+        return PointsAnswer::NoRoomForVertices;
+    };
+    words.copy_from_slice(points.as_flattened());
+    PointsAnswer::Drawn {
         points: points.len(),
+    }
+}
+
+/// Ask 7, the indices: 11 where the top is none, else the lowest of 0, 1 and 4
+/// that applies. The list changes only when the answer is "drawn", and then only
+/// as far as the count goes. No patch has more than 4,225 points (Ask 6), so
+/// every index fits in a u16.
+pub fn draw_indices(patch: &Patch, settings: &Settings, index_list: &mut [u16]) -> IndicesAnswer {
+    let indices = match tessellate(patch, settings) {
+        Answer::BadTop => return IndicesAnswer::BadTop,
+        Answer::Discarded => return IndicesAnswer::Discarded,
+        Answer::Drawn { indices, .. } => indices,
+    };
+    let Some(words) = index_list.get_mut(..indices.len()) else {
+        return IndicesAnswer::NoRoomForIndices;
+    };
+    for (place, index) in words.iter_mut().zip(&indices) {
+        *place = *index as u16;
+    }
+    IndicesAnswer::Drawn {
         indices: indices.len(),
     }
 }

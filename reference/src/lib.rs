@@ -21,10 +21,12 @@ pub mod quads;
 pub mod random;
 pub mod strip;
 pub mod table;
+pub mod tessellate;
 pub mod text;
 pub mod triangles;
 
 pub use clamps::Clamps;
-pub use draw::{draw, measure, tessellate, Answer, Drawing, Measure};
+pub use draw::{draw_indices, draw_points, IndicesAnswer, PointsAnswer};
 pub use level::Clamp;
 pub use patch::{DomainOrigin, Patch, Settings, Spacing, VertexOrder};
+pub use tessellate::{measure, tessellate, Answer, Measure};

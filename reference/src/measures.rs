@@ -1,9 +1,9 @@
 //! The text that says what measuring answers for each record of a job file.
 
-use crate::draw::{measure, Measure};
 use crate::job::{read_job, Refusal};
 use crate::level::Clamp;
 use crate::patch::{Patch, Settings};
+use crate::tessellate::{measure, Measure};
 
 /// Ask 9's word for what the clamp found.
 fn word(clamp: Clamp) -> &'static str {

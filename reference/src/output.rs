@@ -2,9 +2,9 @@
 
 use std::io::{self, Write};
 
-use crate::draw::{tessellate, Answer};
 use crate::job::read_job;
 use crate::patch::{Patch, Settings};
+use crate::tessellate::{tessellate, Answer};
 
 /// Section "Job file": the lines for one patch that could be read.
 fn write_patch(patch: &Patch, settings: &Settings, out: &mut impl Write) -> io::Result<()> {

@@ -331,51 +331,71 @@ fn point_mode_keeps_the_points() {
 // ---- drawing into lists -------------------------------------------------
 
 #[test]
-fn drawing_answers_and_lists() {
-    let patch = triangles(1.0, 2.0); // 4 points, 9 indices
-    let draw_with = |patch: &Patch, words: usize, indices: usize| {
-        let mut first = vec![7777u32; words];
-        let mut second = vec![888u16; indices];
-        let answer = draw(patch, &equal(), &mut first, &mut second);
-        (answer, first, second)
+fn drawing_points() {
+    let patch = triangles(1.0, 2.0); // 4 points
+    let draw_with = |patch: &Patch, words: usize| {
+        let mut list = vec![7777; words];
+        let answer = draw_points(patch, &equal(), &mut list);
+        (answer, list)
     };
-    let untouched = |words: usize, indices: usize| (vec![7777u32; words], vec![888u16; indices]);
     let bad = triangles(0.0, 2.0);
     let cases = [
-        (&bad, 0, 0, 1),
-        (&bad, 100, 100, 1),
-        (&patch, 11, 9, 3),
-        (&patch, 11, 8, 3),
-        (&patch, 0, 0, 3),
-        (&patch, 12, 8, 4),
-        (&patch, 100, 0, 4),
+        (&bad, 0, PointsAnswer::Discarded, 1),
+        (&bad, 100, PointsAnswer::Discarded, 1),
+        (&patch, 0, PointsAnswer::NoRoomForVertices, 3),
+        (&patch, 11, PointsAnswer::NoRoomForVertices, 3),
     ];
-    for (patch, words, indices, number) in cases {
-        let (answer, first, second) = draw_with(patch, words, indices);
-        assert_eq!(answer.number(), number);
-        assert_eq!((first, second), untouched(words, indices));
+    for (patch, words, expected, number) in cases {
+        let (answer, list) = draw_with(patch, words);
+        assert_eq!((answer, answer.number()), (expected, number));
+        assert_eq!(list, vec![7777; words]);
     }
-    for (words, indices) in [(12, 9), (13, 9), (20, 30)] {
-        let (answer, first, second) = draw_with(&patch, words, indices);
-        let expected = Drawing::Drawn {
-            points: 4,
-            indices: 9,
-        };
-        assert_eq!(answer, expected);
+    for words in [12, 13, 20] {
+        let (answer, list) = draw_with(&patch, words);
+        assert_eq!(answer, PointsAnswer::Drawn { points: 4 });
         assert_eq!(answer.number(), 0);
-        assert_eq!(first[9..12], [65536, 65536, 65536]);
-        assert_eq!(second[..9], [0, 1, 3, 1, 2, 3, 2, 0, 3]);
-        assert!(first[12..].iter().all(|word| *word == 7777));
-        assert!(second[9..].iter().all(|word| *word == 888));
+        assert_eq!(list[..3], [0, 196_608, 0]);
+        assert_eq!(list[9..12], [65_536; 3]);
+        assert!(list[12..].iter().all(|word| *word == 7777));
+    }
+}
+
+#[test]
+fn drawing_indices() {
+    let patch = triangles(1.0, 2.0); // 9 indices
+    let draw_with = |patch: &Patch, words: usize| {
+        let mut list = vec![888; words];
+        let answer = draw_indices(patch, &equal(), &mut list);
+        (answer, list)
+    };
+    let bad = triangles(0.0, 2.0);
+    let cases = [
+        (&bad, 0, IndicesAnswer::Discarded, 1),
+        (&bad, 100, IndicesAnswer::Discarded, 1),
+        (&patch, 0, IndicesAnswer::NoRoomForIndices, 4),
+        (&patch, 8, IndicesAnswer::NoRoomForIndices, 4),
+    ];
+    for (patch, words, expected, number) in cases {
+        let (answer, list) = draw_with(patch, words);
+        assert_eq!((answer, answer.number()), (expected, number));
+        assert_eq!(list, vec![888; words]);
+    }
+    for words in [9, 10, 30] {
+        let (answer, list) = draw_with(&patch, words);
+        assert_eq!(answer, IndicesAnswer::Drawn { indices: 9 });
+        assert_eq!(answer.number(), 0);
+        assert_eq!(list[..9], [0, 1, 3, 1, 2, 3, 2, 0, 3]);
+        assert!(list[9..].iter().all(|word| *word == 888));
     }
 }
 
 #[test]
 fn the_greatest_patch_fits_the_full_lists() {
-    let mut first = vec![0u32; 12_675];
-    let mut second = vec![0u16; 24_576];
-    let answer = draw(&quads(64.0, [64.0; 2]), &equal(), &mut first, &mut second);
-    assert_eq!(answer.number(), 0);
+    let patch = quads(64.0, [64.0; 2]);
+    let points = draw_points(&patch, &equal(), &mut vec![0; 12_675]);
+    assert_eq!(points, PointsAnswer::Drawn { points: 4_225 });
+    let indices = draw_indices(&patch, &equal(), &mut vec![0; 24_576]);
+    assert_eq!(indices, IndicesAnswer::Drawn { indices: 24_576 });
 }
 
 // ---- job files ----------------------------------------------------------

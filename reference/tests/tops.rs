@@ -33,18 +33,21 @@ fn a_bad_top_comes_before_all_else() {
         for (patch, room) in [(good, 100), (good, 0), (triangles(0.0), 100)] {
             assert_eq!(tessellate(&patch, &settings), Answer::BadTop);
             assert_eq!(measure(&patch, &settings), Measure::BadTop);
-            let mut first = vec![7777; room];
-            let mut second = vec![888; room];
-            let answer = draw(&patch, &settings, &mut first, &mut second);
-            assert_eq!((answer, answer.number()), (Drawing::BadTop, 11));
-            assert_eq!((first, second), (vec![7777; room], vec![888; room]));
+            let mut list = vec![7777; room];
+            let answer = draw_points(&patch, &settings, &mut list);
+            assert_eq!((answer, answer.number()), (PointsAnswer::BadTop, 11));
+            assert_eq!(list, vec![7777; room]);
+            let mut list = vec![888; room];
+            let answer = draw_indices(&patch, &settings, &mut list);
+            assert_eq!((answer, answer.number()), (IndicesAnswer::BadTop, 11));
+            assert_eq!(list, vec![888; room]);
         }
     }
     for top in good_tops() {
         let settings = Settings { top, ..settings };
         assert_eq!(measure(&triangles(0.0), &settings), Measure::Discarded);
-        let answer = draw(&good, &settings, &mut [0; 9], &mut [0; 3]);
-        assert_eq!(answer.number(), 0);
+        assert_eq!(draw_points(&good, &settings, &mut [0; 9]).number(), 0);
+        assert_eq!(draw_indices(&good, &settings, &mut [0; 3]).number(), 0);
     }
 }
 

@@ -13,20 +13,23 @@
 //! # }
 //! ```
 //!
-//! [`draw`] writes into lists of the caller's, [`measure`] says how long they have to be and which
-//! levels were clamped, and [`mesh()`] draws into lists of its own.
+//! [`draw_points`] and [`draw_indices`] each write into a list of the caller's, [`measure()`] says how long the lists have to
+//! be and which levels were clamped, and [`mesh()`] draws both into lists of its own. While a level moves within a number of
+//! segments, the indices stay and only the points need to be drawn again.
 //!
 //! The top of the settings says how finely a patch can be cut at most: an even number from 2 to 64. Any other number is
 //! answered with `BadTop`, before everything else.
 
-mod answer;
 mod clamps;
+mod draw;
+mod measure;
 mod mesh;
 mod patch;
 pub mod raw;
 
-pub use answer::{draw, measure, Answer, Size};
 pub use clamps::{Clamp, Clamps};
+pub use draw::{draw_indices, draw_points, IndicesAnswer, PointsAnswer};
+pub use measure::{measure, Size};
 pub use mesh::{mesh, BadTop, Mesh};
 pub use patch::{DomainOrigin, Patch, Settings, Spacing, VertexOrder, GREATEST_TOP};
 

@@ -1,6 +1,7 @@
 //! Drawing into lists of the right size.
 
-use crate::answer::{draw, measure, Answer, Size};
+use crate::draw::{draw_indices, draw_points, IndicesAnswer, PointsAnswer};
+use crate::measure::{measure, Size};
 use crate::patch::{Patch, Settings};
 use std::error::Error;
 use std::fmt::{self, Display, Formatter};
@@ -52,13 +53,12 @@ fn drawn(patch: &Patch, settings: &Settings, points: u32, indices: u32) -> Mesh 
         points: vec![[0; 3]; points as usize],
         indices: vec![0; indices as usize],
     };
-    match draw(
-        patch,
-        settings,
-        mesh.points.as_flattened_mut(),
-        &mut mesh.indices,
-    ) {
-        Answer::Drawn { .. } => mesh,
+    let answers = (
+        draw_points(patch, settings, mesh.points.as_flattened_mut()),
+        draw_indices(patch, settings, &mut mesh.indices),
+    );
+    match answers {
+        (PointsAnswer::Drawn { .. }, IndicesAnswer::Drawn { .. }) => mesh,
         other => unreachable!("a measured patch is drawn where it has room: {other:?}"),
     }
 }

@@ -8,7 +8,8 @@ use patch::kinds::Patch;
 use patch::settings::DomainOrigin;
 use patch::settings::Settings;
 use patch::settings::VertexOrder;
-use tessellate::answer::Answer;
+use tessellate::answer::IndicesAnswer;
+use tessellate::answer::PointsAnswer;
 use tessellate::answer::Size;
 
 fn main() {
@@ -122,14 +123,14 @@ fn each_room(patch: Patch, v: usize, i: usize)
     draw_into(patch, usual, v + 2, i + 2);
 }
 
-// Draws into the first v and i words of two lists of 32 sevens, and writes both lists whole.
+// Draws points and indices into the first v and i words of two lists of 32 sevens, and writes both lists whole.
 fn draw_into(patch: Patch, settings: Settings, v: usize, i: usize)
     requires { ⌜ (v ≤ 32) × (i ≤ 32) ⌝ }
 {
     let mut vertices = [7u32; 32];
     let mut indices = [7u16; 32];
-    let answer = tessellate::draw::draw(patch, settings, &mut vertices[0..v], &mut indices[0..i]);
-    write_answer(answer);
+    write_points_answer(tessellate::draw::draw_points(patch, settings, &mut vertices[0..v]));
+    write_indices_answer(tessellate::draw::draw_indices(patch, settings, &mut indices[0..i]));
     write_vertices(&vertices);
     write_indices(&indices);
 }
@@ -141,7 +142,8 @@ fn write_size(size: Size) {
             indices,
             clamps,
         } => {
-            write_counts(b"measured ", points, indices);
+            write_count(b"measured points ", points);
+            write_count(b"measured indices ", indices);
             write_clamps(clamps);
         }
         Size::Discarded => write_word(b"measured discarded\n"),
@@ -193,13 +195,21 @@ fn write_clamp(clamp: Clamp) {
     }
 }
 
-fn write_answer(answer: Answer) {
+fn write_points_answer(answer: PointsAnswer) {
     match answer {
-        Answer::Drawn { points, indices } => write_counts(b"drawn ", points, indices),
-        Answer::Discarded => write_word(b"discarded\n"),
-        Answer::NoRoomForVertices => write_word(b"no room for vertices\n"),
-        Answer::NoRoomForIndices => write_word(b"no room for indices\n"),
-        Answer::BadTop => write_word(b"bad top\n"),
+        PointsAnswer::Drawn { points } => write_count(b"points drawn ", points),
+        PointsAnswer::Discarded => write_word(b"points discarded\n"),
+        PointsAnswer::NoRoomForVertices => write_word(b"no room for vertices\n"),
+        PointsAnswer::BadTop => write_word(b"points bad top\n"),
+    }
+}
+
+fn write_indices_answer(answer: IndicesAnswer) {
+    match answer {
+        IndicesAnswer::Drawn { indices } => write_count(b"indices drawn ", indices),
+        IndicesAnswer::Discarded => write_word(b"indices discarded\n"),
+        IndicesAnswer::NoRoomForIndices => write_word(b"no room for indices\n"),
+        IndicesAnswer::BadTop => write_word(b"indices bad top\n"),
     }
 }
 
@@ -207,11 +217,9 @@ fn write_word(word: &[u8]) {
     io::write_all(1, word);
 }
 
-fn write_counts(word: &[u8], points: u32, indices: u32) {
+fn write_count(word: &[u8], count: u32) {
     io::write_all(1, word);
-    io::print_decimal(1, points as u64);
-    io::write_all(1, b" ");
-    io::print_decimal(1, indices as u64);
+    io::print_decimal(1, count as u64);
     io::write_all(1, b"\n");
 }
 

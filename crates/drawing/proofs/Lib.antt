@@ -14,3 +14,4 @@ pub mod Seams
 pub mod Starred
 pub mod Sample
 pub mod GreatestTop
+pub mod Kept

@@ -9,3 +9,4 @@ pub mod Levels
 pub mod Sizes
 pub mod Starred
 pub mod Sample
+pub mod Kept

@@ -1,3 +1,4 @@
 -- The laws of `exports`.
 pub mod Calls
 pub mod Numbers
+pub mod Together

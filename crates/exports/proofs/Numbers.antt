@@ -13,7 +13,8 @@ use Rattle.tessellate.specs.declared.answer.Size.{Size}
 use Rattle.tessellate.specs.declared.answer.Size.the-variants.{Discarded, BadTop}
 use Rattle.tessellate.specs.Answers.{Told, toldSize, pointsOf, indicesOf, verdict, measured}
 use Rattle.exports.specs.Inputs.{topIn, patchIn, settingsIn}
-use Rattle.exports.specs.Calls.{known, drawSays, measureSays, OneOf}
+use Rattle.exports.specs.Replies.{unknownSetting, badTop}
+use Rattle.exports.specs.Calls.{known, pointsSay, indicesSay, measureSays, OneOf}
 
 -- one of two answers
 either : (ns : List ℕ) (b : Bool) (s t : Told) → OneOf ns (s .number) → OneOf ns (t .number) → OneOf ns (cond b s t .number)
@@ -21,21 +22,22 @@ either ns true s t h k = h
 either ns false s t h k = k
 
 module _ (bs : List ℕ) (xs : List Float) where
-  pub draw-number : (v i : ℕ) → OneOf (0 ∷ 1 ∷ 3 ∷ 4 ∷ 8 ∷ 11 ∷ []) (drawSays bs xs v i .number)
+  draw-number : (short need have count : ℕ)
+      → OneOf (0 ∷ 1 ∷ short ∷ 8 ∷ 11 ∷ []) (known bs badTop unknownSetting (verdict (settingsIn bs) (patchIn bs xs) short need have count) .number)
   unfolding known verdict
-  draw-number v i =
-      let set = settingsIn bs in
-      let p = patchIn bs xs in
-      let of = either (0 ∷ 1 ∷ 3 ∷ 4 ∷ 8 ∷ 11 ∷ []) in
-      let eleven = inr (inr (inr (inr (inr (inl refl))))) in
+  draw-number short need have count =
+      let of = either (0 ∷ 1 ∷ short ∷ 8 ∷ 11 ∷ []) in
+      let eleven = inr (inr (inr (inr (inl refl)))) in
       of (isTop (topIn bs)) _ _
-      (of (ltb (firstUnknown bs 0) 5) _ _ (inr (inr (inr (inr (inl refl)))))
-      (of (isTop (set .top)) _ _
-      (of (discards p) _ _ (inr (inl refl))
-      (of (ltb v (3 * pointsOf set p)) _ _ (inr (inr (inl refl)))
-      (of (ltb i (indicesOf set p)) _ _ (inr (inr (inr (inl refl)))) (inl refl))))
-      eleven))
+      (of (ltb (firstUnknown bs 0) 5) _ _ (inr (inr (inr (inl refl))))
+      (of (isTop (topIn bs)) _ _ (of (discards (patchIn bs xs)) _ _ (inr (inl refl)) (of (ltb have need) _ _ (inr (inr (inl refl))) (inl refl))) eleven))
       eleven
+
+  pub points-number : (v : ℕ) → OneOf (0 ∷ 1 ∷ 3 ∷ 8 ∷ 11 ∷ []) (pointsSay bs xs v .number)
+  points-number v = draw-number 3 (3 * pointsOf (settingsIn bs) (patchIn bs xs)) v (pointsOf (settingsIn bs) (patchIn bs xs))
+
+  pub indices-number : (i : ℕ) → OneOf (0 ∷ 1 ∷ 4 ∷ 8 ∷ 11 ∷ []) (indicesSay bs xs i .number)
+  indices-number i = draw-number 4 (indicesOf (settingsIn bs) (patchIn bs xs)) i (indicesOf (settingsIn bs) (patchIn bs xs))
 
   -- the number of a size
   size-number : (t b : Bool) (s : Size) → toldSize s .number ≡ 0 → OneOf (0 ∷ 1 ∷ 8 ∷ 11 ∷ []) (toldSize (cond t (cond b Discarded s) BadTop) .number)

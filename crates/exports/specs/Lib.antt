@@ -1,4 +1,5 @@
 -- The definitions of `exports`.
 pub mod Inputs
 pub mod Clamps
+pub mod Replies
 pub mod Calls

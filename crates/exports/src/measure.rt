@@ -1,5 +1,9 @@
 // Measuring: how many points and indices drawing would write, and which levels were clamped.
 ghost use Rattle.exports.specs.Calls.{MeasureCalled};
+use crate::reply::bad_top;
+use crate::reply::of_size;
+use crate::reply::say_two;
+use crate::reply::unknown_setting;
 
 #[no_mangle]
 pub extern "C" fn yoktvarim_measure(
@@ -13,15 +17,15 @@ pub extern "C" fn yoktvarim_measure(
     let top = crate::input::top_in(settings);
     if !level::is_top(top) {
         crate::clamps::say_nothing(clamps);
-        return crate::answer::say_bad_top(counts);
+        return say_two(bad_top(), counts);
     }
     let place = job::setting::first_unknown(settings, 0);
     if place < 5 {
         crate::clamps::say_nothing(clamps);
-        return crate::answer::say_unknown(place, counts);
+        return say_two(unknown_setting(place), counts);
     }
     let patch = crate::input::patch_in(settings, levels);
     let size = tessellate::measure::measure(patch, job::setting::read_settings(settings, 0, top));
     crate::clamps::say_clamps(size, clamps);
-    crate::answer::say_size(size, counts)
+    say_two(of_size(size), counts)
 }

@@ -1,126 +1,94 @@
--- From what drawing promises to the text of its answer. Assumes nothing.
-use Prim.Native.Nat.{ℕ, _+_, _*_, _/_, _≤_}
-use mathlib.Core.Path.{_≡_, refl, sym, ap, subst}
+-- From what the two drawing operations promise to the text of a record. Assumes nothing.
+use Prim.Native.Nat.{ℕ, zero, suc, _+_, _*_, _/_, _≤_}
+use mathlib.Core.Path.{_≡_, refl, sym, ap, _∙_}
 use mathlib.Core.Bool.{Bool, true, false, cond}
-use mathlib.Core.List.{List, [], _∷_}
+use mathlib.Core.List.{List}
 use native.Mathlib.Nat.{mul-div-le}
 use native.Mathlib.Omega.{arith}
-use borrow.Author.Tests.{ltb-false, le-ltb}
-use lib.Dec.{T, ltb}
+use borrow.Author.Tests.{le-ltb}
+use lib.Dec.{ltb}
 use lib.ListN.{length}
 use Rattle.level.specs.Top.{Top, isTop}
-use Rattle.level.proofs.Top.{top-of}
 use Rattle.patch.specs.declared.kinds.Patch.{Patch}
 use Rattle.patch.specs.declared.settings.Settings.{Settings}
 use Rattle.patch.specs.Subdivide.{discards, subdivision}
-use Rattle.mesh.specs.Words.{vertexWords}
-use Rattle.drawing.specs.Points.{points}
-use Rattle.drawing.specs.Primitives.{indexWords}
 use Rattle.mesh.proofs.Words.{words-length}
-use Rattle.tessellate.specs.declared.answer.Answer.{Answer}
-use Rattle.tessellate.specs.declared.answer.Answer.the-variants.{Drawn, Discarded, NoRoomForVertices, NoRoomForIndices, BadTop}
-use Rattle.tessellate.specs.Answers.{Told, told, refused, drawn, pointsOf, indicesOf, verdict}
-use Rattle.tessellate.specs.Draws.{Drew}
+use Rattle.drawing.specs.Points.{points}
+use Rattle.tessellate.specs.declared.answer.PointsAnswer.{PointsAnswer}
+use Rattle.tessellate.specs.declared.answer.PointsAnswer.the-variants as points
+use Rattle.tessellate.specs.declared.answer.IndicesAnswer.{IndicesAnswer}
+use Rattle.tessellate.specs.declared.answer.IndicesAnswer.the-variants as indices
+use Rattle.tessellate.specs.Answers.{Told, refused, drew, toldPoints, toldIndices, pointsOf, indicesOf, verdict}
+use Rattle.tessellate.specs.Draws.{DrewPoints, DrewIndices, pointWords, connectionWords}
+use Rattle.tessellate.proofs.Together.{drawn-means}
+use Rattle.tessellate.proofs.Tops.{top-as}
 use Rattle.text.specs.Heads.{discardedLine, refusedLine}
 use Rattle.patch_text.specs.Widths.{widthOf}
-use Rattle.patch_text.specs.Room.{FullSize}
-use Rattle.patch_text.specs.Answers.{answerText, Prints, drawnText, textBy, patchText, recordText}
+use Rattle.patch_text.specs.Room.{room, FullSize}
+use Rattle.patch_text.specs.Answers.{Mesh, Placed, listText, drawnText, recordText}
 use Rattle.patch_text.proofs.Rows.{rows-front}
 use Rattle.patch_text.proofs.Sizes.{width-range, points-fit, indices-fit, text-fits}
 
 module _ (set : Settings) (p : Patch) where
-  -- the counts that a drawn patch is answered with, and the room that they found
-  record Counted (v i P I : ℕ) : Type 0 where
-    top : Top (set .top)
-    points : P ≡ pointsOf set p
-    indices : I ≡ indicesOf set p
-    vertex-room : 3 * P ≤ v
-    index-room : I ≤ i
+  -- the text that goes with an answer's number
+  abbrev numbered : ℕ → List ℕ
+  numbered zero = drawnText set p
+  numbered (suc zero) = discardedLine
+  numbered (suc (suc n)) = refusedLine (suc (suc n))
 
-  counted : (v i P I : ℕ) → told (Drawn P I) ≡ verdict set p v i → Counted v i P I
+  -- an operation that has room wherever the top is one tells by its number what is said of the patch
+  said : (short need have count : ℕ) → (Top (set .top) → need ≤ have) → {t : Told} → t ≡ verdict set p short need have count → recordText set p ≡ numbered (t .number)
   unfolding verdict
-  counted v i P I e = go (isTop (set .top)) (discards p) (ltb v (3 * pointsOf set p)) (ltb i (indicesOf set p)) refl refl refl e
+  said short need have count long e = go (isTop (set .top)) (discards p) refl ∙ ap (λ (t : Told). numbered (t .number)) (sym e)
     where
-      not-refused : (n : ℕ) → told (Drawn P I) ≡ refused (n + 1) → Counted v i P I
-      not-refused n h = let z : _≡_ {A = ℕ} 0 (n + 1) = ap (λ (t : Told). t .number) h in absurd (omega arith)
-
-      go : (t a c d : Bool) → isTop (set .top) ≡ t → ltb v (3 * pointsOf set p) ≡ c → ltb i (indicesOf set p) ≡ d
-          → told (Drawn P I) ≡ cond t (cond a (refused 1) (cond c (refused 3) (cond d (refused 4) (drawn set p)))) (refused 11) → Counted v i P I
-      go false a c d ht hv hi h = not-refused 10 h
-      go true true c d ht hv hi h = not-refused 0 h
-      go true false true d ht hv hi h = not-refused 2 h
-      go true false false true ht hv hi h = not-refused 3 h
-      go true false false false ht hv hi h =
-          let values : _≡_ {A = List ℕ} (P ∷ I ∷ []) (pointsOf set p ∷ indicesOf set p ∷ []) = ap (λ (t : Told). t .values) h in
-          let eP : P ≡ pointsOf set p = cc in
-          let eI : I ≡ indicesOf set p = cc in
-          record {
-            top = top-of (set .top) (subst T (sym ht) tt);
-            points = eP;
-            indices = eI;
-            vertex-room = omega (arith, ltb-false v (3 * pointsOf set p) hv);
-            index-room = omega (arith, ltb-false i (indicesOf set p) hi);
-          }
-
-  -- the text goes by the number
-  said : (v i : ℕ) {t : Told} → t ≡ verdict set p v i → textBy set p (t .number) ≡ patchText set p v i
-  said v i e = ap (λ (t : Told). textBy set p (t .number)) e
-
-  module _ {v i v′ i′ : List ℕ} where
-    -- the text printed from the lists is the text that the definitions give
-    pub drew-text : (r : Answer) → Drew set p v i v′ i′ r → answerText (widthOf (set .«point_mode») p) v′ i′ r ≡ patchText set p (length v) (length i)
-    unfolding drawnText
-    drew-text (Drawn P I) d =
-        let c = subdivision (set .spacing) (set .top) p in
-        let w = widthOf (set .«point_mode») p in
-        let n = counted (length v) (length i) P I (d .answer) in
-        rw (
-          d .vertices,
-          d .indices,
-          n .points,
-          n .indices,
-          rows-front 3 (pointsOf set p) v (vertexWords (points c)) (omega (arith, words-length (points c))),
-          rows-front w (indicesOf set p / w) i (indexWords set c) (mul-div-le (indicesOf set p) w),
-        )
-        (said (length v) (length i) (d .answer))
-    drew-text Discarded d = said (length v) (length i) (d .answer)
-    drew-text NoRoomForVertices d = said (length v) (length i) (d .answer)
-    drew-text NoRoomForIndices d = said (length v) (length i) (d .answer)
-    drew-text BadTop d = said (length v) (length i) (d .answer)
-
-    -- and it can be printed
-    pub drew-prints : (r : Answer) → Drew set p v i v′ i′ r → length v′ ≡ length v → length i′ ≡ length i → Prints (widthOf (set .«point_mode») p) (length v′) (length i′) r
-    drew-prints (Drawn P I) d ev ei =
-        let width = width-range (set .«point_mode») p in
-        let n = counted (length v) (length i) P I (d .answer) in (
-          record {
-            some = width .0;
-            most = width .1;
-            vertices = omega (arith, n .vertex-room);
-            indices = omega (arith, n .index-room);
-          },
-          rw (n .points, n .indices) (text-fits set (n .top) p),
-        )
-    drew-prints Discarded d ev ei = tt
-    drew-prints NoRoomForVertices d ev ei = tt
-    drew-prints NoRoomForIndices d ev ei = tt
-    drew-prints BadTop d ev ei = tt
-
-  -- full-size lists are always long enough
-  pub full-size : {v i : ℕ} → FullSize v i → patchText set p v i ≡ recordText set p
-  unfolding verdict
-  full-size {v} {i} f = go (isTop (set .top)) (discards p) refl
-    where
-      long : Top (set .top) → (ltb v (3 * pointsOf set p) ≡ false) × (ltb i (indicesOf set p) ≡ false)
-      long top = (
-        le-ltb v (3 * pointsOf set p) (omega (arith, points-fit set top p)),
-        le-ltb i (indicesOf set p) (omega (arith, indices-fit set top p)),
-      )
-
       go : (t b : Bool) → isTop (set .top) ≡ t
-          → textBy set p
-          (cond t (cond b (refused 1) (cond (ltb v (3 * pointsOf set p)) (refused 3) (cond (ltb i (indicesOf set p)) (refused 4) (drawn set p)))) (refused 11) .number)
-          ≡ cond t (cond b discardedLine (drawnText set p)) (refusedLine 11)
+          → cond t (cond b discardedLine (drawnText set p)) (refusedLine 11)
+          ≡ numbered (cond t (cond b (refused 1) (cond (ltb have need) (refused short) (drew count))) (refused 11) .number)
       go false b e = refl
       go true true e = refl
-      go true false e = let h = long (top-of (set .top) (subst T (sym e) tt)) in rw (h .0, h .1)
+      go true false e = rw (le-ltb have need (long (top-as (set .top) e)))
+
+  -- what the answers to drawing the points and the indices say
+  pub points-said : {v v′ : List ℕ} {r s : PointsAnswer} {n : ℕ} → DrewPoints set p v v′ r → r ≡ s → FullSize (length v) n → recordText set p ≡ numbered (toldPoints s .number)
+  points-said {v} d e h = said 3 (3 * pointsOf set p) (length v) (pointsOf set p) (λ top. omega (arith, points-fit set top p)) (ap toldPoints (sym e) ∙ d .answer)
+
+  pub indices-said : {i i′ : List ℕ} {r s : IndicesAnswer} {n : ℕ} → DrewIndices set p i i′ r → r ≡ s → FullSize n (length i) → recordText set p ≡ numbered (toldIndices s .number)
+  indices-said {i} d e h = said 4 (indicesOf set p) (length i) (indicesOf set p) (λ top. omega (arith, indices-fit set top p)) (ap toldIndices (sym e) ∙ d .answer)
+
+  -- the points were drawn
+  pub placed : {v v′ : List ℕ} {r : PointsAnswer} {P : ℕ} → DrewPoints set p v v′ r → r ≡ points.Drawn P → Placed set p P v′
+  placed {v} {P = P} d e =
+      let f = drawn-means set p 2 (3 * pointsOf set p) (length v) (pointsOf set p) P (ap toldPoints (sym e) ∙ d .answer) in
+      record {
+        count = f .count;
+        lines =
+            rw (d .list, e, f .count)
+            (rows-front 3 (pointsOf set p) v (pointWords set p) (omega (arith, words-length (points (subdivision (set .spacing) (set .top) p)))));
+      }
+
+  -- a drawn patch in two lists: it can be printed from them in the room for one record, and what is printed is what is said of the patch
+  pub record Printed (P I : ℕ) (v i : List ℕ) : Type 0 where
+    pub mesh : Mesh (widthOf (set .«point_mode») p) (length v) (length i) P I
+    pub fits : 28 + 33 * P + 18 * (I / widthOf (set .«point_mode») p) ≤ room
+    pub is : recordText set p ≡ listText (widthOf (set .«point_mode») p) v i P I
+
+  -- the points were drawn before, and now the indices
+  pub printed : {P I : ℕ} {v i i′ : List ℕ} {r : IndicesAnswer} → Placed set p P v → FullSize (length v) (length i) → DrewIndices set p i i′ r → length i′ ≡ length i → r ≡ indices.Drawn I
+      → Printed P I v i′
+  unfolding drawnText
+  printed {P} {I} {v} {i} m h d ei e =
+      let w = widthOf (set .«point_mode») p in
+      let width = width-range (set .«point_mode») p in
+      let f = drawn-means set p 3 (indicesOf set p) (length i) (indicesOf set p) I (ap toldIndices (sym e) ∙ d .answer) in
+      record {
+        mesh = record {
+          some = width .0;
+          most = width .1;
+          vertices = omega (arith, m .count, points-fit set (f .top) p);
+          indices = omega (arith, f .room, f .count);
+        };
+        fits = rw (m .count, f .count) (text-fits set (f .top) p);
+        is =
+            indices-said d e h
+            ∙ rw (m .lines, d .list, e, m .count, f .count, rows-front w (indicesOf set p / w) i (connectionWords set p) (mul-div-le (indicesOf set p) w));
+      }

@@ -2,39 +2,47 @@
 ghost use Prim.Native.Nat.{_+_, _≤_};
 ghost use lib.ListN.{length};
 ghost use Rattle.buffer.specs.Over.{Wrote};
-ghost use Rattle.patch_text.specs.Answers.{Prints, answerText, patchText};
-ghost use Rattle.patch_text.specs.Room.{room};
+ghost use Rattle.patch_text.specs.Answers.{Placed, recordText};
+ghost use Rattle.patch_text.specs.Room.{room, FullSize};
 use crate::mesh_text::put_mesh;
 use crate::width::width_of;
 use patch::kinds::Patch;
 use patch::settings::Settings;
-use tessellate::answer::Answer;
+use tessellate::answer::IndicesAnswer;
+use tessellate::answer::PointsAnswer;
 
-// What drawing answered; the lists hold what it wrote.
-fn put_answer(
+// The points of a patch stand in their list: draws the indices and says what came of both.
+fn put_indexed(
     out: &mut [u8],
     at: usize,
-    answer: Answer,
+    patch: Patch,
+    settings: Settings,
     vertices: &[u32],
-    indices: &[u16],
-    width: usize,
+    points: u32,
+    indices: &mut [u16],
 ) -> usize
-    requires { ⌜ Prints width (length (now vertices)) (length (now indices)) answer ⌝ ∗ ⌜ at + room ≤ length (now out) ⌝ }
-    ensures { λ r. ⌜ Wrote (now (out .entry)) at (answerText width (now (vertices .entry)) (now (indices .entry)) answer) (now (out .exit)) r ⌝ }
+    requires { ⌜ Placed settings patch points (now vertices) ⌝ ∗ ⌜ FullSize (length (now vertices)) (length (now indices)) ⌝ ∗ ⌜ at + room ≤ length (now out) ⌝ }
+    ensures { λ r. ⌜ Wrote (now (out .entry)) at (recordText settings patch) (now (out .exit)) r ⌝ }
 {
+    let width = width_of(patch, settings.point_mode);
+    let answer = tessellate::draw::draw_indices(patch, settings, indices);
     match answer {
-        Answer::Drawn {
+        IndicesAnswer::Drawn { indices: words } => put_mesh(
+            out,
+            at,
+            vertices,
+            indices,
+            width,
             points,
-            indices: words,
-        } => put_mesh(out, at, vertices, indices, width, points, words),
-        Answer::Discarded => text::put_discarded(out, at),
-        Answer::NoRoomForVertices => text::put_refused(out, at, 3),
-        Answer::NoRoomForIndices => text::put_refused(out, at, 4),
-        Answer::BadTop => text::put_refused(out, at, 11),
+            words,
+        ),
+        IndicesAnswer::Discarded => text::put_discarded(out, at),
+        IndicesAnswer::NoRoomForIndices => text::put_refused(out, at, 4),
+        IndicesAnswer::BadTop => text::put_refused(out, at, 11),
     }
 }
 
-// Draws a patch into the two lists and says what came of it.
+// Draws a patch into two full-size lists and says what came of it.
 pub fn put_patch(
     out: &mut [u8],
     at: usize,
@@ -43,10 +51,22 @@ pub fn put_patch(
     vertices: &mut [u32],
     indices: &mut [u16],
 ) -> usize
-    requires { ⌜ at + room ≤ length (now out) ⌝ }
-    ensures { λ r. ⌜ Wrote (now (out .entry)) at (patchText settings patch (length (now (vertices .entry))) (length (now (indices .entry)))) (now (out .exit)) r ⌝ }
+    requires { ⌜ FullSize (length (now vertices)) (length (now indices)) ⌝ ∗ ⌜ at + room ≤ length (now out) ⌝ }
+    ensures { λ r. ⌜ Wrote (now (out .entry)) at (recordText settings patch) (now (out .exit)) r ⌝ }
 {
-    let width = width_of(patch, settings.point_mode);
-    let answer = tessellate::draw::draw(patch, settings, vertices, indices);
-    put_answer(out, at, answer, vertices, indices, width)
+    let answer = tessellate::draw::draw_points(patch, settings, vertices);
+    match answer {
+        PointsAnswer::Drawn { points } => put_indexed(
+            out,
+            at,
+            patch,
+            settings,
+            vertices,
+            points,
+            indices,
+        ),
+        PointsAnswer::Discarded => text::put_discarded(out, at),
+        PointsAnswer::NoRoomForVertices => text::put_refused(out, at, 3),
+        PointsAnswer::BadTop => text::put_refused(out, at, 11),
+    }
 }

@@ -5,3 +5,4 @@ mod Cuts
 mod Modes
 mod Counted
 mod Draws
+pub mod Together

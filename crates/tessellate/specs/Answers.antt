@@ -12,8 +12,10 @@ use Rattle.patch.specs.Subdivide.{discards, subdivision}
 use Rattle.patch.specs.Clamps.{clampsOf}
 use Rattle.drawing.specs.Points.{points}
 use Rattle.drawing.specs.Primitives.{indexWords}
-use Rattle.tessellate.specs.declared.answer.Answer.{Answer}
-use Rattle.tessellate.specs.declared.answer.Answer.the-variants.{Drawn, Discarded, NoRoomForVertices, NoRoomForIndices, BadTop}
+use Rattle.tessellate.specs.declared.answer.PointsAnswer.{PointsAnswer}
+use Rattle.tessellate.specs.declared.answer.PointsAnswer.the-variants as points
+use Rattle.tessellate.specs.declared.answer.IndicesAnswer.{IndicesAnswer}
+use Rattle.tessellate.specs.declared.answer.IndicesAnswer.the-variants as indices
 use Rattle.tessellate.specs.declared.answer.Size.{Size}
 use Rattle.tessellate.specs.declared.answer.Size.the-variants.{Counts, Discarded as NoCounts, BadTop as NoTop}
 
@@ -22,23 +24,32 @@ pub record Told : Type 0 where
   pub number : ℕ
   pub values : List ℕ
 
--- the table, number by number; 2 once stood for more points than an index can number, and is not used again
-abbrev pub told : Answer → Told
-told (Drawn p i) = record { number = 0; values = p ∷ i ∷ [] }
-told Discarded = record { number = 1; values = [] }
-told NoRoomForVertices = record { number = 3; values = [] }
-told NoRoomForIndices = record { number = 4; values = [] }
-told BadTop = record { number = 11; values = [] }
+-- a number with no values
+abbrev pub refused : ℕ → Told
+refused n = record { number = n; values = [] }
 
--- measuring gives the counts where drawing could, "discarded" or "bad top"
+-- drawn, with the one count of an operation
+abbrev pub drew : ℕ → Told
+drew n = record { number = 0; values = n ∷ [] }
+
+-- the table, number by number; 2 once stood for more points than an index can number, and is not used again
+abbrev pub toldPoints : PointsAnswer → Told
+toldPoints (points.Drawn n) = drew n
+toldPoints points.Discarded = refused 1
+toldPoints points.NoRoomForVertices = refused 3
+toldPoints points.BadTop = refused 11
+
+abbrev pub toldIndices : IndicesAnswer → Told
+toldIndices (indices.Drawn n) = drew n
+toldIndices indices.Discarded = refused 1
+toldIndices indices.NoRoomForIndices = refused 4
+toldIndices indices.BadTop = refused 11
+
+-- measuring gives the counts of both, "discarded" or "bad top"
 abbrev pub toldSize : Size → Told
 toldSize (Counts p i c) = record { number = 0; values = p ∷ i ∷ [] }
 toldSize NoCounts = record { number = 1; values = [] }
 toldSize NoTop = record { number = 11; values = [] }
-
--- a number with no values
-abbrev pub refused : ℕ → Told
-refused n = record { number = n; values = [] }
 
 -- the points and the indices of a patch drawn with these settings
 abbrev pub pointsOf : Settings → Patch → ℕ
@@ -47,18 +58,19 @@ pointsOf set p = length (points (subdivision (set .spacing) (set .top) p))
 abbrev pub indicesOf : Settings → Patch → ℕ
 indicesOf set p = length (indexWords set (subdivision (set .spacing) (set .top) p))
 
-abbrev pub drawn : Settings → Patch → Told
-drawn set p = record { number = 0; values = pointsOf set p ∷ indicesOf set p ∷ [] }
+-- what an operation has to say that writes `count` points or indices into `need` words of a list of `have`: first of all a bad top,
+-- else the lowest number that applies, where `short` is the number for a list that is too short
+unfoldable pub verdict : Settings → Patch → ℕ → ℕ → ℕ → ℕ → Told
+verdict set p short need have count =
+    cond (isTop (set .top)) (cond (discards p) (refused 1) (cond (ltb have need) (refused short) (drew count))) (refused 11)
 
--- what drawing into lists of v and i words has to say: first of all a bad top, else the lowest number that applies
-unfoldable pub verdict : Settings → Patch → ℕ → ℕ → Told
-verdict set p v i =
-    cond (isTop (set .top))
-    (cond (discards p) (refused 1)
-    (cond (ltb v (3 * pointsOf set p)) (refused 3)
-    (cond (ltb i (indicesOf set p)) (refused 4)
-    (drawn set p))))
-    (refused 11)
+-- the points, into a vertex list of v words
+abbrev pub pointsVerdict : Settings → Patch → ℕ → Told
+pointsVerdict set p v = verdict set p 3 (3 * pointsOf set p) v (pointsOf set p)
+
+-- the indices, into an index list of i words
+abbrev pub indicesVerdict : Settings → Patch → ℕ → Told
+indicesVerdict set p i = verdict set p 4 (indicesOf set p) i (indicesOf set p)
 
 -- what measuring has to say: a discarded patch says nothing of its levels
 unfoldable pub measured : Settings → Patch → Size

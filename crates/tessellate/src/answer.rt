@@ -1,11 +1,18 @@
 // What the operations answer, by name.
 use patch::clamps::Clamps;
 
-// Drawn, with the points and indices written; or why nothing was written.
-pub enum Answer {
-    Drawn { points: u32, indices: u32 },
+// So many points stand at the vertex list's front; or why nothing was written.
+pub enum PointsAnswer {
+    Drawn { points: u32 },
     Discarded,
     NoRoomForVertices,
+    BadTop,
+}
+
+// So many indices stand at the index list's front; or why nothing was written.
+pub enum IndicesAnswer {
+    Drawn { indices: u32 },
+    Discarded,
     NoRoomForIndices,
     BadTop,
 }

@@ -1,11 +1,33 @@
-// Drawing: the points and indices of a patch, each at the front of its list, or the name of what stands against it.
-ghost use Rattle.tessellate.specs.Draws.{Drew};
-use crate::answer::Answer;
+// Drawing, in two operations: the points of a patch and its indices, each at the front of its own list, or the name of what
+// stands against it. Neither knows of the other's list.
+ghost use Rattle.tessellate.specs.Draws.{DrewPoints, DrewIndices};
+use crate::answer::IndicesAnswer;
+use crate::answer::PointsAnswer;
 use patch::kinds::Patch;
 use patch::settings::Settings;
 
-pub fn draw(patch: Patch, settings: Settings, vertices: &mut [u32], indices: &mut [u16]) -> Answer
-    ensures { λ r. ⌜ Drew settings patch (now (vertices .entry)) (now (indices .entry)) (now (vertices .exit)) (now (indices .exit)) r ⌝ }
+pub fn draw_points(patch: Patch, settings: Settings, vertices: &mut [u32]) -> PointsAnswer
+    ensures { λ r. ⌜ DrewPoints settings patch (now (vertices .entry)) (now (vertices .exit)) r ⌝ }
+{
+    let spacing = settings.spacing;
+    let top = settings.top;
+    if !level::is_top(top) {
+        return PointsAnswer::BadTop;
+    }
+    let cut = patch::subdivision::subdivide(patch, spacing, top);
+    if patch::subdivision::is_discarded(cut) {
+        return PointsAnswer::Discarded;
+    }
+    let points = crate::count::point_count(cut);
+    if vertices.len() < 3 * (points as usize) {
+        return PointsAnswer::NoRoomForVertices;
+    }
+    crate::place::write_points(vertices, cut);
+    PointsAnswer::Drawn { points }
+}
+
+pub fn draw_indices(patch: Patch, settings: Settings, indices: &mut [u16]) -> IndicesAnswer
+    ensures { λ r. ⌜ DrewIndices settings patch (now (indices .entry)) (now (indices .exit)) r ⌝ }
 {
     let spacing = settings.spacing;
     let top = settings.top;
@@ -13,25 +35,17 @@ pub fn draw(patch: Patch, settings: Settings, vertices: &mut [u32], indices: &mu
     let origin = settings.origin;
     let point_mode = settings.point_mode;
     if !level::is_top(top) {
-        return Answer::BadTop;
+        return IndicesAnswer::BadTop;
     }
     let cut = patch::subdivision::subdivide(patch, spacing, top);
     if patch::subdivision::is_discarded(cut) {
-        return Answer::Discarded;
+        return IndicesAnswer::Discarded;
     }
-    let points = crate::count::point_count(cut);
     let words = crate::count::index_count(cut, point_mode);
-    if vertices.len() < 3 * (points as usize) {
-        return Answer::NoRoomForVertices;
-    }
     if indices.len() < words as usize {
-        return Answer::NoRoomForIndices;
+        return IndicesAnswer::NoRoomForIndices;
     }
-    crate::place::write_points(vertices, cut);
     let positive = patch::settings::turns_positive(order, origin);
     crate::connect::write_indices(indices, cut, point_mode, positive);
-    Answer::Drawn {
-        points,
-        indices: words,
-    }
+    IndicesAnswer::Drawn { indices: words }
 }

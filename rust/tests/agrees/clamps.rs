@@ -1,6 +1,7 @@
 //! What measuring tells of each level, around the ends of each range at each top.
 
 use crate::numbers::compare_numbers;
+use crate::records::COUNTING;
 use reference::job::Record;
 
 /// A level on both sides of every end of a range, and what is no number or endless.
@@ -30,9 +31,8 @@ fn told_around_ends(kind: u8, spacing: u8, top: u8, place: usize) -> [bool; 4] {
 /// Each of 1, 2 and 3 is told of every level that counts, and none of them of the others.
 #[test]
 fn each_level_around_each_end() {
-    let counting = [&[0, 1, 2, 4][..], &[0, 1, 2, 3, 4, 5], &[0, 1]];
     for top in (2..=64).step_by(2) {
-        for (kind, places) in (0..).zip(counting) {
+        for (kind, places) in (0..).zip(COUNTING) {
             for (spacing, place) in
                 (0..3).flat_map(|spacing| (0..6).map(move |place| (spacing, place)))
             {

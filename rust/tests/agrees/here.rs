@@ -3,7 +3,10 @@
 use reference::job::{Record, Refusal};
 use reference::patch::is_top;
 use yoktvarim::raw::Measured;
-use yoktvarim::{Answer, Clamp, Clamps, DomainOrigin, Patch, Settings, Size, Spacing, VertexOrder};
+use yoktvarim::{
+    Clamp, Clamps, DomainOrigin, IndicesAnswer, Patch, PointsAnswer, Settings, Size, Spacing,
+    VertexOrder,
+};
 
 pub fn patch_here(patch: &reference::Patch) -> Patch {
     match *patch {
@@ -33,16 +36,25 @@ pub fn settings_here(settings: &reference::Settings) -> Settings {
     }
 }
 
-pub fn answer_here(drawing: reference::Drawing) -> Answer {
-    match drawing {
-        reference::Drawing::Drawn { points, indices } => Answer::Drawn {
+pub fn points_here(answer: reference::PointsAnswer) -> PointsAnswer {
+    match answer {
+        reference::PointsAnswer::Drawn { points } => PointsAnswer::Drawn {
             points: points as u32,
+        },
+        reference::PointsAnswer::Discarded => PointsAnswer::Discarded,
+        reference::PointsAnswer::NoRoomForVertices => PointsAnswer::NoRoomForVertices,
+        reference::PointsAnswer::BadTop => PointsAnswer::BadTop,
+    }
+}
+
+pub fn indices_here(answer: reference::IndicesAnswer) -> IndicesAnswer {
+    match answer {
+        reference::IndicesAnswer::Drawn { indices } => IndicesAnswer::Drawn {
             indices: indices as u32,
         },
-        reference::Drawing::Discarded => Answer::Discarded,
-        reference::Drawing::NoRoomForVertices => Answer::NoRoomForVertices,
-        reference::Drawing::NoRoomForIndices => Answer::NoRoomForIndices,
-        reference::Drawing::BadTop => Answer::BadTop,
+        reference::IndicesAnswer::Discarded => IndicesAnswer::Discarded,
+        reference::IndicesAnswer::NoRoomForIndices => IndicesAnswer::NoRoomForIndices,
+        reference::IndicesAnswer::BadTop => IndicesAnswer::BadTop,
     }
 }
 

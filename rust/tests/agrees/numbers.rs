@@ -1,7 +1,7 @@
 //! The functions by their numbers, on setting bytes of every value.
 
 use crate::here::measured_here;
-use crate::marked::Lists;
+use crate::marked::{is_untouched, is_written, marked};
 use crate::records::{levels, records, setting_bytes};
 use reference::job::{Record, Version, SETTING_COUNTS};
 use yoktvarim::raw::{self, Measured, Numbered};
@@ -9,28 +9,52 @@ use yoktvarim::raw::{self, Measured, Numbered};
 /// How many words stand behind the longest list that a patch needs.
 const BEHIND: usize = 7;
 
-/// Compares both functions in lists with room for every patch; what measuring told.
+/// Draws points in a list with room for every patch, and a drawn patch in one that is a word short too.
+fn compare_points(settings: &[u8; 6], levels: &[f32; 6], expected: Numbered) {
+    let mut list = marked(yoktvarim::VERTEX_WORDS + BEHIND);
+    assert_eq!(raw::draw_points(settings, levels, &mut list), expected);
+    if expected.number != 0 {
+        assert!(is_untouched(&list), "{settings:?} {levels:?}");
+        return;
+    }
+    let words = 3 * expected.count as usize;
+    assert!(is_written(&list, words), "{settings:?} {levels:?}");
+    let mut short = marked(words - 1);
+    let refused = raw::draw_points(settings, levels, &mut short);
+    assert_eq!((refused.number, refused.count), (3, 0));
+    assert!(is_untouched(&short), "{settings:?} {levels:?}");
+}
+
+/// The same for indices.
+fn compare_indices(settings: &[u8; 6], levels: &[f32; 6], expected: Numbered) {
+    let mut list = marked(yoktvarim::INDEX_WORDS + BEHIND);
+    assert_eq!(raw::draw_indices(settings, levels, &mut list), expected);
+    if expected.number != 0 {
+        assert!(is_untouched(&list), "{settings:?} {levels:?}");
+        return;
+    }
+    let words = expected.count as usize;
+    assert!(is_written(&list, words), "{settings:?} {levels:?}");
+    let mut short = marked(words - 1);
+    let refused = raw::draw_indices(settings, levels, &mut short);
+    assert_eq!((refused.number, refused.count), (4, 0));
+    assert!(is_untouched(&short), "{settings:?} {levels:?}");
+}
+
+/// Compares all three functions; what measuring told.
 pub fn compare_numbers(record: &Record) -> Measured {
     let (settings, levels) = (setting_bytes(record), levels(record));
     let measured = raw::measure(&settings, &levels);
     assert_eq!(measured, measured_here(record), "{record:?}");
-    let mut lists = Lists::new(
-        yoktvarim::VERTEX_WORDS + BEHIND,
-        yoktvarim::INDEX_WORDS + BEHIND,
-    );
-    let drawn = raw::draw(&settings, &levels, &mut lists.vertices, &mut lists.indices);
-    // With room for everything drawing has the same number and counts.
-    let Numbered { number, counts } = drawn;
-    assert_eq!(
-        (number, counts),
-        (measured.number, measured.counts),
-        "{record:?}"
-    );
-    let (words, written) = match number {
-        0 => (3 * counts[0] as usize, counts[1] as usize),
-        _ => (0, 0),
+    // With room for everything drawing has the same number; a place is told by both calls.
+    let Measured { number, counts, .. } = measured;
+    let [points, indices] = match number {
+        0 => counts,
+        _ => [counts[0]; 2],
     };
-    assert!(lists.are_written(words, written), "{record:?}");
+    let told = |count| Numbered { number, count };
+    compare_points(&settings, &levels, told(points));
+    compare_indices(&settings, &levels, told(indices));
     measured
 }
 

@@ -2,6 +2,9 @@
 
 use reference::job::{Record, Version, HEADER_LENGTH};
 
+/// The places of the levels that count, by the number of the kind.
+pub const COUNTING: [&[usize]; 3] = [&[0, 1, 2, 4], &[0, 1, 2, 3, 4, 5], &[0, 1]];
+
 /// Random records of a version, some of them with unknown settings or a bad top.
 pub fn records(seed: u64, count: u64, version: Version) -> Vec<Record> {
     let job = reference::random::job(seed, count, version);

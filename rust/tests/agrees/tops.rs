@@ -1,6 +1,6 @@
 //! Good and bad tops, in both ways to call.
 
-use crate::marked::Lists;
+use crate::marked::{is_untouched, marked};
 use crate::numbers::compare_numbers;
 use crate::patches::compare_record;
 use crate::records::{levels, records, setting_bytes};
@@ -40,15 +40,18 @@ fn tells_bad_top(record: &Record) {
         clamps: [0; 6],
     };
     assert_eq!(raw::measure(&settings, &levels), measured, "{record:?}");
+    let refused = Numbered {
+        number: 11,
+        count: 0,
+    };
     for words in [0, 1, yoktvarim::INDEX_WORDS] {
-        let mut lists = Lists::new(words, words);
-        let drawn = raw::draw(&settings, &levels, &mut lists.vertices, &mut lists.indices);
-        let refused = Numbered {
-            number: 11,
-            counts: [0, 0],
-        };
-        assert_eq!(drawn, refused, "{record:?}");
-        assert!(lists.are_untouched(), "{record:?}");
+        let (mut vertices, mut indices) = (marked(words), marked(words));
+        let points_told = raw::draw_points(&settings, &levels, &mut vertices);
+        assert_eq!(points_told, refused, "{record:?}");
+        let indices_told = raw::draw_indices(&settings, &levels, &mut indices);
+        assert_eq!(indices_told, refused, "{record:?}");
+        assert!(is_untouched(&vertices), "{record:?}");
+        assert!(is_untouched(&indices), "{record:?}");
     }
 }
 

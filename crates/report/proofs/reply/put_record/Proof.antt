@@ -1,11 +1,5 @@
 -- Meets its contract. Assumes nothing.
 use borrow.Author.Needs.{needs}
-use Prim.Native.Nat.{ℕ}
-use mathlib.Core.Path.{sym}
-use mathlib.Core.List.{List}
-use Rattle.job.specs.Patches.{patchOf}
-use Rattle.buffer.proofs.Laws.{wrote-as}
-use Rattle.patch_text.proofs.Drawn.{full-size}
 use Rattle.report.proofs.reply.put_record.Statement.{statement}
 use Rattle.report.proofs.reply.put_record.Tie as tie
 
@@ -28,11 +22,7 @@ same-length-3 : tie.Need-same-length-3
 same-length-3 c = search needs
 
 returns : tie.Need-returns
-returns c =
-    let start = c .before .before .before .before .before .before .before .before .before .before .before .before .before .before .before in
-    let a = start .args in
-    let e = full-size (a .«record» .settings) (patchOf (a .«record»)) (start .pre .0) in
-    wrote-as (λ (l : List ℕ). l) (sym (rw (c .before .before .before .before .before .before .before .before .before .before .settings-of .ensures, c .before .before .before .before .before .before .before .before .before .before .before .patch-of .ensures) e)) (c .before .before .before .before .before .before .put-patch .ensures)
+returns c = rw (c .before .before .before .before .before .before .before .before .before .before .settings-of .ensures, c .before .before .before .before .before .before .before .before .before .before .before .patch-of .ensures) at (c .before .before .before .before .before .before .put-patch .ensures)
 
 pub put-record-spec : {M : Type 1} → statement M
 put-record-spec =

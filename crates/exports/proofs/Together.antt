@@ -1,0 +1,75 @@
+-- Demand 3 of what the two drawing calls leave behind for the same settings and levels, read off the lists by the counts. Assumes nothing.
+use Prim.Native.Nat.{ℕ, _+_, _*_}
+use mathlib.Core.Path.{_≡_, refl, sym, ap, _∙_}
+use mathlib.Core.Bool.{Bool, true, false, cond}
+use mathlib.Core.List.{List, [], _∷_}
+use native.Mathlib.Omega.{arith}
+use lib.Dec.{ltb}
+use lib.Ieee.{Float}
+use lib.ListN.{length, take, getD}
+use Rattle.level.specs.Top.{isTop}
+use Rattle.patch.specs.declared.kinds.Patch.{Patch}
+use Rattle.patch.specs.declared.settings.Settings.{Settings}
+use Rattle.patch.specs.Subdivide.{discards}
+use Rattle.drawing.specs.Words.{readPoints}
+use Rattle.drawing.specs.Demand.{Demand}
+use Rattle.job.specs.Settings.{firstUnknown}
+use Rattle.tessellate.specs.declared.answer.PointsAnswer.the-variants as points
+use Rattle.tessellate.specs.declared.answer.IndicesAnswer.the-variants as indices
+use Rattle.tessellate.specs.Answers.{Told, refused, drew, pointsOf, indicesOf, verdict}
+use Rattle.tessellate.specs.Draws.{Drew}
+use Rattle.tessellate.proofs.Together.{together}
+use Rattle.exports.specs.Inputs.{topIn, patchIn, settingsIn}
+use Rattle.exports.specs.Replies.{unknownSetting, badTop}
+use Rattle.exports.specs.Calls.{known, Called, PointsCalled, IndicesCalled}
+
+-- 0 is said by an operation, and then of what it drew
+known-zero : (bs : List ℕ) (t : Told) → known bs badTop unknownSetting t .number ≡ 0 → known bs badTop unknownSetting t ≡ t
+unfolding known
+known-zero bs t = go (isTop (topIn bs)) (ltb (firstUnknown bs 0) 5)
+  where
+    go : (a b : Bool) → cond a (cond b (unknownSetting (firstUnknown bs 0)) t) badTop .number ≡ 0 → cond a (cond b (unknownSetting (firstUnknown bs 0)) t) badTop ≡ t
+    go false b e = absurd (omega arith)
+    go true true e = absurd (omega arith)
+    go true false e = refl
+
+verdict-zero : (set : Settings) (p : Patch) (short need have count : ℕ)
+    → verdict set p (short + 1) need have count .number ≡ 0 → verdict set p (short + 1) need have count ≡ drew count
+unfolding verdict
+verdict-zero set p short need have count = go (isTop (set .top)) (discards p) (ltb have need)
+  where
+    go : (a b c : Bool) → cond a (cond b (refused 1) (cond c (refused (short + 1)) (drew count))) (refused 11) .number ≡ 0
+        → cond a (cond b (refused 1) (cond c (refused (short + 1)) (drew count))) (refused 11) ≡ drew count
+    go false b c e = absurd (omega arith)
+    go true true c e = absurd (omega arith)
+    go true false true e = absurd (omega arith)
+    go true false false e = refl
+
+-- a call that answered 0 drew, and its count is right
+pub record Drawn (right : Told) (words l l′ c′ : List ℕ) (count : ℕ) : Type 0 where
+  pub drawn : Drew (drew count) right words l l′
+  pub counted : getD c′ 0 0 ≡ count
+
+module _ (bs : List ℕ) (set : Settings) (p : Patch) (short need have count : ℕ) where
+  zero-drew : {words l l′ c′ : List ℕ} → Called (known bs badTop unknownSetting (verdict set p (short + 1) need have count)) words l l′ c′ 0
+      → Drawn (verdict set p (short + 1) need have count) words l l′ c′ count
+  zero-drew {c′ = c′} d =
+      let t = verdict set p (short + 1) need have count in
+      let k = known-zero bs t (sym (d .says .number)) in
+      let z = verdict-zero set p short need have count (ap (λ (x : Told). x .number) (sym k) ∙ sym (d .says .number)) in
+      record {
+        drawn = record { answer = sym z; list = d .list };
+        counted = ap (λ (c : List ℕ). getD c 0 0) (d .says .counts) ∙ ap (λ (x : Told). getD (x .values) 0 0) (k ∙ z);
+      }
+
+module _ (bs : List ℕ) (xs : List Float) where
+  pub called-together : {v v′ i i′ c′ k′ : List ℕ} → PointsCalled bs xs v v′ c′ 0 → IndicesCalled bs xs i i′ k′ 0
+      → Demand (settingsIn bs) (patchIn bs xs) (readPoints (take (3 * getD c′ 0 0) v′)) (take (getD k′ 0 0) i′)
+  called-together {v} {v′} {i} {i′} d d′ =
+      let set = settingsIn bs in
+      let p = patchIn bs xs in
+      let P = pointsOf set p in
+      let I = indicesOf set p in
+      let ps = zero-drew bs set p 2 (3 * P) (length v) P d in
+      let is = zero-drew bs set p 3 I (length i) I d′ in
+      rw (ps .counted, is .counted) (together set p (points.Drawn P) (indices.Drawn I) (ps .drawn) (is .drawn) refl refl)

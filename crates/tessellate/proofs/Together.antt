@@ -1,0 +1,86 @@
+-- What the two drawing operations give for one patch: demand 3 of the two lists together, and the same indices for patches alike.
+-- Assumes nothing.
+use Prim.Native.Nat.{ℕ, _+_, _*_, _≤_}
+use mathlib.Core.Path.{_≡_, refl, sym, ap, _∙_}
+use mathlib.Core.Bool.{Bool, true, false, cond}
+use mathlib.Core.List.{List, [], _∷_}
+use native.Mathlib.Omega.{arith}
+use borrow.Author.Tests.{ltb-false}
+use lib.Dec.{ltb}
+use lib.ListN.{length, take}
+use Rattle.buffer.proofs.Laws.{over-front}
+use Rattle.level.specs.Top.{Top, isTop}
+use Rattle.patch.specs.declared.kinds.Patch.{Patch}
+use Rattle.patch.specs.declared.settings.Settings.{Settings}
+use Rattle.patch.specs.Subdivide.{discards, subdivision}
+use Rattle.mesh.proofs.Words.{words-length}
+use Rattle.drawing.specs.Points.{points}
+use Rattle.drawing.specs.Words.{readPoints}
+use Rattle.drawing.specs.Demand.{Demand}
+use Rattle.drawing.specs.Kept.{Alike}
+use Rattle.drawing.proofs.ReadBack.{read-points}
+use Rattle.drawing.proofs.Demand.{demand}
+use Rattle.drawing.proofs.Kept.{kept-connections}
+use Rattle.tessellate.specs.declared.answer.PointsAnswer.{PointsAnswer}
+use Rattle.tessellate.specs.declared.answer.IndicesAnswer.{IndicesAnswer}
+use Rattle.tessellate.specs.Answers.{Told, refused, drew, toldPoints, toldIndices, pointsOf, indicesOf, verdict}
+use Rattle.tessellate.proofs.Tops.{top-as}
+use Rattle.tessellate.specs.Draws.{Drew, pointWords, connectionWords, DrewPoints, DrewIndices}
+
+-- what "drawn" means: the top is one, the patch is not discarded, there was room, and the count is right
+pub record Fits (set : Settings) (p : Patch) (need have all n : ℕ) : Type 0 where
+  pub top : Top (set .top)
+  pub drawn : discards p ≡ false
+  pub room : need ≤ have
+  pub count : n ≡ all
+
+pub drawn-means : (set : Settings) (p : Patch) (short need have count n : ℕ) → drew n ≡ verdict set p (short + 1) need have count → Fits set p need have count n
+unfolding verdict
+drawn-means set p short need have count n e = go (isTop (set .top)) (discards p) (ltb have need) refl refl refl e
+  where
+    not-refused : (k : ℕ) → drew n ≡ refused (k + 1) → Fits set p need have count n
+    not-refused k h = let z : _≡_ {A = ℕ} 0 (k + 1) = ap (λ (t : Told). t .number) h in absurd (omega arith)
+
+    go : (t a b : Bool) → isTop (set .top) ≡ t → discards p ≡ a → ltb have need ≡ b
+        → drew n ≡ cond t (cond a (refused 1) (cond b (refused (short + 1)) (drew count))) (refused 11) → Fits set p need have count n
+    go false a b e d r h = not-refused 10 h
+    go true true b e d r h = not-refused 0 h
+    go true false true e d r h = not-refused short h
+    go true false false e d r h =
+        let values : _≡_ {A = List ℕ} (n ∷ []) (count ∷ []) = ap (λ (t : Told). t .values) h in
+        record { top = top-as (set .top) e; drawn = d; room = ltb-false have need r; count = cc }
+
+-- the counted words stand at the list's front
+front : {t right : Told} {words xs xs′ : List ℕ} (n k : ℕ) → Drew t right words xs xs′ → t ≡ drew n → k ≡ length words → take k xs′ ≡ words
+front {words = words} {xs = xs} n k d e h = ap (take k) (d .list ∙ rw e) ∙ over-front xs words k h
+
+module _ (set : Settings) (p : Patch) where
+  -- the points that were drawn, read off the list
+  pub points-drawn : (r : PointsAnswer) {v v′ : List ℕ} {P : ℕ} → DrewPoints set p v v′ r → toldPoints r ≡ drew P
+      → Top (set .top) × (discards p ≡ false) × (readPoints (take (3 * P) v′) ≡ points (subdivision (set .spacing) (set .top) p))
+  points-drawn r {v} {P = P} d e =
+      let c = subdivision (set .spacing) (set .top) p in
+      let f = drawn-means set p 2 (3 * pointsOf set p) (length v) (pointsOf set p) P (sym e ∙ d .answer) in
+      (f .top, f .drawn, ap readPoints (front P (3 * P) d e (omega (arith, f .count, words-length (points c)))) ∙ read-points (points c))
+
+  -- the indices that were drawn
+  pub indices-drawn : (r : IndicesAnswer) {i i′ : List ℕ} {I : ℕ} → DrewIndices set p i i′ r → toldIndices r ≡ drew I
+      → Top (set .top) × (discards p ≡ false) × (take I i′ ≡ connectionWords set p)
+  indices-drawn r {i} {I = I} d e =
+      let f = drawn-means set p 3 (indicesOf set p) (length i) (indicesOf set p) I (sym e ∙ d .answer) in
+      (f .top, f .drawn, front I I d e (f .count))
+
+  -- demand 3 of what the two operations give for the same patch and settings
+  pub together : (r : PointsAnswer) (s : IndicesAnswer) {v v′ i i′ : List ℕ} {P I : ℕ} → DrewPoints set p v v′ r → DrewIndices set p i i′ s
+      → toldPoints r ≡ drew P → toldIndices s ≡ drew I → Demand set p (readPoints (take (3 * P) v′)) (take I i′)
+  together r s d d′ e e′ =
+      let ps = points-drawn r d e in
+      rw (ps .2, indices-drawn s d′ e′ .2) (demand set (ps .0) p (ps .1))
+
+-- patches that are alike get equal indices where both are drawn
+pub kept : (set set′ : Settings) (p p′ : Patch) (r r′ : IndicesAnswer) {i₀ i₁ j₀ j₁ : List ℕ} {m n : ℕ} → Alike set set′ p p′
+    → DrewIndices set p i₀ i₁ r → DrewIndices set′ p′ j₀ j₁ r′ → toldIndices r ≡ drew m → toldIndices r′ ≡ drew n → take m i₁ ≡ take n j₁
+kept set set′ p p′ r r′ a d d′ e e′ =
+    let is = indices-drawn set p r d e in
+    let js = indices-drawn set′ p′ r′ d′ e′ in
+    is .2 ∙ kept-connections set set′ (is .0) (js .0) p p′ (is .1) (js .1) a ∙ sym (js .2)
