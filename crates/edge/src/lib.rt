@@ -1,9 +1,12 @@
 // Where the points of an edge lie: the row of positions of an edge's segments.
 mod carry;
+pub mod stored;
 
 ghost use mathlib.Core.Path.{_≡_};
-ghost use Prim.Native.Nat.{_≤_, min};
+ghost use Prim.Native.Nat.{_+_, _≤_, _<_, min};
+ghost use lib.ListN.{length};
 ghost use Rattle.edge.specs.Positions.{entry};
+ghost use Rattle.edge.specs.Rows.{edgeRow, RowAt, Filled};
 ghost use Rattle.edge.specs.Table.{table};
 ghost use Rattle.level.specs.Segments.{Valid};
 use level::Segments;
@@ -15,24 +18,52 @@ fn at_most_half(k: u32) -> u32
     if k < 32768 { k } else { 32768 }
 }
 
-// The positions of an edge's points, and 0 past the last: from the middle outwards, two points a turn. The distance from the
-// middle grows by two half segments, and so does the dividend of its quotient, whatever the number of segments.
-pub fn row(s: Segments) -> [u32; 65]
-    requires { ⌜ Valid (s .count) (s .scaled) ⌝ }
-    ensures { λ r. ⌜ r ≡ table (entry (s .count) (s .scaled)) 65 ⌝ }
+// Fills in the row of an edge's positions from word `from` on: from the middle outwards, two points a turn. The distance from
+// the middle grows by two half segments, and so does the dividend of its quotient, whatever the number of segments.
+pub fn fill_row(rows: &mut [u32], from: usize, s: Segments)
+    requires { ⌜ Valid (s .count) (s .scaled) ⌝ ∗ ⌜ from + s .count < length (now rows) ⌝ }
+    ensures { λ r. ⌜ Filled (now (rows .entry)) from (s .count) (s .scaled) (now (rows .exit)) ⌝ }
 {
     let n = s.count;
     let l = s.scaled;
     let step = carry::divide(4294967296, l);
     let mut reach = carry::divide(2147483648 * ((n % 2) as u64), l);
-    let mut out = [0u32; 65];
     let mut left = n / 2 + 1;
     while 0 < left {
         left -= 1;
         let k = at_most_half(reach.quotient);
-        out[left as usize] = 32768 - k;
-        out[(n - left) as usize] = 32768 + k;
+        rows[from + left as usize] = 32768 - k;
+        rows[from + (n - left) as usize] = 32768 + k;
         reach = carry::sum(reach, step, l);
     }
+}
+
+// The row of an edge, where it stands in `rows` from word `from` on.
+pub fn row_from(rows: &[u32], from: usize, s: Segments) -> &[u32]
+    requires { ⌜ RowAt (now rows) from (s .count) (s .scaled) ⌝ }
+    ensures { λ r. ⌜ now r ≡ edgeRow (s .count) (s .scaled) ⌝ }
+{
+    let n = s.count as usize;
+    &rows[from..from + n + 1]
+}
+
+// The positions of an edge's points, and 0 past the last: by division.
+pub fn divided_row(s: Segments) -> [u32; 65]
+    requires { ⌜ Valid (s .count) (s .scaled) ⌝ }
+    ensures { λ r. ⌜ r ≡ table (entry (s .count) (s .scaled)) 65 ⌝ }
+{
+    let mut out = [0u32; 65];
+    fill_row(&mut out, 0, s);
     out
+}
+
+// The same, from the table where the segments are equal.
+pub fn row(s: Segments) -> [u32; 65]
+    requires { ⌜ Valid (s .count) (s .scaled) ⌝ }
+    ensures { λ r. ⌜ r ≡ table (entry (s .count) (s .scaled)) 65 ⌝ }
+{
+    if s.scaled == 65536 * s.count {
+        return stored::stored_row(s.count);
+    }
+    divided_row(s)
 }

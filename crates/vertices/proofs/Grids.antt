@@ -1,50 +1,73 @@
--- Grids whose places stand in the rows of two edges: isolines, and the inner points of a quad patch.
+-- Grids whose places stand in rows: the inner points of a quad patch, and isolines.
 -- Assumes nothing.
-use Prim.Native.Nat.{ℕ, suc, _+_, _-_, _*_, _≤_}
-use mathlib.Core.Path.{_≡_, refl}
+use Prim.Native.Nat.{ℕ, suc, _+_, _-_, _*_, _≤_, _<_}
+use mathlib.Core.Path.{_≡_, refl, ap, _∙_}
 use mathlib.Core.List.{List, [], _∷_}
-use native.Mathlib.Numerals.{add-one}
 use native.Mathlib.Omega.{arith}
-use lib.ListN.{length}
-use Rattle.level.specs.declared.Segments.{Segments}
-use Rattle.level.specs.Segments.{Valid}
-use Rattle.mesh.specs.declared.Point.{Point}
-use Rattle.mesh.specs.Edge.{ring}
+use lib.ListN.{length, take, drop, length-take, length-drop}
+use lib.Seq.{getD-take, getD-drop}
+use Rattle.mesh.specs.Edge.{Run, ring, along}
 use Rattle.mesh.specs.QuadPoints.{quadPlace, grid, inner, quadPatch}
-use Rattle.mesh.specs.Segmented.{run, isolinePoints}
-use Rattle.mesh.proofs.Grid.{grid-length}
+use Rattle.mesh.specs.Segmented.{isolinePoints}
 use Rattle.mesh.proofs.Shape.{same-point}
-use Rattle.vertices.specs.Grids.{crossing}
+use Rattle.vertices.specs.Rows.{places, whole}
+use Rattle.vertices.specs.Grids.{crossing, gridPoints}
 use Rattle.vertices.proofs.Parts.{Parts}
-use Rattle.vertices.proofs.Rows.{Holds, place-at, grid-same}
+use Rattle.vertices.proofs.Rows.{grid-same, AllSame, none, more, ring-same, along-at, along-same}
+
+-- ---- the parts of rows that a grid takes
+-- a row without its ends
+abbrev pub middle : List ℕ → List ℕ
+middle row = take (length row - 1 - 1) (drop 1 row)
+
+pub middle-length : (row : List ℕ) → length (middle row) ≡ length row - 1 - 1
+middle-length row = length-take (length row - 1 - 1) (drop 1 row) ∙ omega (arith, length-drop 1 row)
+
+pub middle-at : (row : List ℕ) (i : ℕ) → i < length row - 1 - 1 → places (middle row) i ≡ places row (suc i)
+middle-at row i l = getD-take (length row - 1 - 1) (drop 1 row) i 0 l ∙ getD-drop 1 row i 0 ∙ ap (places row) (omega arith)
 
 -- the inner points of a quad patch
-abbrev pub innerPoints : Segments → Segments → List Point
-innerPoints rows columns = grid (inner (run rows) (run columns)) (rows .count - 1) (columns .count - 1)
+pub inner-are : (rows columns : List ℕ)
+    → gridPoints (middle rows) (middle columns) ≡ grid (inner (whole rows) (whole columns)) (length rows - 1 - 1) (length columns - 1 - 1)
+inner-are rows columns =
+    rw (middle-length rows, middle-length columns)
+    (grid-same (crossing (middle rows) (middle columns)) (inner (whole rows) (whole columns)) (length rows - 1 - 1) (length columns - 1 - 1)
+    (λ r c l k. same-point _ _ (middle-at columns c k) (middle-at rows r l) refl))
 
-module _ (m n : Segments) (vm : Valid (m .count) (m .scaled)) (vn : Valid (n .count) (n .scaled)) {rows columns : List ℕ}
-    (hm : Holds rows m) (hn : Holds columns n) where
-  crossing-at : (first r c i j : ℕ) → first + r ≡ i → i ≤ m .count → first + c ≡ j → j ≤ n .count
-      → crossing rows columns first r c ≡ record { u = run n .q j; v = run m .q i; w = 0 }
-  crossing-at first r c i j e l f k = same-point _ _ (place-at n vn hn (first + c) j f k) (place-at m vm hm (first + r) i e l) refl
+-- the outline, and the inner points
+pub quad-parts : (e0 e1 e2 e3 rows columns : List ℕ) {es : List Run} → AllSame es (whole e0 ∷ whole e1 ∷ whole e2 ∷ whole e3 ∷ []) → (xs : List ℕ) (at : ℕ)
+    → at + 3 * length (quadPatch (whole e0) (whole e1) (whole e2) (whole e3) (whole rows) (whole columns)) ≤ length xs
+    → Parts (quadPatch (whole e0) (whole e1) (whole e2) (whole e3) (whole rows) (whole columns)) (ring quadPlace 0 es 0)
+    (gridPoints (middle rows) (middle columns)) xs at
+quad-parts e0 e1 e2 e3 rows columns s xs at room = record { is = rw (ring-same quadPlace 0 0 s, inner-are rows columns); room = room }
 
-  pub isolines-are : grid (crossing rows columns 0) (m .count) (n .count + 1) ≡ isolinePoints (run m) (run n)
-  isolines-are =
-      rw add-one
-      (grid-same (crossing rows columns 0) (λ r c. record { u = run n .q c; v = run m .q r; w = 0 }) (m .count) (suc (n .count))
-      (λ r c l k. crossing-at 0 r c r c (omega arith) (omega arith) (omega arith) (omega arith)))
+-- isolines: all rows but the last
+pub lines-are : (lines columns : List ℕ) (n : ℕ) → n ≡ length lines - 1 → 1 ≤ length columns
+    → gridPoints (take n lines) columns ≡ isolinePoints (whole lines) (whole columns)
+lines-are lines columns n e h =
+    let m : length (take n lines) ≡ n = length-take n lines ∙ omega arith in
+    let w : suc (length columns - 1) ≡ length columns = omega arith in
+    rw (m, ← e, w)
+    (grid-same (crossing (take n lines) columns) (λ r c. record { u = places columns c; v = places lines r; w = 0 }) n (length columns)
+    (λ r c l k. same-point _ _ refl (getD-take n lines r 0 l) refl))
 
-  pub inner-are : grid (crossing rows columns 1) (m .count - 1) (n .count - 1) ≡ innerPoints m n
-  inner-are =
-      grid-same (crossing rows columns 1) (inner (run m) (run n)) (m .count - 1) (n .count - 1)
-      (λ r c l k. crossing-at 1 r c (suc r) (suc c) (omega arith) (omega arith) (omega arith) (omega arith))
+-- ---- rows that are the rows of edges
+pub quad-are : (e0 e1 e2 e3 rows columns : Run) {x0 x1 x2 x3 xs ys : List ℕ} → x0 ≡ along e0 → x1 ≡ along e1 → x2 ≡ along e2 → x3 ≡ along e3
+    → xs ≡ along rows → ys ≡ along columns
+    → quadPatch (whole x0) (whole x1) (whole x2) (whole x3) (whole xs) (whole ys) ≡ quadPatch e0 e1 e2 e3 rows columns
+quad-are e0 e1 e2 e3 rows columns h0 h1 h2 h3 h k =
+    let m = along-same rows .count in
+    let n = along-same columns .count in
+    let outline : ring quadPlace 0 (whole (along e0) ∷ whole (along e1) ∷ whole (along e2) ∷ whole (along e3) ∷ []) 0 ≡ ring quadPlace 0 (e0 ∷ e1 ∷ e2 ∷ e3 ∷ []) 0 =
+    ring-same quadPlace 0 0 (more (along-same e0) (more (along-same e1) (more (along-same e2) (more (along-same e3) none)))) in
+    let inside : grid (inner (whole (along rows)) (whole (along columns))) (rows .c - 1) (columns .c - 1) ≡ grid (inner rows columns) (rows .c - 1) (columns .c - 1) =
+    grid-same (inner (whole (along rows)) (whole (along columns))) (inner rows columns) (rows .c - 1) (columns .c - 1)
+    (λ r c l k. same-point _ _ (along-at columns (suc c) (omega arith)) (along-at rows (suc r) (omega arith)) refl) in
+    rw (h0, h1, h2, h3, h, k, outline, m, n, inside)
 
-pub inner-length : (rows columns : Segments) → length (innerPoints rows columns) ≡ (rows .count - 1) * (columns .count - 1)
-inner-length rows columns = grid-length (inner (run rows) (run columns)) (rows .count - 1) (columns .count - 1)
-
--- the outline, then the inner points
-pub quad-parts : (e0 e1 e2 e3 rows columns : Segments) (xs : List ℕ) (at : ℕ)
-    → at + 3 * length (quadPatch (run e0) (run e1) (run e2) (run e3) (run rows) (run columns)) ≤ length xs
-    → Parts (quadPatch (run e0) (run e1) (run e2) (run e3) (run rows) (run columns)) (ring quadPlace 0 (run e0 ∷ run e1 ∷ run e2 ∷ run e3 ∷ []) 0)
-    (innerPoints rows columns) xs at
-quad-parts e0 e1 e2 e3 rows columns xs at room = record { is = refl; room = room }
+pub isolines-are : (lines columns : Run) {xs ys : List ℕ} → xs ≡ along lines → ys ≡ along columns
+    → isolinePoints (whole xs) (whole ys) ≡ isolinePoints lines columns
+isolines-are lines columns h k =
+    rw (h, k, along-same lines .count, along-same columns .count)
+    (grid-same (λ r c. record { u = places (along columns) c; v = places (along lines) r; w = 0 }) (λ r c. record { u = columns .q c; v = lines .q r; w = 0 })
+    (lines .c) (suc (columns .c)) (λ r c l m. same-point _ _ (along-at columns c (omega arith)) (along-at lines r (omega arith)) refl))

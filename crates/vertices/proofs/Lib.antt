@@ -4,5 +4,6 @@ mod Loops
 mod Parts
 mod Edges
 mod Rows
-mod Rings
 mod Grids
+mod Rings
+mod Laid

@@ -1,7 +1,7 @@
 -- Points in two parts, the second written after the first.
 -- Assumes nothing.
 use Prim.Native.Nat.{ℕ, _+_, _*_, _≤_}
-use mathlib.Core.Path.{_≡_, ap, _∙_}
+use mathlib.Core.Path.{_≡_, ap, _∙_, subst}
 use mathlib.Core.List.{List, _++_}
 use native.Mathlib.Omega.{arith}
 use lib.ListN.{length, length-append}
@@ -33,3 +33,7 @@ module _ {all ps qs : List Point} {xs : List ℕ} {at : ℕ} (p : Parts all ps q
   pub both-parts : {xs₁ xs₂ : List ℕ} {w w′ : ℕ} → Wrote xs at (vertexWords ps) xs₁ w → Wrote xs₁ w (vertexWords qs) xs₂ w′
       → Wrote xs at (vertexWords all) xs₂ w′
   both-parts h k = rw (p .is, words-append ps qs) (wrote-then (omega arith) h k)
+
+-- the same points, by another name
+pub wrote-same : {ps qs : List Point} {xs xs′ : List ℕ} {at w : ℕ} → ps ≡ qs → Wrote xs at (vertexWords ps) xs′ w → Wrote xs at (vertexWords qs) xs′ w
+wrote-same {xs = xs} {xs′ = xs′} {at = at} {w = w} e = subst (λ (ps : List Point). Wrote xs at (vertexWords ps) xs′ w) e

@@ -1,25 +1,22 @@
--- A row of an edge's positions has the edge's places.
+-- Rows of places: what a writer reads in a part of one, and that the row of an edge has the edge's places.
 -- Assumes nothing.
 use Prim.Native.Nat.{ℕ, zero, suc, _-_, _≤_, _<_}
 use mathlib.Core.Path.{_≡_, refl, ap, _∙_}
-use mathlib.Core.List.{List}
+use mathlib.Core.List.{List, [], _∷_}
 use native.Mathlib.Omega.{arith}
+use lib.ListN.{length, take, length-take}
+use lib.Seq.{getD-take}
 use Rattle.level.specs.declared.Segments.{Segments}
 use Rattle.level.specs.Segments.{Valid}
-use Rattle.edge.specs.Positions.{entry}
 use Rattle.edge.specs.Table.{table}
-use Rattle.edge.proofs.Entries.{at-point}
+use Rattle.edge.proofs.Table.{length-table, get-table}
 use Rattle.mesh.specs.declared.Point.{Point}
-use Rattle.mesh.specs.Edge.{Good}
+use Rattle.mesh.specs.Edge.{Run, ring, along}
 use Rattle.mesh.specs.Segmented.{run}
 use Rattle.mesh.specs.QuadPoints.{grid}
+use Rattle.mesh.proofs.Edge.{good-to}
 use Rattle.mesh.proofs.Positions.{good-positions}
-use Rattle.vertices.specs.Rows.{places}
-use Rattle.vertices.specs.Edges.{edgePoints}
-
--- the row that `edge` gives of an edge
-abbrev pub Holds : List ℕ → Segments → Type 0
-Holds row s = row ≡ table (entry (s .count) (s .scaled)) 65
+use Rattle.vertices.specs.Rows.{places, listed, whole, Clear, GoodRow}
 
 -- tables, and grids, that are alike as far as they go
 pub table-same : {A : Type 0} (f g : ℕ → A) (n : ℕ) → ((i : ℕ) → i < n → f i ≡ g i) → table f n ≡ table g n
@@ -36,24 +33,58 @@ grid-same P Q (suc m) n h =
       grid-same (λ r. P (suc r)) (λ r. Q (suc r)) m n (λ r c l k. h (suc r) c (omega arith) k),
     )
 
-module _ (s : Segments) (v : Valid (s .count) (s .scaled)) {row : List ℕ} (h : Holds row s) where
-  pub place-at : (i j : ℕ) → i ≡ j → j ≤ s .count → places row i ≡ run s .q j
-  place-at i j e l = ap (places row) e ∙ ap (λ r. places r j) h ∙ at-point (s .count) (s .scaled) j (omega arith) l
+-- edges of as many segments, with the same points but for the end
+pub record Same (e f : Run) : Type 0 where
+  pub count : e .c ≡ f .c
+  pub at : (i : ℕ) → i < f .c → e .q i ≡ f .q i
 
-  -- the points of an edge
-  pub edge-same : (place : ℕ → ℕ → ℕ → Point) (k d : ℕ) (q : ℕ → ℕ) → ((i : ℕ) → i < s .count → q i ≡ places row i)
-      → edgePoints place k (record { q = q; c = s .count }) d ≡ edgePoints place k (run s) d
-  edge-same place k d q same =
-      table-same (λ i. place k (q i) d) (λ i. place k (run s .q i) d) (s .count)
-      (λ i l. ap (λ x. place k x d) (same i l ∙ place-at i i refl (omega arith)))
+pub data AllSame : List Run → List Run → Type 0 where
+  none : AllSame [] []
+  more : {e f : Run} {es fs : List Run} → Same e f → AllSame es fs → AllSame (e ∷ es) (f ∷ fs)
 
-  pub good-row : Good (places row) (s .count)
-  good-row =
-      let g = good-positions (s .count) (s .scaled) v in
-      let at : (i : ℕ) → i ≤ s .count → places row i ≡ run s .q i = λ i. place-at i i refl in
-      record {
-        first = at 0 (omega arith) ∙ g .first;
-        last = at (s .count) (omega arith) ∙ g .last;
-        rises = λ i l. omega (arith, at i (omega arith), at (suc i) (omega arith), g .rises i l);
-        mirrors = λ i l. omega (arith, at i l, at (s .count - i) (omega arith), g .mirrors i l);
-      }
+pub ring-same : (place : ℕ → ℕ → ℕ → Point) (k d : ℕ) {es fs : List Run} → AllSame es fs → ring place k es d ≡ ring place k fs d
+unfolding ring
+ring-same place k d none = refl
+ring-same place k d (more {e = e} {f = f} s t) =
+    let edge : table (λ i. place k (e .q i) d) (e .c) ≡ table (λ i. place k (f .q i) d) (f .c) =
+    rw (s .count) (table-same (λ i. place k (e .q i) d) (λ i. place k (f .q i) d) (f .c) (λ i l. ap (λ x. place k x d) (s .at i l))) in
+    rw (edge, ring-same place (suc k) d t)
+
+-- a row without its end
+module _ (row : List ℕ) (n : ℕ) (e : n ≡ length row - 1) where
+  pub front-length : length (take n row) ≡ n
+  front-length = length-take n row ∙ omega arith
+
+  pub front-same : Same (listed (take n row)) (whole row)
+  front-same = record { count = front-length ∙ e; at = λ i l. getD-take n row i 0 (omega arith) }
+
+  pub front-clear : GoodRow row → Clear 0 (listed (take n row))
+  front-clear g i l =
+      let m : i < n = omega (arith, front-length) in
+      omega (arith, getD-take n row i 0 m, good-to (g .good) i (omega arith))
+
+-- the row of an edge
+module _ (e : Run) where
+  pub along-length : length (along e) ≡ suc (e .c)
+  along-length = length-table (e .q) (suc (e .c))
+
+  pub along-at : (i : ℕ) → i ≤ e .c → places (along e) i ≡ e .q i
+  along-at i l = get-table (e .q) (suc (e .c)) 0 i (omega arith)
+
+  pub along-same : Same (whole (along e)) e
+  along-same = record { count = omega (arith, along-length); at = λ i l. along-at i (omega arith) }
+
+pub good-row : (s : Segments) → Valid (s .count) (s .scaled) → {row : List ℕ} → row ≡ along (run s) → GoodRow row
+good-row s v h =
+    let e = run s in
+    let g = good-positions (s .count) (s .scaled) v in
+    let n : length (along e) - 1 ≡ e .c = along-same e .count in
+    rw h (record {
+      some = omega (arith, along-length e, v .some);
+      good = rw n (record {
+        first = along-at e 0 (omega arith) ∙ g .first;
+        last = along-at e (e .c) (omega arith) ∙ g .last;
+        rises = λ i l. omega (arith, along-at e i (omega arith), along-at e (suc i) (omega arith), g .rises i l);
+        mirrors = λ i l. omega (arith, along-at e i l, along-at e (e .c - i) (omega arith), g .mirrors i l);
+      });
+    })

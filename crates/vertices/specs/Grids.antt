@@ -1,15 +1,21 @@
--- The points of a grid whose places stand in two rows of numbers.
+-- The points of a grid whose places stand in two lists of numbers.
 -- Assumes nothing.
-use Prim.Native.Nat.{ℕ, _+_}
+use Prim.Native.Nat.{ℕ}
 use mathlib.Core.List.{List}
+use lib.ListN.{length}
 use Rattle.edge.specs.Table.{table}
 use Rattle.mesh.specs.declared.Point.{Point}
+use Rattle.mesh.specs.QuadPoints.{grid}
 use Rattle.vertices.specs.Rows.{places}
 
--- `width` points at the height v, at the places along u that stand in `columns` from entry `first` on
-abbrev pub rowPoints : List ℕ → ℕ → ℕ → ℕ → List Point
-rowPoints columns first v width = table (λ c. record { u = places columns (first + c); v = v; w = 0 }) width
+-- the point of row r and column c
+abbrev pub crossing : List ℕ → List ℕ → ℕ → ℕ → Point
+crossing rows columns r c = record { u = places columns c; v = places rows r; w = 0 }
 
--- the point of row r and column c, both from 0, at the places that stand in `rows` and `columns` from entry `first` on
-abbrev pub crossing : List ℕ → List ℕ → ℕ → ℕ → ℕ → Point
-crossing rows columns first r c = record { u = places columns (first + c); v = places rows (first + r); w = 0 }
+-- a point at the height v for each column
+abbrev pub rowPoints : List ℕ → ℕ → List Point
+rowPoints columns v = table (λ c. record { u = places columns c; v = v; w = 0 }) (length columns)
+
+-- such points for each row
+abbrev pub gridPoints : List ℕ → List ℕ → List Point
+gridPoints rows columns = grid (crossing rows columns) (length rows) (length columns)

@@ -5,12 +5,12 @@ ghost use Rattle.mesh.specs.TrianglePoints.{trianglePlace};
 ghost use Rattle.mesh.specs.QuadPoints.{quadPlace};
 use mesh::Point;
 
-// Of edge k of a triangle patch, at the place x, on the ring d units in.
-pub fn triangle_place(k: u32, x: u32, d: u32) -> Point
-    requires { ⌜ (k < 3) × (d ≤ x) × (x + d ≤ 65536) ⌝ }
+// Of edge k of a triangle patch, at the place x, on the ring d units in. `high` is 196608 - d, the start coordinate at 0.
+pub fn triangle_place(k: u32, x: u32, d: u32, high: u32) -> Point
+    requires { ⌜ (k < 3) × (d ≤ x) × (x + d ≤ 65536) × (high + d ≡ 196608) ⌝ }
     ensures { λ r. ⌜ r ≡ trianglePlace k x d ⌝ }
 {
-    let start = 196608 - (3 * x + d);
+    let start = high - 3 * x;
     let end = 3 * x - d;
     let opposite = 2 * d;
     match k {

@@ -2,6 +2,7 @@
 use borrow.Author.Needs.{needs}
 use native.Mathlib.Omega.{arith}
 use Prim.Native.Nat.{_-_}
+use lib.ListN.{length}
 use Rattle.buffer.proofs.Laws.{count-step}
 use Rattle.vertices.specs.Grids.{crossing}
 use Rattle.vertices.proofs.Loops.{Rows, rows-start, rows-fits, rows-done}
@@ -9,29 +10,26 @@ use Rattle.vertices.proofs.grid.write_grid.Statement.{statement}
 use Rattle.vertices.proofs.grid.write_grid.Tie as tie
 
 abbrev Inv-loop : tie.InvT-loop
-Inv-loop out₀ at rows columns first height width to₀ r₀ out to r = Rows (crossing rows columns first) width r height out to out₀ at
+Inv-loop out₀ at rows columns to₀ r₀ out to r = Rows (crossing rows columns) (length columns) r (length rows) out to out₀ at
 
 abbrev μ-loop : tie.MeasureT-loop
-μ-loop out₀ at rows columns first height width to₀ r₀ out to r = height - r
+μ-loop out₀ at rows columns to₀ r₀ out to r = length rows - r
 
 loop-holds : tie.Need-loop-holds Inv-loop μ-loop
 loop-holds c =
-    let a = c .before .args in
-    rows-start (crossing (a .rows .now) (a .columns .now) (a .first)) (a .width) (c .before .pre .1)
-
-add-write-row : tie.Need-add-write-row Inv-loop μ-loop
-add-write-row c = search needs
+    let s = c .before .before .before in
+    rows-start (crossing (s .args .rows .now) (s .args .columns .now)) (length (s .args .columns .now)) (s .pre)
 
 mul-write-row : tie.Need-mul-write-row Inv-loop μ-loop
 mul-write-row c = search needs
 
-element-copy-out-write-row : tie.Need-element-copy-out-write-row Inv-loop μ-loop
-element-copy-out-write-row c = search needs
+shared-slice-read-write-row : tie.Need-shared-slice-read-write-row Inv-loop μ-loop
+shared-slice-read-write-row c = search needs
 
 write-row-requires : tie.Need-write-row-requires Inv-loop μ-loop
 write-row-requires c κs =
-    let a = c .before .before .before .before .before .args in
-    (omega arith, rows-fits (crossing (a .rows .now) (a .columns .now) (a .first)) (a .width) (omega arith) (c .before .before .before .loop .inv))
+    let a = c .before .before .before .before .before .before .before .args in
+    rows-fits (crossing (a .rows .now) (a .columns .now)) (length (a .columns .now)) (omega arith) (c .before .before .before .loop .inv)
 
 add-r : tie.Need-add-r Inv-loop μ-loop
 add-r c = search needs
@@ -47,8 +45,8 @@ same-length c = search needs
 
 returns : tie.Need-returns Inv-loop μ-loop
 returns c =
-    let a = c .before .before .before .args in
-    rows-done (crossing (a .rows .now) (a .columns .now) (a .first)) (a .width) (c .loop-test .left) (c .before .loop .inv)
+    let a = c .before .before .before .before .before .args in
+    rows-done (crossing (a .rows .now) (a .columns .now)) (length (a .columns .now)) (c .loop-test .left) (c .before .loop .inv)
 
 pub write-grid-spec : {M : Type 1} → statement M
 write-grid-spec =
@@ -57,9 +55,8 @@ write-grid-spec =
     Inv-loop
     μ-loop
     loop-holds
-    add-write-row
     mul-write-row
-    element-copy-out-write-row
+    shared-slice-read-write-row
     write-row-requires
     add-r
     loop-less

@@ -1,8 +1,9 @@
 -- Meets its contract. Assumes nothing.
 use borrow.Author.Needs.{needs}
 use native.Mathlib.Omega.{arith}
-use Prim.Native.Nat.{_+_, _-_}
+use Prim.Native.Nat.{_-_}
 use mathlib.Core.Path.{refl}
+use lib.ListN.{length}
 use Rattle.buffer.proofs.Laws.{count-fits}
 use Rattle.vertices.specs.Rows.{places}
 use Rattle.vertices.proofs.Loops.{Points, points-start, points-step, points-done}
@@ -10,22 +11,19 @@ use Rattle.vertices.proofs.grid.write_row.Statement.{statement}
 use Rattle.vertices.proofs.grid.write_row.Tie as tie
 
 abbrev Inv-loop : tie.InvT-loop
-Inv-loop out₀ at columns first width v to₀ c₀ out to c = Points (λ n. record { u = places columns (first + n); v = v; w = 0 }) c width out to out₀ at
+Inv-loop out₀ at columns v to₀ c₀ out to c = Points (λ n. record { u = places columns n; v = v; w = 0 }) c (length columns) out to out₀ at
 
 abbrev μ-loop : tie.MeasureT-loop
-μ-loop out₀ at columns first width v to₀ c₀ out to c = width - c
+μ-loop out₀ at columns v to₀ c₀ out to c = length columns - c
 
 loop-holds : tie.Need-loop-holds Inv-loop μ-loop
-loop-holds c = points-start _ (c .before .pre .1)
-
-add-put3-u32 : tie.Need-add-put3-u32 Inv-loop μ-loop
-add-put3-u32 c = search needs
+loop-holds c = points-start _ (c .before .before .pre)
 
 mul-put3-u32 : tie.Need-mul-put3-u32 Inv-loop μ-loop
 mul-put3-u32 c = search needs
 
-element-copy-out-put3-u32 : tie.Need-element-copy-out-put3-u32 Inv-loop μ-loop
-element-copy-out-put3-u32 c = search needs
+shared-slice-read-put3-u32 : tie.Need-shared-slice-read-put3-u32 Inv-loop μ-loop
+shared-slice-read-put3-u32 c = search needs
 
 put3-u32-requires : tie.Need-put3-u32-requires Inv-loop μ-loop
 put3-u32-requires c κs = count-fits (omega arith) (c .before .before .before .loop .inv)
@@ -52,9 +50,8 @@ write-row-spec =
     Inv-loop
     μ-loop
     loop-holds
-    add-put3-u32
     mul-put3-u32
-    element-copy-out-put3-u32
+    shared-slice-read-put3-u32
     put3-u32-requires
     add-c
     loop-less

@@ -1,5 +1,6 @@
 -- Meets its contract. Assumes nothing.
 use native.Mathlib.Omega.{arith}
+use Prim.Native.Nat.{_+_, _*_, _-_}
 use mathlib.Core.Path.{_≡_}
 use borrow.Author.Needs.{needs}
 use Rattle.vertices.proofs.place.triangle_place.Statement.{statement}
@@ -7,9 +8,6 @@ use Rattle.vertices.proofs.place.triangle_place.Tie as tie
 
 mul-start : tie.Need-mul-start
 mul-start c = search needs
-
-add-start : tie.Need-add-start
-add-start c = search needs
 
 sub-start : tie.Need-sub-start
 sub-start c = search needs
@@ -25,29 +23,26 @@ mul-opposite c = search needs
 
 returns : tie.Need-returns
 returns c =
-    let e : c .before .args .k ≡ 0 = omega arith in
-    rw e
+    let a = c .before .args in
+    let e : a .k ≡ 0 = omega arith in
+    let s : a .high - 3 * a .x ≡ 196608 - (3 * a .x + a .d) = omega arith in
+    rw (e, s)
 
 returns-2 : tie.Need-returns-2
 returns-2 c =
-    let e : c .before .args .k ≡ 1 = omega arith in
-    rw e
+    let a = c .before .args in
+    let e : a .k ≡ 1 = omega arith in
+    let s : a .high - 3 * a .x ≡ 196608 - (3 * a .x + a .d) = omega arith in
+    rw (e, s)
 
 returns-3 : tie.Need-returns-3
 returns-3 c =
-    let e : c .before .args .k ≡ 2 = omega (arith, c .match .rest .0 .1, c .match .rest .1) in
-    rw e
+    let a = c .before .args in
+    let e : a .k ≡ 2 = omega (arith, c .match .rest .0 .1, c .match .rest .1) in
+    let s : a .high - 3 * a .x ≡ 196608 - (3 * a .x + a .d) = omega arith in
+    rw (e, s)
 
 pub triangle-place-spec : {M : Type 1} → statement M
 triangle-place-spec =
     tie.close
-    (tie.spec
-    mul-start
-    add-start
-    sub-start
-    mul-end
-    sub-end
-    mul-opposite
-    returns
-    returns-2
-    returns-3)
+    (tie.spec mul-start sub-start mul-end sub-end mul-opposite returns returns-2 returns-3)

@@ -2,48 +2,48 @@
 use borrow.Author.Needs.{needs}
 use native.Mathlib.Omega.{arith}
 use mathlib.Core.List.{[], _∷_}
-use Rattle.mesh.specs.Segmented.{run}
 use Rattle.mesh.specs.QuadPoints.{quadPlace}
+use Rattle.vertices.specs.Rows.{listed}
 use Rattle.vertices.proofs.Edges.{edges-start, edges-fits, edges-step, edges-last}
 use Rattle.vertices.proofs.quad.write_outline.Statement.{statement}
 use Rattle.vertices.proofs.quad.write_outline.Tie as tie
 
-write-outer-edge-requires : tie.Need-write-outer-edge-requires
-write-outer-edge-requires c κs =
-    let s = c .before .before in
+write-edge-requires : tie.Need-write-edge-requires
+write-edge-requires c κs =
+    let s = c .before .before .before .before .before .before in
     let a = s .args in
-    let es = run (a .e0) ∷ run (a .e1) ∷ run (a .e2) ∷ run (a .e3) ∷ [] in
+    let es = listed (a .e0 .now) ∷ listed (a .e1 .now) ∷ listed (a .e2 .now) ∷ listed (a .e3 .now) ∷ [] in
     let l = edges-start quadPlace 0 es (a .out .now) (a .at) (s .pre .1) in
     (omega arith, (s .pre .0 .0, edges-fits l))
 
-write-outer-edge-requires-2 : tie.Need-write-outer-edge-requires-2
-write-outer-edge-requires-2 c κs =
-    let s = c .before .before .before .before .before .before in
-    let a = s .args in
-    let es = run (a .e0) ∷ run (a .e1) ∷ run (a .e2) ∷ run (a .e3) ∷ [] in
-    let l = edges-start quadPlace 0 es (a .out .now) (a .at) (s .pre .1) in
-    let l0 = edges-step (c .before .before .before .write-outer-edge .ensures) l in
-    (omega arith, (s .pre .0 .1, edges-fits l0))
-
-write-outer-edge-requires-3 : tie.Need-write-outer-edge-requires-3
-write-outer-edge-requires-3 c κs =
+write-edge-requires-2 : tie.Need-write-edge-requires-2
+write-edge-requires-2 c κs =
     let s = c .before .before .before .before .before .before .before .before .before .before in
     let a = s .args in
-    let es = run (a .e0) ∷ run (a .e1) ∷ run (a .e2) ∷ run (a .e3) ∷ [] in
+    let es = listed (a .e0 .now) ∷ listed (a .e1 .now) ∷ listed (a .e2 .now) ∷ listed (a .e3 .now) ∷ [] in
     let l = edges-start quadPlace 0 es (a .out .now) (a .at) (s .pre .1) in
-    let l0 = edges-step (c .before .before .before .before .before .before .before .write-outer-edge .ensures) l in
-    let l1 = edges-step (c .before .before .before .write-outer-edge2 .ensures) l0 in
-    (omega arith, (s .pre .0 .2, edges-fits l1))
+    let l0 = edges-step (c .before .before .before .write-edge .ensures) l in
+    (omega arith, (s .pre .0 .1, edges-fits l0))
 
-write-outer-edge-requires-4 : tie.Need-write-outer-edge-requires-4
-write-outer-edge-requires-4 c κs =
+write-edge-requires-3 : tie.Need-write-edge-requires-3
+write-edge-requires-3 c κs =
     let s = c .before .before .before .before .before .before .before .before .before .before .before .before .before .before in
     let a = s .args in
-    let es = run (a .e0) ∷ run (a .e1) ∷ run (a .e2) ∷ run (a .e3) ∷ [] in
+    let es = listed (a .e0 .now) ∷ listed (a .e1 .now) ∷ listed (a .e2 .now) ∷ listed (a .e3 .now) ∷ [] in
     let l = edges-start quadPlace 0 es (a .out .now) (a .at) (s .pre .1) in
-    let l0 = edges-step (c .before .before .before .before .before .before .before .before .before .before .before .write-outer-edge .ensures) l in
-    let l1 = edges-step (c .before .before .before .before .before .before .before .write-outer-edge2 .ensures) l0 in
-    let l2 = edges-step (c .before .before .before .write-outer-edge3 .ensures) l1 in
+    let l0 = edges-step (c .before .before .before .before .before .before .before .write-edge .ensures) l in
+    let l1 = edges-step (c .before .before .before .write-edge2 .ensures) l0 in
+    (omega arith, (s .pre .0 .2, edges-fits l1))
+
+write-edge-requires-4 : tie.Need-write-edge-requires-4
+write-edge-requires-4 c κs =
+    let s = c .before .before .before .before .before .before .before .before .before .before .before .before .before .before .before .before .before .before in
+    let a = s .args in
+    let es = listed (a .e0 .now) ∷ listed (a .e1 .now) ∷ listed (a .e2 .now) ∷ listed (a .e3 .now) ∷ [] in
+    let l = edges-start quadPlace 0 es (a .out .now) (a .at) (s .pre .1) in
+    let l0 = edges-step (c .before .before .before .before .before .before .before .before .before .before .before .write-edge .ensures) l in
+    let l1 = edges-step (c .before .before .before .before .before .before .before .write-edge2 .ensures) l0 in
+    let l2 = edges-step (c .before .before .before .write-edge3 .ensures) l1 in
     (omega arith, (s .pre .0 .3, edges-fits l2))
 
 same-length : tie.Need-same-length
@@ -51,22 +51,22 @@ same-length c = search needs
 
 returns : tie.Need-returns
 returns c =
-    let s = c .before .before .before .before .before .before .before .before .before .before .before .before .before .before .before .before .before in
+    let s = c .before .before .before .before .before .before .before .before .before .before .before .before .before .before .before .before .before .before .before .before .before in
     let a = s .args in
-    let es = run (a .e0) ∷ run (a .e1) ∷ run (a .e2) ∷ run (a .e3) ∷ [] in
+    let es = listed (a .e0 .now) ∷ listed (a .e1 .now) ∷ listed (a .e2 .now) ∷ listed (a .e3 .now) ∷ [] in
     let l = edges-start quadPlace 0 es (a .out .now) (a .at) (s .pre .1) in
-    let l0 = edges-step (c .before .before .before .before .before .before .before .before .before .before .before .before .before .before .write-outer-edge .ensures) l in
-    let l1 = edges-step (c .before .before .before .before .before .before .before .before .before .before .write-outer-edge2 .ensures) l0 in
-    let l2 = edges-step (c .before .before .before .before .before .before .write-outer-edge3 .ensures) l1 in
-    edges-last (c .before .before .write-outer-edge4 .ensures) l2
+    let l0 = edges-step (c .before .before .before .before .before .before .before .before .before .before .before .before .before .before .write-edge .ensures) l in
+    let l1 = edges-step (c .before .before .before .before .before .before .before .before .before .before .write-edge2 .ensures) l0 in
+    let l2 = edges-step (c .before .before .before .before .before .before .write-edge3 .ensures) l1 in
+    edges-last (c .before .before .write-edge4 .ensures) l2
 
 pub write-outline-spec : {M : Type 1} → statement M
 write-outline-spec =
     tie.close
     (tie.spec
-    write-outer-edge-requires
-    write-outer-edge-requires-2
-    write-outer-edge-requires-3
-    write-outer-edge-requires-4
+    write-edge-requires
+    write-edge-requires-2
+    write-edge-requires-3
+    write-edge-requires-4
     same-length
     returns)

@@ -1,7 +1,8 @@
 -- Meets its contract. Assumes nothing.
 use borrow.Author.Needs.{needs}
 use native.Mathlib.Omega.{arith}
-use Prim.Native.Nat.{_+_, _-_}
+use Prim.Native.Nat.{_-_}
+use lib.ListN.{length}
 use Rattle.buffer.proofs.Laws.{count-fits}
 use Rattle.mesh.specs.TrianglePoints.{trianglePlace}
 use Rattle.vertices.specs.Rows.{places}
@@ -10,25 +11,22 @@ use Rattle.vertices.proofs.triangle.write_edge.Statement.{statement}
 use Rattle.vertices.proofs.triangle.write_edge.Tie as tie
 
 abbrev Inv-loop : tie.InvT-loop
-Inv-loop out₀ at row from count depth k to₀ i₀ out to i = Points (λ n. trianglePlace k (places row (from + n)) depth) i count out to out₀ at
+Inv-loop out₀ at row depth high k to₀ i₀ out to i = Points (λ n. trianglePlace k (places row n) depth) i (length row) out to out₀ at
 
 abbrev μ-loop : tie.MeasureT-loop
-μ-loop out₀ at row from count depth k to₀ i₀ out to i = count - i
+μ-loop out₀ at row depth high k to₀ i₀ out to i = length row - i
 
 loop-holds : tie.Need-loop-holds Inv-loop μ-loop
-loop-holds c = points-start _ (c .before .pre .1 .1)
-
-add-triangle-place : tie.Need-add-triangle-place Inv-loop μ-loop
-add-triangle-place c = search needs
+loop-holds c = points-start _ (c .before .before .pre .1 .1)
 
 mul-triangle-place : tie.Need-mul-triangle-place Inv-loop μ-loop
 mul-triangle-place c = search needs
 
-element-copy-out-triangle-place : tie.Need-element-copy-out-triangle-place Inv-loop μ-loop
-element-copy-out-triangle-place c = search needs
+shared-slice-read-triangle-place : tie.Need-shared-slice-read-triangle-place Inv-loop μ-loop
+shared-slice-read-triangle-place c = search needs
 
 triangle-place-requires : tie.Need-triangle-place-requires Inv-loop μ-loop
-triangle-place-requires c κs = omega (arith, c .before .before .before .before .pre .1 .0 (c .before .before .loop .i) (omega arith))
+triangle-place-requires c κs = omega (arith, c .before .before .before .before .before .pre .1 .0 (c .before .before .loop .i) (omega arith))
 
 put3-u32-requires : tie.Need-put3-u32-requires Inv-loop μ-loop
 put3-u32-requires c κs = count-fits (omega arith) (c .before .before .before .before .loop .inv)
@@ -57,9 +55,8 @@ write-edge-spec =
     Inv-loop
     μ-loop
     loop-holds
-    add-triangle-place
     mul-triangle-place
-    element-copy-out-triangle-place
+    shared-slice-read-triangle-place
     triangle-place-requires
     put3-u32-requires
     add-i

@@ -1,0 +1,66 @@
+-- Meets its contract. Assumes nothing.
+use borrow.Author.Needs.{needs}
+use native.Mathlib.Omega.{arith}
+use Prim.Native.Nat.{_-_}
+use lib.ListN.{length}
+use Rattle.buffer.proofs.Laws.{count-fits}
+use Rattle.mesh.specs.QuadPoints.{quadPlace}
+use Rattle.vertices.specs.Rows.{places}
+use Rattle.vertices.proofs.Loops.{Points, points-start, points-step, points-done}
+use Rattle.vertices.proofs.quad.write_edge.Statement.{statement}
+use Rattle.vertices.proofs.quad.write_edge.Tie as tie
+
+abbrev Inv-loop : tie.InvT-loop
+Inv-loop out₀ at row k to₀ i₀ out to i = Points (λ n. quadPlace k (places row n) 0) i (length row) out to out₀ at
+
+abbrev μ-loop : tie.MeasureT-loop
+μ-loop out₀ at row k to₀ i₀ out to i = length row - i
+
+loop-holds : tie.Need-loop-holds Inv-loop μ-loop
+loop-holds c = points-start _ (c .before .before .pre .1 .1)
+
+mul-quad-place : tie.Need-mul-quad-place Inv-loop μ-loop
+mul-quad-place c = search needs
+
+shared-slice-read-quad-place : tie.Need-shared-slice-read-quad-place Inv-loop μ-loop
+shared-slice-read-quad-place c = search needs
+
+quad-place-requires : tie.Need-quad-place-requires Inv-loop μ-loop
+quad-place-requires c κs = omega (arith, c .before .before .before .before .before .pre .1 .0 (c .before .before .loop .i) (omega arith))
+
+put3-u32-requires : tie.Need-put3-u32-requires Inv-loop μ-loop
+put3-u32-requires c κs = count-fits (omega arith) (c .before .before .before .before .loop .inv)
+
+add-i : tie.Need-add-i Inv-loop μ-loop
+add-i c = search needs
+
+loop-less : tie.Need-loop-less Inv-loop μ-loop
+loop-less c = search needs
+
+loop-again : tie.Need-loop-again Inv-loop μ-loop
+loop-again c =
+    let l = c .before .before .before .before .before .before .before .loop in
+    points-step (omega arith) (c .before .before .before .before .quad-place .ensures) (c .before .before .put3-u32 .ensures) (l .inv)
+
+same-length : tie.Need-same-length Inv-loop μ-loop
+same-length c = search needs
+
+returns : tie.Need-returns Inv-loop μ-loop
+returns c = points-done _ (c .loop-test .left) (c .before .loop .inv)
+
+pub write-edge-spec : {M : Type 1} → statement M
+write-edge-spec =
+    tie.close
+    (tie.spec
+    Inv-loop
+    μ-loop
+    loop-holds
+    mul-quad-place
+    shared-slice-read-quad-place
+    quad-place-requires
+    put3-u32-requires
+    add-i
+    loop-less
+    loop-again
+    same-length
+    returns)
