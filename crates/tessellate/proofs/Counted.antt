@@ -18,7 +18,7 @@ use Rattle.drawing.proofs.Counts.{point-count, index-count}
 use Rattle.drawing.proofs.Sizes.{points-at-most}
 use Rattle.drawing.proofs.Valid.{cut-valid}
 use Rattle.tessellate.specs.Answers.{pointsOf, indicesOf}
-use Rattle.tessellate.proofs.Cuts.{valid-as}
+use Rattle.cut_patch.proofs.Cuts.{valid-as}
 
 module _ (set : Settings) (top : Top (set .top)) (p : Patch) (c : Subdivision) (is : c ≡ subdivision (set .spacing) (set .top) p) where
   -- every edge has an n and L that an edge can have

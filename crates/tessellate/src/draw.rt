@@ -18,11 +18,11 @@ pub fn draw_points(patch: Patch, settings: Settings, vertices: &mut [u32]) -> Po
     if patch::subdivision::is_discarded(cut) {
         return PointsAnswer::Discarded;
     }
-    let points = crate::count::point_count(cut);
+    let points = cut_patch::count::point_count(cut);
     if vertices.len() < 3 * (points as usize) {
         return PointsAnswer::NoRoomForVertices;
     }
-    crate::place::write_points(vertices, cut);
+    cut_patch::place::write_points(vertices, cut);
     PointsAnswer::Drawn { points }
 }
 
@@ -41,11 +41,11 @@ pub fn draw_indices(patch: Patch, settings: Settings, indices: &mut [u16]) -> In
     if patch::subdivision::is_discarded(cut) {
         return IndicesAnswer::Discarded;
     }
-    let words = crate::count::index_count(cut, point_mode);
+    let words = cut_patch::count::index_count(cut, point_mode);
     if indices.len() < words as usize {
         return IndicesAnswer::NoRoomForIndices;
     }
     let positive = patch::settings::turns_positive(order, origin);
-    crate::connect::write_indices(indices, cut, point_mode, positive);
+    cut_patch::connect::write_indices(indices, cut, point_mode, positive);
     IndicesAnswer::Drawn { indices: words }
 }

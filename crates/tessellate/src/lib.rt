@@ -1,7 +1,4 @@
-// The two operations: measuring a patch and drawing it.
+// The operations: measuring a patch, drawing its points and drawing its indices.
 pub mod answer;
-mod connect;
-mod count;
 pub mod draw;
 pub mod measure;
-mod place;

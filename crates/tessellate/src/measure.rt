@@ -19,8 +19,8 @@ pub fn measure(patch: Patch, settings: Settings) -> Size
     if patch::subdivision::is_discarded(cut) {
         return Size::Discarded;
     }
-    let points = crate::count::point_count(cut);
-    let indices = crate::count::index_count(cut, point_mode);
+    let points = cut_patch::count::point_count(cut);
+    let indices = cut_patch::count::index_count(cut, point_mode);
     let clamps = patch::clamps::clamps_of(patch, spacing, top);
     Size::Counts {
         points,

@@ -1,9 +1,8 @@
 -- The laws that the writers' proofs share.
-mod Words
-mod Loops
-mod Parts
-mod Edges
-mod Rows
-mod Grids
-mod Rings
-mod Laid
+pub mod Words
+pub mod Loops
+pub mod Parts
+pub mod Edges
+pub mod Rows
+pub mod Grids
+pub mod Laid

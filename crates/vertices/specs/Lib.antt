@@ -1,5 +1,4 @@
 -- The definitions of `vertices`.
 pub mod Rows
 pub mod Edges
-pub mod Rings
 pub mod Grids

@@ -6,7 +6,7 @@ use mathlib.Core.Bool.{Bool}
 use Rattle.buffer.specs.Over.{over}
 use Rattle.patch.specs.declared.subdivision.Subdivision.{Subdivision}
 use Rattle.drawing.specs.Primitives.{inMode, indexWords}
-use Rattle.tessellate.proofs.Modes.{mode-count}
+use Rattle.cut_patch.proofs.Modes.{mode-count}
 use Rattle.tessellate.proofs.Counted.{valid, flag, few, many-indices}
 use Rattle.tessellate.specs.Answers.{drew}
 use Rattle.tessellate.proofs.Tops.{good, bad, top-as}

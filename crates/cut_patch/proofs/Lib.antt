@@ -1,0 +1,4 @@
+-- The laws of a cut patch.
+mod Products
+pub mod Cuts
+pub mod Modes

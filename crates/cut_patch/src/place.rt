@@ -1,0 +1,39 @@
+// The points of a cut patch, written from a list's front.
+ghost use Prim.Native.Nat.{_*_, _≤_};
+ghost use lib.ListN.{length};
+ghost use Rattle.buffer.specs.Over.{Wrote};
+ghost use Rattle.mesh.specs.Words.{vertexWords};
+ghost use Rattle.drawing.specs.Points.{points};
+ghost use Rattle.drawing.specs.Valid.{ValidCut};
+use patch::subdivision::Subdivision;
+
+pub fn write_points(out: &mut [u32], cut: Subdivision) -> usize
+    requires { ⌜ ValidCut cut ⌝ ∗ ⌜ 3 * length (points cut) ≤ length (now out) ⌝ }
+    ensures { λ r. ⌜ Wrote (now (out .entry)) 0 (vertexWords (points cut)) (now (out .exit)) r ⌝ }
+{
+    match cut {
+        Subdivision::Discarded => 0,
+        Subdivision::PlainTriangle => triangle_vertices::triangle::write_plain_triangle(out, 0),
+        Subdivision::Triangle {
+            edge0,
+            edge1,
+            edge2,
+            inside,
+        } => triangle_vertices::triangle::write_triangle_patch(out, 0, edge0, edge1, edge2, inside),
+        Subdivision::PlainQuad => vertices::quad::write_plain_quad(out, 0),
+        Subdivision::Quad {
+            edge0,
+            edge1,
+            edge2,
+            edge3,
+            rows,
+            columns,
+        } => vertices::quad::write_quad_patch(out, 0, edge0, edge1, edge2, edge3, rows, columns),
+        Subdivision::Lines { lines, along } => vertices::isoline::write_isolines(
+            out,
+            0,
+            lines,
+            along,
+        ),
+    }
+}

@@ -1,0 +1,2 @@
+-- The laws of rings.
+mod Rings

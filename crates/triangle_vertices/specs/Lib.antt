@@ -1,0 +1,2 @@
+-- The definitions of `triangle_vertices`.
+pub mod Rings
