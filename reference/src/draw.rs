@@ -1,4 +1,4 @@
-//! Drawing into lent lists. Ask 7 made two operations of it, one for the points
+//! Drawing into lists of a caller's. Ask 7 made two operations of it, one for the points
 //! and one for the indices, so that either can be kept while the other changes.
 //!
 //! The answers keep their numbers from the section "What the cutter says" and
