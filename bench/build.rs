@@ -1,4 +1,4 @@
-//! Links the proved static library, which `rt staticlib exports` writes.
+//! Links the proved static library, which `tools/library` writes.
 
 fn main() {
     let root = std::path::PathBuf::from(
@@ -7,9 +7,9 @@ fn main() {
     .join("..");
     let library = root.join("target/staticlib");
     println!("cargo:rustc-link-search=native={}", library.display());
-    println!("cargo:rustc-link-lib=static=exports");
+    println!("cargo:rustc-link-lib=static=yoktvarim");
     println!(
         "cargo:rerun-if-changed={}",
-        library.join("libexports.a").display()
+        library.join("libyoktvarim.a").display()
     );
 }

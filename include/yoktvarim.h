@@ -1,6 +1,6 @@
 /* Yoktvarim: tessellates a patch by the Vulkan rules, for C and C++.
  *
- * Link with target/staticlib/libexports.a, which `rt staticlib exports` proves and writes (x86-64 Linux).
+ * Link with target/staticlib/libyoktvarim.a, which `tools/library` proves and writes (x86-64 Linux).
  *
  *     static uint32_t vertices[YOKTVARIM_VERTEX_WORDS];
  *     static uint16_t indices[YOKTVARIM_INDEX_WORDS];

@@ -1,4 +1,4 @@
-//! Links the static library that `rt staticlib exports` writes.
+//! Links the static library that `tools/library` writes.
 
 use std::env;
 use std::path::PathBuf;
@@ -12,15 +12,15 @@ fn main() {
                 .join("../target/staticlib")
         }
     };
-    let library = folder.join("libexports.a");
+    let library = folder.join("libyoktvarim.a");
     println!("cargo:rerun-if-env-changed=YOKTVARIM_LIB_DIR");
     println!("cargo:rerun-if-changed={}", library.display());
     if !library.exists() {
         eprintln!("{} is not there.", library.display());
-        eprintln!("`rt staticlib exports` at the repository's root proves it and writes it.");
+        eprintln!("`tools/library` at the repository's root proves it and writes it.");
         eprintln!("YOKTVARIM_LIB_DIR names another folder to look in.");
         exit(1);
     }
     println!("cargo:rustc-link-search=native={}", folder.display());
-    println!("cargo:rustc-link-lib=static=exports");
+    println!("cargo:rustc-link-lib=static=yoktvarim");
 }

@@ -24,7 +24,7 @@ use Rattle.exports.specs.Replies.{unknownSetting, badTop}
 use Rattle.exports.specs.Calls.{known, Called, PointsCalled, IndicesCalled}
 
 -- 0 is said by an operation, and then of what it drew
-known-zero : (bs : List ℕ) (t : Told) → known bs badTop unknownSetting t .number ≡ 0 → known bs badTop unknownSetting t ≡ t
+pub known-zero : (bs : List ℕ) (t : Told) → known bs badTop unknownSetting t .number ≡ 0 → known bs badTop unknownSetting t ≡ t
 unfolding known
 known-zero bs t = go (isTop (topIn bs)) (ltb (firstUnknown bs 0) 5)
   where
@@ -33,7 +33,7 @@ known-zero bs t = go (isTop (topIn bs)) (ltb (firstUnknown bs 0) 5)
     go true true e = absurd (omega arith)
     go true false e = refl
 
-verdict-zero : (set : Settings) (p : Patch) (short need have count : ℕ)
+pub verdict-zero : (set : Settings) (p : Patch) (short need have count : ℕ)
     → verdict set p (short + 1) need have count .number ≡ 0 → verdict set p (short + 1) need have count ≡ drew count
 unfolding verdict
 verdict-zero set p short need have count = go (isTop (set .top)) (discards p) (ltb have need)

@@ -7,14 +7,14 @@ use job::setting::Kind;
 use patch::kinds::Patch;
 
 // The top level, whether or not it is one.
-pub(crate) fn top_in(settings: &[u8]) -> u32
+pub fn top_in(settings: &[u8]) -> u32
     requires { ⌜ 6 ≤ length (now settings) ⌝ }
     ensures { λ r. ⌜ r ≡ topIn (now (settings .entry)) ⌝ }
 {
     settings[5] as u32
 }
 
-pub(crate) fn patch_in(settings: &[u8; 6], levels: &[f32; 6]) -> Patch
+pub fn patch_in(settings: &[u8; 6], levels: &[f32; 6]) -> Patch
     ensures { λ r. ⌜ r ≡ patchIn (now (settings .entry)) (now (levels .entry)) ⌝ }
 {
     let kind = job::setting::kind_of(settings[0]);

@@ -11,6 +11,6 @@
 // 8 unknown setting, 11 bad top. A bad top is told before all else. Whatever is not 0 leaves the list untouched.
 mod clamps;
 pub mod draw;
-mod input;
+pub mod input;
 pub mod measure;
-mod reply;
+pub mod reply;

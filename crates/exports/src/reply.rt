@@ -26,13 +26,13 @@ fn refusal(number: u32) -> Reply
     }
 }
 
-pub(crate) fn bad_top() -> Reply
+pub fn bad_top() -> Reply
     ensures { λ r. ⌜ r ≡ replyOf badTop ⌝ }
 {
     refusal(11)
 }
 
-pub(crate) fn unknown_setting(place: usize) -> Reply
+pub fn unknown_setting(place: usize) -> Reply
     requires { ⌜ place < 5 ⌝ }
     ensures { λ r. ⌜ r ≡ replyOf (unknownSetting place) ⌝ }
 {
@@ -43,7 +43,7 @@ pub(crate) fn unknown_setting(place: usize) -> Reply
     }
 }
 
-pub(crate) fn of_size(size: Size) -> Reply
+pub fn of_size(size: Size) -> Reply
     ensures { λ r. ⌜ r ≡ replyOf (toldSize size) ⌝ }
 {
     match size {
@@ -61,7 +61,7 @@ pub(crate) fn of_size(size: Size) -> Reply
     }
 }
 
-pub(crate) fn of_points(answer: PointsAnswer) -> Reply
+pub fn of_points(answer: PointsAnswer) -> Reply
     ensures { λ r. ⌜ r ≡ replyOf (toldPoints answer) ⌝ }
 {
     match answer {
@@ -76,7 +76,7 @@ pub(crate) fn of_points(answer: PointsAnswer) -> Reply
     }
 }
 
-pub(crate) fn of_indices(answer: IndicesAnswer) -> Reply
+pub fn of_indices(answer: IndicesAnswer) -> Reply
     ensures { λ r. ⌜ r ≡ replyOf (toldIndices answer) ⌝ }
 {
     match answer {
@@ -92,7 +92,7 @@ pub(crate) fn of_indices(answer: IndicesAnswer) -> Reply
 }
 
 // Both values are written whatever the answer is.
-pub(crate) fn say_two(reply: Reply, counts: &mut [u32; 2]) -> u32
+pub fn say_two(reply: Reply, counts: &mut [u32; 2]) -> u32
     ensures { λ r. ⌜ r ≡ reply .number ⌝ ∗ ⌜ now (counts .exit) ≡ reply .first ∷ reply .second ∷ [] ⌝ }
 {
     *counts = [reply.first, reply.second];
@@ -100,7 +100,7 @@ pub(crate) fn say_two(reply: Reply, counts: &mut [u32; 2]) -> u32
 }
 
 // The one value of an answer that has no second.
-pub(crate) fn say_one(reply: Reply, count: &mut [u32; 1]) -> u32
+pub fn say_one(reply: Reply, count: &mut [u32; 1]) -> u32
     ensures { λ r. ⌜ r ≡ reply .number ⌝ ∗ ⌜ now (count .exit) ≡ reply .first ∷ [] ⌝ }
 {
     *count = [reply.first];
