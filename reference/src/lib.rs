@@ -19,6 +19,7 @@ pub mod output;
 pub mod patch;
 pub mod quads;
 pub mod random;
+pub mod spots;
 pub mod strip;
 pub mod table;
 pub mod tessellate;

@@ -6,7 +6,7 @@ use std::io::{self, BufWriter, Read, Write};
 use std::process::ExitCode;
 
 use reference::job::Version;
-use reference::{check, damage, measures, output, random, table, text};
+use reference::{check, damage, measures, output, random, spots, table, text};
 
 const USAGE: &str = "usage:
   reference cut                          job file on input, answers on output
@@ -18,6 +18,7 @@ const USAGE: &str = "usage:
   reference random SEED COUNT cut 2      the answers to the second
   reference random SEED NUMBER damaged   one damaged job file on output
   reference check JOBFILE                answers on input, checked against the job file
+  reference spots SEED COUNT             COUNT random spots inside patches, counted
   reference table                        the positions for equal spacing on output";
 
 fn main() -> ExitCode {
@@ -33,6 +34,7 @@ fn main() -> ExitCode {
         ["random", seed, count, "cut", "2"] => run_random_cut(seed, count, Version::Two),
         ["random", seed, count, "damaged"] => run_damaged(seed, count),
         ["check", path] => run_check(path),
+        ["spots", seed, count] => run_spots(seed, count),
         ["table"] => write_out(table::text().as_bytes()),
         _ => Err(USAGE.to_string()),
     };
@@ -100,5 +102,10 @@ fn run_damaged(seed: &str, which: &str) -> Result<(), String> {
 fn run_check(path: &str) -> Result<(), String> {
     let job = fs::read(path).map_err(|error| format!("{path}: {error}"))?;
     let summary = check::check(&job, io::stdin().lock()).map_err(|fault| fault.to_string())?;
+    write_out(format!("{summary}\n").as_bytes())
+}
+
+fn run_spots(seed: &str, count: &str) -> Result<(), String> {
+    let summary = spots::check(number(seed)?, number(count)?)?;
     write_out(format!("{summary}\n").as_bytes())
 }

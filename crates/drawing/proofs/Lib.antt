@@ -10,6 +10,7 @@ pub mod Numbered
 pub mod Plain
 pub mod Covered
 pub mod Demand
+pub mod Once
 pub mod Seams
 pub mod Starred
 pub mod Sample

@@ -5,6 +5,7 @@ pub mod Primitives
 pub mod Words
 pub mod Counts
 pub mod Demand
+pub mod Inside
 pub mod Levels
 pub mod Sizes
 pub mod Starred

@@ -1,4 +1,5 @@
--- Demand 3 of what the two drawing calls leave behind for the same settings and levels, read off the lists by the counts. Assumes nothing.
+-- Demand 3 of what the two drawing calls leave behind for the same settings and levels, read off the lists by the counts, and that no
+-- spot is cut twice. Assumes nothing.
 use Prim.Native.Nat.{ℕ, _+_, _*_}
 use mathlib.Core.Path.{_≡_, refl, sym, ap, _∙_}
 use mathlib.Core.Bool.{Bool, true, false, cond}
@@ -13,12 +14,13 @@ use Rattle.patch.specs.declared.settings.Settings.{Settings}
 use Rattle.patch.specs.Subdivide.{discards}
 use Rattle.drawing.specs.Words.{readPoints}
 use Rattle.drawing.specs.Demand.{Demand}
+use Rattle.drawing.specs.Inside.{SpotsOnce}
 use Rattle.job.specs.Settings.{firstUnknown}
 use Rattle.tessellate.specs.declared.answer.PointsAnswer.the-variants as points
 use Rattle.tessellate.specs.declared.answer.IndicesAnswer.the-variants as indices
-use Rattle.tessellate.specs.Answers.{Told, refused, drew, pointsOf, indicesOf, verdict}
-use Rattle.tessellate.specs.Draws.{Drew}
-use Rattle.tessellate.proofs.Together.{together}
+use Rattle.tessellate.specs.Answers.{Told, refused, drew, pointsOf, indicesOf, verdict, pointsVerdict, indicesVerdict}
+use Rattle.tessellate.specs.Draws.{Drew, pointWords, connectionWords}
+use Rattle.tessellate.proofs.Together.{together, once-together}
 use Rattle.exports.specs.Inputs.{topIn, patchIn, settingsIn}
 use Rattle.exports.specs.Replies.{unknownSetting, badTop}
 use Rattle.exports.specs.Calls.{known, Called, PointsCalled, IndicesCalled}
@@ -62,14 +64,29 @@ module _ (bs : List ℕ) (set : Settings) (p : Patch) (short need have count : �
         counted = ap (λ (c : List ℕ). getD c 0 0) (d .says .counts) ∙ ap (λ (x : Told). getD (x .values) 0 0) (k ∙ z);
       }
 
-module _ (bs : List ℕ) (xs : List Float) where
-  pub called-together : {v v′ i i′ c′ k′ : List ℕ} → PointsCalled bs xs v v′ c′ 0 → IndicesCalled bs xs i i′ k′ 0
-      → Demand (settingsIn bs) (patchIn bs xs) (readPoints (take (3 * getD c′ 0 0) v′)) (take (getD k′ 0 0) i′)
-  called-together {v} {v′} {i} {i′} d d′ =
-      let set = settingsIn bs in
-      let p = patchIn bs xs in
-      let P = pointsOf set p in
-      let I = indicesOf set p in
-      let ps = zero-drew bs set p 2 (3 * P) (length v) P d in
-      let is = zero-drew bs set p 3 I (length i) I d′ in
-      rw (ps .counted, is .counted) (together set p (points.Drawn P) (indices.Drawn I) (ps .drawn) (is .drawn) refl refl)
+module _ (bs : List ℕ) (xs : List Float) {v v′ i i′ c′ k′ : List ℕ} (d : PointsCalled bs xs v v′ c′ 0) (d′ : IndicesCalled bs xs i i′ k′ 0) where
+  abbrev set : Settings
+  set = settingsIn bs
+
+  abbrev p : Patch
+  p = patchIn bs xs
+
+  abbrev P : ℕ
+  P = pointsOf set p
+
+  abbrev I : ℕ
+  I = indicesOf set p
+
+  points-called : Drawn (pointsVerdict set p (length v)) (pointWords set p) v v′ c′ P
+  points-called = zero-drew bs set p 2 (3 * P) (length v) P d
+
+  indices-called : Drawn (indicesVerdict set p (length i)) (connectionWords set p) i i′ k′ I
+  indices-called = zero-drew bs set p 3 I (length i) I d′
+
+  pub called-together : Demand set p (readPoints (take (3 * getD c′ 0 0) v′)) (take (getD k′ 0 0) i′)
+  called-together = rw (points-called .counted, indices-called .counted)
+      (together set p (points.Drawn P) (indices.Drawn I) (points-called .drawn) (indices-called .drawn) refl refl)
+
+  pub called-once : SpotsOnce set p (readPoints (take (3 * getD c′ 0 0) v′)) (take (getD k′ 0 0) i′)
+  called-once = rw (points-called .counted, indices-called .counted)
+      (once-together set p (points.Drawn P) (indices.Drawn I) (points-called .drawn) (indices-called .drawn) refl refl)

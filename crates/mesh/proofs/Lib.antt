@@ -28,3 +28,17 @@ pub mod QuadPlaces
 pub mod Plain
 pub mod Examples
 pub mod Words
+pub mod Members
+pub mod Walk
+pub mod Stokes
+pub mod Rim
+pub mod Areas
+pub mod Sign
+pub mod Crossing
+pub mod Weights
+pub mod ExactlyOne
+pub mod TriangleCrossings
+pub mod Winds
+pub mod Whole
+pub mod Once
+pub mod SpotExamples

@@ -1,4 +1,5 @@
--- What the two drawing operations give for one patch: demand 3 of the two lists together, and the same indices for patches alike.
+-- What the two drawing operations give for one patch: demand 3 of the two lists together, no spot cut twice, and the same indices for
+-- patches alike.
 -- Assumes nothing.
 use Prim.Native.Nat.{ℕ, _+_, _*_, _≤_}
 use mathlib.Core.Path.{_≡_, refl, sym, ap, _∙_}
@@ -17,9 +18,11 @@ use Rattle.mesh.proofs.Words.{words-length}
 use Rattle.drawing.specs.Points.{points}
 use Rattle.drawing.specs.Words.{readPoints}
 use Rattle.drawing.specs.Demand.{Demand}
+use Rattle.drawing.specs.Inside.{SpotsOnce}
 use Rattle.drawing.specs.Kept.{Alike}
 use Rattle.drawing.proofs.ReadBack.{read-points}
 use Rattle.drawing.proofs.Demand.{demand}
+use Rattle.drawing.proofs.Once.{demand-once}
 use Rattle.drawing.proofs.Kept.{kept-connections}
 use Rattle.tessellate.specs.declared.answer.PointsAnswer.{PointsAnswer}
 use Rattle.tessellate.specs.declared.answer.IndicesAnswer.{IndicesAnswer}
@@ -76,6 +79,11 @@ module _ (set : Settings) (p : Patch) where
   together r s d d′ e e′ =
       let ps = points-drawn r d e in
       rw (ps .2, indices-drawn s d′ e′ .2) (demand set (ps .0) p (ps .1))
+
+  -- and no spot is cut twice
+  pub once-together : (r : PointsAnswer) (s : IndicesAnswer) {v v′ i i′ : List ℕ} {P I : ℕ} → DrewPoints set p v v′ r → DrewIndices set p i i′ s
+      → toldPoints r ≡ drew P → toldIndices s ≡ drew I → SpotsOnce set p (readPoints (take (3 * P) v′)) (take I i′)
+  once-together r s d d′ e e′ = demand-once set (points-drawn r d e .0) p (together r s d d′ e e′)
 
 -- patches that are alike get equal indices where both are drawn
 pub kept : (set set′ : Settings) (p p′ : Patch) (r r′ : IndicesAnswer) {i₀ i₁ j₀ j₁ : List ℕ} {m n : ℕ} → Alike set set′ p p′

@@ -1,0 +1,26 @@
+-- Which spots lie strictly inside a patch, and that each is held by exactly one triangle.
+-- Assumes nothing.
+use Prim.Native.Nat.{ℕ}
+use mathlib.Core.Path.{_≡_}
+use mathlib.Core.Bool.{false}
+use mathlib.Core.List.{List}
+use Rattle.patch.specs.declared.kinds.Patch.{Patch}
+use Rattle.patch.specs.declared.kinds.Patch.the-variants.{Triangles, Quads, Isolines}
+use Rattle.patch.specs.declared.settings.Settings.{Settings}
+use Rattle.patch.specs.Turn.{positive}
+use Rattle.mesh.specs.declared.Point.{Point}
+use Rattle.mesh.specs.Held.{Spot, Clear, HeldOnce}
+use Rattle.mesh.specs.Domain.{triangle, square, Within}
+use Rattle.drawing.specs.Demand.{facesIn}
+
+-- the spot lies strictly inside the patch; isolines have no inside
+abbrev pub Inside : Patch → Spot → Type 0
+Inside (Triangles a b c i) s = Within triangle s
+Inside (Quads a b c d i j) s = Within square s
+Inside (Isolines a b) s = ⊥
+
+-- no spot is cut twice: of the points and index words of a patch drawn as triangles, exactly one triangle holds any spot strictly inside
+-- that lies on no side
+abbrev pub SpotsOnce : Settings → Patch → List Point → List ℕ → Type 0
+SpotsOnce set p ps ws = set .«point_mode» ≡ false → (s : Spot) → Inside p s → Clear (facesIn ps ws) s
+    → HeldOnce (positive (set .order) (set .origin)) (facesIn ps ws) s

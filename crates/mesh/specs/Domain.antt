@@ -1,0 +1,27 @@
+-- What a patch fills, and which spots lie strictly inside it.
+-- Assumes nothing.
+use Prim.Native.Nat.{ℕ, _+_, _<_}
+use Rattle.mesh.specs.declared.Point.{Point}
+use Rattle.mesh.specs.TrianglePoints.{trianglePlace}
+use Rattle.mesh.specs.QuadPoints.{quadPlace}
+use Rattle.mesh.specs.Held.{Spot}
+
+-- a triangle, in which 196608 stands for 1, or a square, in which 65536 does
+pub data Domain : Type 0 where
+  triangle : Domain
+  square : Domain
+
+-- how many edges it has
+abbrev pub edgeCount : Domain → ℕ
+edgeCount triangle = 3
+edgeCount square = 4
+
+-- the points along its edges
+abbrev pub placeOn : Domain → ℕ → ℕ → ℕ → Point
+placeOn triangle = trianglePlace
+placeOn square = quadPlace
+
+-- the spot lies strictly inside: u, v and w are above 0; or u and v are between 0 and 1
+abbrev pub Within : Domain → Spot → Type 0
+Within triangle s = (0 < s .u) × (0 < s .v) × (s .u + s .v < 196608)
+Within square s = (0 < s .u) × (s .u < 65536) × (0 < s .v) × (s .v < 65536)
