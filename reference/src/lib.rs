@@ -10,6 +10,7 @@ pub mod clamps;
 pub mod damage;
 pub mod draw;
 pub mod edge;
+pub mod floats;
 pub mod isolines;
 pub mod job;
 pub mod level;
@@ -28,6 +29,7 @@ pub mod triangles;
 
 pub use clamps::Clamps;
 pub use draw::{draw_indices, draw_points, IndicesAnswer, PointsAnswer};
+pub use floats::{draw_with_floats, FloatsAnswer};
 pub use level::Clamp;
 pub use patch::{DomainOrigin, Patch, Settings, Spacing, VertexOrder};
 pub use tessellate::{measure, tessellate, Answer, Measure};
