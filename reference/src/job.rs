@@ -114,7 +114,7 @@ impl Record {
 
     /// Answer 8: the place of the first setting out of range; the top comes last
     /// (Ask 10).
-    fn first_bad_setting(&self) -> Option<usize> {
+    pub(crate) fn first_bad_setting(&self) -> Option<usize> {
         let known = self.settings.iter().zip(SETTING_COUNTS);
         known
             .map(|(value, count)| *value < count)

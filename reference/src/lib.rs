@@ -26,6 +26,7 @@ pub mod table;
 pub mod tessellate;
 pub mod text;
 pub mod triangles;
+pub mod writer;
 
 pub use clamps::Clamps;
 pub use draw::{draw_indices, draw_points, IndicesAnswer, PointsAnswer};
