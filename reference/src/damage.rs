@@ -14,8 +14,7 @@ const FIRST_VERSION_DAMAGES: u64 = 11;
 /// sorts, so that so many numbers in a row meet them all; everything else comes
 /// from both numbers together.
 pub fn damaged_job(seed: u64, which: u64) -> Vec<u8> {
-    let mixed_seed = Random::new(seed).next() ^ Random::new(!which).next();
-    let mut random = Random::new(mixed_seed);
+    let mut random = Random::of_both(seed, which);
     match which % DAMAGES {
         sort if sort < FIRST_VERSION_DAMAGES => first_version(sort, &mut random),
         sort => second_version(sort, &mut random),
@@ -23,7 +22,7 @@ pub fn damaged_job(seed: u64, which: u64) -> Vec<u8> {
 }
 
 /// A byte other than the one it is given.
-fn other(random: &mut Random, byte: u8) -> u8 {
+pub(crate) fn other(random: &mut Random, byte: u8) -> u8 {
     byte ^ (1 + random.below(255)) as u8
 }
 

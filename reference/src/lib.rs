@@ -20,6 +20,7 @@ pub mod output;
 pub mod patch;
 pub mod quads;
 pub mod random;
+pub mod recording;
 pub mod spots;
 pub mod strip;
 pub mod table;

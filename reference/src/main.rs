@@ -6,7 +6,7 @@ use std::io::{self, BufWriter, Read, Write};
 use std::process::ExitCode;
 
 use reference::job::Version;
-use reference::{check, damage, measures, output, random, spots, table, text};
+use reference::{check, damage, measures, output, random, recording, spots, table, text};
 
 const USAGE: &str = "usage:
   reference cut                          job file on input, answers on output
@@ -18,6 +18,8 @@ const USAGE: &str = "usage:
   reference random SEED COUNT cut 2      the answers to the second
   reference random SEED NUMBER damaged   one damaged job file on output
   reference check JOBFILE                answers on input, checked against the job file
+  reference replay                       recording on input, what replaying says on output
+  reference recording SEED NUMBER        one random recording on output
   reference spots SEED COUNT             COUNT random spots inside patches, counted
   reference table                        the positions for equal spacing on output";
 
@@ -34,6 +36,8 @@ fn main() -> ExitCode {
         ["random", seed, count, "cut", "2"] => run_random_cut(seed, count, Version::Two),
         ["random", seed, count, "damaged"] => run_damaged(seed, count),
         ["check", path] => run_check(path),
+        ["replay"] => run_replay(),
+        ["recording", seed, which] => run_recording(seed, which),
         ["spots", seed, count] => run_spots(seed, count),
         ["table"] => write_out(table::text().as_bytes()),
         _ => Err(USAGE.to_string()),
@@ -108,4 +112,13 @@ fn run_check(path: &str) -> Result<(), String> {
 fn run_spots(seed: &str, count: &str) -> Result<(), String> {
     let summary = spots::check(number(seed)?, number(count)?)?;
     write_out(format!("{summary}\n").as_bytes())
+}
+
+fn run_replay() -> Result<(), String> {
+    let replay = recording::replay(&read_in()?);
+    write_out(format!("{}\n", recording::line(&replay)).as_bytes())
+}
+
+fn run_recording(seed: &str, which: &str) -> Result<(), String> {
+    write_out(&recording::random_recording(number(seed)?, number(which)?))
 }
