@@ -6,7 +6,7 @@ use std::io::{self, BufWriter, Read, Write};
 use std::process::ExitCode;
 
 use reference::job::Version;
-use reference::{check, damage, measures, output, random, recording, spots, table, text};
+use reference::{check, damage, measures, output, random, recording, spots, table, text, verdicts};
 
 const USAGE: &str = "usage:
   reference cut                          job file on input, answers on output
@@ -21,6 +21,7 @@ const USAGE: &str = "usage:
   reference replay                       recording on input, what replaying says on output
   reference recording SEED NUMBER        one random recording on output
   reference spots SEED COUNT             COUNT random spots inside patches, counted
+  reference verdict JOBFILE              answers on input, a verdict a record on output
   reference table                        the positions for equal spacing on output";
 
 fn main() -> ExitCode {
@@ -39,6 +40,7 @@ fn main() -> ExitCode {
         ["replay"] => run_replay(),
         ["recording", seed, which] => run_recording(seed, which),
         ["spots", seed, count] => run_spots(seed, count),
+        ["verdict", path] => run_verdict(path),
         ["table"] => write_out(table::text().as_bytes()),
         _ => Err(USAGE.to_string()),
     };
@@ -103,8 +105,12 @@ fn run_damaged(seed: &str, which: &str) -> Result<(), String> {
     write_out(&damage::damaged_job(number(seed)?, number(which)?))
 }
 
+fn read_file(path: &str) -> Result<Vec<u8>, String> {
+    fs::read(path).map_err(|error| format!("{path}: {error}"))
+}
+
 fn run_check(path: &str) -> Result<(), String> {
-    let job = fs::read(path).map_err(|error| format!("{path}: {error}"))?;
+    let job = read_file(path)?;
     let summary = check::check(&job, io::stdin().lock()).map_err(|fault| fault.to_string())?;
     write_out(format!("{summary}\n").as_bytes())
 }
@@ -121,4 +127,9 @@ fn run_replay() -> Result<(), String> {
 
 fn run_recording(seed: &str, which: &str) -> Result<(), String> {
     write_out(&recording::random_recording(number(seed)?, number(which)?))
+}
+
+fn run_verdict(path: &str) -> Result<(), String> {
+    let text = io::read_to_string(io::stdin()).map_err(say)?;
+    write_out(verdicts::verdicts(&read_file(path)?, &text)?.as_bytes())
 }

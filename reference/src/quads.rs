@@ -27,7 +27,7 @@ fn plain() -> Mesh {
 
 /// Section "Quads", first part of the points: the four edges, each divided by
 /// its own level; every corner is listed once, where an edge starts.
-fn outline(outer: [Division; 4], points: &mut Vec<[u32; 3]>) -> Vec<Vec<u32>> {
+pub(crate) fn outline(outer: [Division; 4], points: &mut Vec<[u32; 3]>) -> Vec<Vec<u32>> {
     for (e, edge) in outer.iter().enumerate() {
         let q = positions(*edge);
         for along in &q[..edge.n as usize] {

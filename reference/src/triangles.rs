@@ -29,7 +29,7 @@ fn plain() -> Mesh {
 }
 
 /// Section "Triangles", outer ring: every edge is divided by its own level.
-fn outer_ring(outer: [Division; 3], points: &mut Vec<[u32; 3]>) -> Vec<Vec<u32>> {
+pub(crate) fn outer_ring(outer: [Division; 3], points: &mut Vec<[u32; 3]>) -> Vec<Vec<u32>> {
     let first = points.len() as u32;
     for e in 0..3 {
         let q = positions(outer[e]);
