@@ -17,6 +17,7 @@
 
 #include <stddef.h>
 #include <stdint.h>
+#include <string.h>
 
 #ifdef __cplusplus
 extern "C" {
@@ -171,6 +172,109 @@ YOKTVARIM_MUST_USE static inline unsigned yoktvarim_is_drawn(yoktvarim_answer an
 {
     return answer == YOKTVARIM_DRAWN;
 }
+
+/* Job files: a header of 5 bytes, then records of 29 bytes in version 1 and 30 in version 2, which carries the top. The calls below
+ * write and read them, so that no caller needs to know the order of bytes. What was written reads back as the same settings and the
+ * same bits of all six levels, and an accepted header or record, written again, is the same bytes.
+ *
+ *     uint8_t job[YOKTVARIM_HEADER_BYTES + YOKTVARIM_RECORD_BYTES];
+ *     yoktvarim_patterns patterns = yoktvarim_patterns_of(&levels);
+ *     uint32_t head, body;
+ *     if (yoktvarim_is_written(yoktvarim_write_header(2, job, sizeof job, &head)) &&
+ *         yoktvarim_is_written(yoktvarim_write_record(2, &settings, &patterns, job + head, sizeof job - head, &body)))
+ *         fwrite(job, 1, head + body, file);
+ */
+
+/* What a call answers about a job file. No other number is ever given. 0 is the one yes: ask yoktvarim_is_written or
+ * yoktvarim_is_read, not `if (answer)`. */
+typedef enum yoktvarim_job_answer {
+    YOKTVARIM_JOB_WRITTEN = 0,         /* *count bytes were written */
+    YOKTVARIM_JOB_READ = 0,            /* what 0 means of reading: a header, or a record, was read */
+    YOKTVARIM_JOB_NOT_A_JOB = 5,       /* under 5 bytes, or another mark */
+    YOKTVARIM_JOB_UNKNOWN_VERSION = 6, /* the version is neither 1 nor 2 */
+    YOKTVARIM_JOB_CUT_RECORD = 7,      /* the file ends within the record */
+    YOKTVARIM_JOB_UNKNOWN_SETTING = 8, /* a setting is out of range; its place is told beside it */
+    YOKTVARIM_JOB_NO_ROOM = 10,        /* the list is too short for a header or a record */
+    YOKTVARIM_JOB_BAD_TOP = 11,        /* of writing: the top is none that the version can hold; version 1 holds 64 only */
+    YOKTVARIM_JOB_END = 255            /* of reading a record: no byte is left, which is no refusal and no record */
+} yoktvarim_job_answer;
+
+/* How many bytes a header has, and a record at most. */
+enum {
+    YOKTVARIM_HEADER_BYTES = 5,
+    YOKTVARIM_RECORD_BYTES = 30
+};
+
+/* The bits of yoktvarim_levels. Of a record all six are kept, those that do not count for its kind too, and every bit of a NaN. */
+typedef struct yoktvarim_patterns {
+    uint32_t outer[4];
+    uint32_t inner[2];
+} yoktvarim_patterns;
+
+/* Writes the header of a job file of a version, 1 or 2, to the front of bytes, which has length bytes; *count is how many, 5.
+ * WRITTEN, UNKNOWN_VERSION, NO_ROOM. Every answer but WRITTEN leaves all bytes as they were, and has the count 0. */
+YOKTVARIM_MUST_USE yoktvarim_job_answer yoktvarim_write_header(uint32_t version, uint8_t *bytes, size_t length, uint32_t *count);
+
+/* Writes a record in the form of a version to the front of bytes; *count is how many, 29 or 30. WRITTEN; else what comes first of
+ * UNKNOWN_VERSION, BAD_TOP, UNKNOWN_SETTING and NO_ROOM. Every answer but WRITTEN leaves all bytes as they were; beside
+ * UNKNOWN_SETTING *count is the place, 0 to 4, of the first setting that is out of range, else it is 0. */
+YOKTVARIM_MUST_USE yoktvarim_job_answer yoktvarim_write_record(uint32_t version, const yoktvarim_settings *settings,
+                                                               const yoktvarim_patterns *patterns, uint8_t *bytes, size_t length,
+                                                               uint32_t *count);
+
+/* Reads the header of a job file of length bytes. READ, NOT_A_JOB, UNKNOWN_VERSION. *version is 1 or 2 beside READ, else 0. The first
+ * record is at byte 5. */
+YOKTVARIM_MUST_USE yoktvarim_job_answer yoktvarim_read_header(const uint8_t *bytes, size_t length, uint32_t *version);
+
+/* Reads the record at a place of a job file whose header said this version:
+ *
+ *     for (size_t at = YOKTVARIM_HEADER_BYTES;; at = next) {
+ *         answer = yoktvarim_read_record(bytes, length, version, at, &settings, &patterns, &next, &place);
+ *         if (answer == YOKTVARIM_JOB_END)
+ *             break;
+ *         if (yoktvarim_is_read(answer))
+ *             use(&settings, &patterns);
+ *     }
+ *
+ * READ; else END where no byte is left, whatever the version; else UNKNOWN_VERSION, CUT_RECORD or UNKNOWN_SETTING.
+ * All that is lent is always written. *next is where to read on: past the record beside READ and UNKNOWN_SETTING, else length, so
+ * that every answer but END moves on and a loop like the above ends. *place is the place of the first unknown setting, 0 to 4, or 5
+ * for the top, else 0. settings and patterns are the record's beside READ, with the top 64 in version 1. Else all of them are 0:
+ * whoever takes those for a record gets BAD_TOP from every call. */
+YOKTVARIM_MUST_USE yoktvarim_job_answer yoktvarim_read_record(const uint8_t *bytes, size_t length, uint32_t version, size_t at,
+                                                              yoktvarim_settings *settings, yoktvarim_patterns *patterns, size_t *next,
+                                                              uint32_t *place);
+
+/* 1 for YOKTVARIM_JOB_WRITTEN, 0 for every other answer. */
+YOKTVARIM_MUST_USE static inline unsigned yoktvarim_is_written(yoktvarim_job_answer answer)
+{
+    return answer == YOKTVARIM_JOB_WRITTEN;
+}
+
+/* 1 for YOKTVARIM_JOB_READ, 0 for every other answer, the end too. */
+YOKTVARIM_MUST_USE static inline unsigned yoktvarim_is_read(yoktvarim_job_answer answer)
+{
+    return answer == YOKTVARIM_JOB_READ;
+}
+
+/* The bits of levels, copied. */
+YOKTVARIM_MUST_USE static inline yoktvarim_patterns yoktvarim_patterns_of(const yoktvarim_levels *levels)
+{
+    yoktvarim_patterns patterns;
+    memcpy(&patterns, levels, sizeof patterns);
+    return patterns;
+}
+
+/* The levels of bits, copied. */
+YOKTVARIM_MUST_USE static inline yoktvarim_levels yoktvarim_levels_of(const yoktvarim_patterns *patterns)
+{
+    yoktvarim_levels levels;
+    memcpy(&levels, patterns, sizeof levels);
+    return levels;
+}
+
+YOKTVARIM_ASSERT(sizeof(yoktvarim_job_answer) == 4, "an answer is 32 bits: compile without -fshort-enums");
+YOKTVARIM_ASSERT(sizeof(yoktvarim_patterns) == sizeof(yoktvarim_levels), "a pattern for each level");
 
 /* The library reads and writes exactly this. */
 YOKTVARIM_ASSERT(sizeof(yoktvarim_answer) == 4, "an answer is 32 bits: compile without -fshort-enums");

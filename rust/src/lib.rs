@@ -22,6 +22,7 @@
 
 mod clamps;
 mod draw;
+pub mod job;
 mod measure;
 mod mesh;
 mod patch;

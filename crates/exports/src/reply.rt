@@ -16,7 +16,7 @@ pub struct Reply {
 }
 
 // A number with no values.
-fn refusal(number: u32) -> Reply
+pub fn refusal(number: u32) -> Reply
     ensures { λ r. ⌜ r ≡ record { number = number; first = 0; second = 0 } ⌝ }
 {
     Reply {

@@ -7,6 +7,9 @@ use crate::cursor::Cursor;
 use crate::version::Version;
 use crate::word::read_u16;
 
+// What a job file begins with.
+pub const MARK: [u8; 3] = *b"TSJ";
+
 pub enum Header {
     // The first record is at the cursor.
     Read { version: Version, next: Cursor },
@@ -34,7 +37,7 @@ pub fn read_header(bytes: &[u8]) -> Header
     if bytes.len() < 5 {
         return Header::NotAJob;
     }
-    if !starts_with(bytes, b"TSJ") {
+    if !starts_with(bytes, &MARK) {
         return Header::NotAJob;
     }
     let next = Cursor { at: 5 };

@@ -39,7 +39,8 @@ pub(crate) fn read_bits(bytes: &[u8], at: usize) -> LevelBits
     }
 }
 
-pub(crate) fn levels_of(bits: LevelBits) -> Levels
+// The f32 levels that the patterns stand for.
+pub fn levels_of(bits: LevelBits) -> Levels
     ensures { λ r. ⌜ r ≡ levelsOf bits ⌝ }
 {
     Levels {

@@ -5,6 +5,7 @@ mod line;
 mod number;
 mod row;
 
+pub use bytes::put_bytes;
 pub use head::put_discarded;
 pub use head::put_drawn;
 pub use head::put_refused;

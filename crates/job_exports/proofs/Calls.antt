@@ -1,0 +1,56 @@
+-- The promise of a call that writes, answer by answer. Assumes nothing.
+use Prim.Native.Nat.{ℕ, suc, _<_, _≤_}
+use mathlib.Core.Path.{_≡_, sym, _∙_}
+use mathlib.Core.Bool.{true, false}
+use mathlib.Core.List.{List}
+use borrow.Author.Tests.{lt-ltb, le-ltb}
+use Rattle.tessellate.specs.Answers.{Told, refused}
+use Rattle.tessellate.specs.Draws.{Drew}
+use Rattle.exports.specs.Inputs.{topIn}
+use Rattle.exports.specs.Replies.{unknownSetting, badTop, oneWord}
+use Rattle.exports.specs.Calls.{Says, Called}
+use Rattle.exports.proofs.Calls.{says-as}
+use Rattle.job.specs.Settings.{firstUnknown}
+use Rattle.job.specs.Version.{recordSize}
+use Rattle.job_writer.specs.Written.{takesTop}
+use Rattle.job_writer.specs.Answers.{roomVerdict, recordVerdict}
+use Rattle.job_exports.specs.Inputs.{isVersion, versionIn, recordIn}
+use Rattle.job_exports.specs.Calls.{headerSays, recordSays}
+
+module _ {t s : Told} {words l c′ : List ℕ} {r : ℕ} (is : t ≡ s) where
+  -- a refusal leaves the list as it was
+  pub kept : (k : ℕ) → s .number ≡ suc k → Says oneWord s c′ r → Called t words l l c′ r
+  kept k e said = let z : r ≡ suc k = said .number ∙ e in record { says = says-as is said; list = rw z }
+
+  -- what an operation did is what its call did
+  pub done : {told : Told} {l′ : List ℕ} → Drew told s words l l′ → Says oneWord told c′ r → Called t words l l′ c′ r
+  done d said = record { says = says-as (is ∙ sym (d .answer)) said; list = rw (said .number) (d .list) }
+
+-- ---- which answer is given
+module _ (n have : ℕ) where
+  pub header-other : isVersion n ≡ false → headerSays n have ≡ refused 6
+  unfolding headerSays
+  header-other e = rw e
+
+  pub header-known : isVersion n ≡ true → headerSays n have ≡ roomVerdict 5 have
+  unfolding headerSays
+  header-known e = rw e
+
+module _ (n : ℕ) (bs : List ℕ) (have : ℕ) where
+  pub record-other : isVersion n ≡ false → recordSays n bs have ≡ refused 6
+  unfolding recordSays
+  record-other e = rw e
+
+  module _ (e : isVersion n ≡ true) where
+    pub record-top : takesTop (versionIn n) (topIn bs) ≡ false → recordSays n bs have ≡ badTop
+    unfolding recordSays
+    record-top t = rw (e, t)
+
+    module _ (t : takesTop (versionIn n) (topIn bs) ≡ true) where
+      pub record-unknown : firstUnknown bs 0 < 5 → recordSays n bs have ≡ unknownSetting (firstUnknown bs 0)
+      unfolding recordSays
+      record-unknown h = rw (e, t, lt-ltb (firstUnknown bs 0) 5 h)
+
+      pub record-known : (ps : List ℕ) → 5 ≤ firstUnknown bs 0 → recordSays n bs have ≡ recordVerdict (versionIn n) (recordIn bs ps) have
+      unfolding recordSays
+      record-known ps h = rw (e, t, le-ltb (firstUnknown bs 0) 5 h)

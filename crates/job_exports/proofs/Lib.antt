@@ -1,0 +1,4 @@
+-- The laws of `job_exports`.
+pub mod Calls
+pub mod Places
+pub mod Again

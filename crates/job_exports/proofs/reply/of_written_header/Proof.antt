@@ -1,0 +1,25 @@
+-- Meets its contract. Assumes nothing.
+use borrow.Author.Needs.{needs}
+use mathlib.Core.Path.{sym, ap, _∙_}
+use Rattle.exports.specs.Replies.{replyOf}
+use Rattle.job_writer.specs.Answers.{toldHeader}
+use Rattle.job_exports.proofs.reply.of_written_header.Statement.{statement}
+use Rattle.job_exports.proofs.reply.of_written_header.Tie as tie
+
+enum-known-answer : tie.Need-enum-known-answer
+enum-known-answer c = search needs
+
+enum-told : tie.Need-enum-told
+enum-told c = search needs
+
+refusal-requires : tie.Need-refusal-requires
+refusal-requires c κs = search needs
+
+returns : tie.Need-returns
+returns c = ap (λ x. replyOf (toldHeader x)) (sym (c .before .answer .given .1))
+
+returns-2 : tie.Need-returns-2
+returns-2 c = c .refusal .ensures ∙ ap (λ x. replyOf (toldHeader x)) (sym (c .before .enum-told .given .1))
+
+pub of-written-header-spec : {M : Type 1} → statement M
+of-written-header-spec = tie.close (tie.spec enum-known-answer enum-told refusal-requires returns returns-2)

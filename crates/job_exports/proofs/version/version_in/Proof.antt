@@ -1,0 +1,16 @@
+-- Meets its contract. Assumes nothing.
+use borrow.Author.Tests.{eq-eqb, ne-eqb}
+use Rattle.job_exports.specs.Inputs.{versionIn}
+use Rattle.job_exports.proofs.version.version_in.Statement.{statement}
+use Rattle.job_exports.proofs.version.version_in.Tie as tie
+
+returns : tie.Need-returns
+unfolding versionIn
+returns c = rw (eq-eqb _ 1 (c .match .keys1))
+
+returns-2 : tie.Need-returns-2
+unfolding versionIn
+returns-2 c = rw (ne-eqb _ 1 (c .match .rest .1))
+
+pub version-in-spec : {M : Type 1} → statement M
+version-in-spec = tie.close (tie.spec returns returns-2)

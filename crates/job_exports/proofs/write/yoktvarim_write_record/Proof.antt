@@ -1,0 +1,131 @@
+-- Meets its contract: a return for each refusal before room, and one for what writing answers. Assumes nothing.
+use borrow.Author.Needs.{needs}
+use native.Mathlib.Omega.{arith}
+use mathlib.Core.Path.{_≡_, refl, sym, ap, _∙_}
+use mathlib.Core.Bool.{true, false}
+use Rattle.tessellate.proofs.Tops.{good, bad}
+use Rattle.exports.specs.Replies.{unknownSetting}
+use Rattle.exports.proofs.Calls.{said-one}
+use Rattle.job_exports.proofs.Calls.{kept, done, record-other, record-top, record-unknown, record-known}
+use Rattle.job_exports.proofs.write.yoktvarim_write_record.Statement.{statement}
+use Rattle.job_exports.proofs.write.yoktvarim_write_record.Tie as tie
+
+is-version-requires : tie.Need-is-version-requires
+is-version-requires c κs = search needs
+
+refusal-requires : tie.Need-refusal-requires
+refusal-requires c κs = search needs
+
+say-one-requires : tie.Need-say-one-requires
+say-one-requires c κs = search needs
+
+returns : tie.Need-returns
+returns c =
+    let version = c .before .before .before .before in
+    kept (record-other _ _ _ (bad (version .is-version .result) (version .is-version .ensures) (c .before .before .before .if1 .taken))) 5 refl
+    (said-one (c .before .before .refusal .ensures) (c .say-one .ensures))
+
+version-in-requires : tie.Need-version-in-requires
+version-in-requires c κs = search needs
+
+top-in-requires : tie.Need-top-in-requires
+top-in-requires c κs = search needs
+
+takes-top-requires : tie.Need-takes-top-requires
+takes-top-requires c κs = search needs
+
+bad-top-requires : tie.Need-bad-top-requires
+bad-top-requires c κs = search needs
+
+say-one-requires-2 : tie.Need-say-one-requires-2
+say-one-requires-2 c κs = search needs
+
+returns-2 : tie.Need-returns-2
+returns-2 c =
+    let takes = c .before .before .before .before in
+    let top = takes .before in
+    let known = top .before .before in
+    let version = known .before .before in
+    let taken = rw (known .version-in .ensures, top .top-in .ensures) at (takes .takes-top .ensures) in
+    kept
+    (record-top _ _ _ (good (version .is-version .result) (version .is-version .ensures) (known .before .if1 .left)) (bad (takes .takes-top .result) taken (c .before .before .before .if2 .taken)))
+    10 refl (said-one (c .before .before .bad-top .ensures) (c .say-one2 .ensures))
+
+first-unknown-requires : tie.Need-first-unknown-requires
+first-unknown-requires c κs = search needs
+
+unknown-setting-requires : tie.Need-unknown-setting-requires
+unknown-setting-requires c κs = search needs
+
+say-one-requires-3 : tie.Need-say-one-requires-3
+say-one-requires-3 c κs = search needs
+
+returns-3 : tie.Need-returns-3
+returns-3 c =
+    let first = c .before .before .before .before in
+    let takes = first .before .before .before in
+    let top = takes .before in
+    let known = top .before .before in
+    let version = known .before .before in
+    let taken = rw (known .version-in .ensures, top .top-in .ensures) at (takes .takes-top .ensures) in
+    let is = first .first-unknown .ensures in
+    kept
+    (record-unknown _ _ _ (good (version .is-version .result) (version .is-version .ensures) (known .before .if1 .left)) (good (takes .takes-top .result) taken (first .before .before .if2 .left))
+    (omega (arith, is, c .before .before .before .if3 .taken)))
+    7 refl (said-one (c .before .before .unknown-setting .ensures ∙ rw is) (c .say-one3 .ensures))
+
+record-in-requires : tie.Need-record-in-requires
+record-in-requires c κs = search needs
+
+write-record-requires : tie.Need-write-record-requires
+write-record-requires c κs = search needs
+
+of-written-record-requires : tie.Need-of-written-record-requires
+of-written-record-requires c κs = search needs
+
+say-one-requires-4 : tie.Need-say-one-requires-4
+say-one-requires-4 c κs = search needs
+
+same-length : tie.Need-same-length
+same-length c = search needs
+
+returns-4 : tie.Need-returns-4
+returns-4 c =
+    let asked = c .before .before .before .before .before .before .before in
+    let first = asked .before .before in
+    let takes = first .before .before .before in
+    let top = takes .before in
+    let known = top .before .before in
+    let version = known .before .before in
+    let taken = rw (known .version-in .ensures, top .top-in .ensures) at (takes .takes-top .ensures) in
+    let is = first .first-unknown .ensures in
+    let wrote = rw (known .version-in .ensures, asked .record-in .ensures) at (c .before .before .before .before .before .write-record .ensures) in
+    done
+    (record-known _ _ _ (good (version .is-version .result) (version .is-version .ensures) (known .before .if1 .left)) (good (takes .takes-top .result) taken (first .before .before .if2 .left))
+    (version .before .before .args .patterns .now) (omega (arith, is, asked .before .if3 .left)))
+    (wrote .wrote) (said-one (c .before .before .of-written-record .ensures) (c .say-one4 .ensures))
+
+pub yoktvarim-write-record-spec : {M : Type 1} → statement M
+yoktvarim-write-record-spec =
+    tie.close
+    (tie.spec
+    is-version-requires
+    refusal-requires
+    say-one-requires
+    returns
+    version-in-requires
+    top-in-requires
+    takes-top-requires
+    bad-top-requires
+    say-one-requires-2
+    returns-2
+    first-unknown-requires
+    unknown-setting-requires
+    say-one-requires-3
+    returns-3
+    record-in-requires
+    write-record-requires
+    of-written-record-requires
+    say-one-requires-4
+    same-length
+    returns-4)

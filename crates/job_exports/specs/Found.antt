@@ -1,0 +1,55 @@
+-- What a reader of a record leaves with its caller. Assumes nothing.
+use Prim.Native.Nat.{ℕ}
+use mathlib.Core.Bool.{cond}
+use mathlib.Core.List.{List, [], _∷_}
+use lib.ListN.{length}
+use Rattle.job.specs.declared.levels.LevelBits.{LevelBits}
+use Rattle.job.specs.declared.record.Record.{Record}
+use Rattle.job.specs.declared.next.NextRecord.{NextRecord}
+use Rattle.job.specs.declared.next.NextRecord.the-variants.{Read, End, CutRecord, UnknownSetting}
+use Rattle.job.specs.Records.{recordAt, atEnd}
+use Rattle.job_writer.specs.Written.{kindByte, spacingByte, orderByte, originByte, switchByte}
+use Rattle.job_exports.specs.declared.found.Found.{Found}
+use Rattle.job_exports.specs.Inputs.{isVersion, versionIn}
+
+-- the number for the end, which is no refusal; no answer of the customer's table has it
+abbrev pub endNumber : ℕ
+endNumber = 255
+
+-- the six setting bytes of a record, the top level last
+abbrev pub settingsOut : Record → List ℕ
+settingsOut r =
+    kindByte (r .kind) ∷ spacingByte (r .settings .spacing) ∷ orderByte (r .settings .order) ∷ originByte (r .settings .origin)
+    ∷ switchByte (r .settings .«point_mode») ∷ r .settings .top ∷ []
+
+-- its six bit patterns: outer one to four, inner one and two
+abbrev pub patternsOut : LevelBits → List ℕ
+patternsOut b = b .outer0 ∷ b .outer1 ∷ b .outer2 ∷ b .outer3 ∷ b .inner0 ∷ b .inner1 ∷ []
+
+-- six zeros, where no record was read: as settings they have a bad top, as levels they discard
+abbrev pub zeros : List ℕ
+zeros = 0 ∷ 0 ∷ 0 ∷ 0 ∷ 0 ∷ 0 ∷ []
+
+-- no record was read
+abbrev pub nothing : ℕ → ℕ → ℕ → Found
+nothing number place next = record { number = number; place = place; next = next; settings = zeros; patterns = zeros }
+
+-- what each thing at a cursor comes to, in a file of so many bytes: reading goes on after a record, and past a cut one at the end
+abbrev pub foundOf : ℕ → NextRecord → Found
+foundOf end (Read r next) = record { number = 0; place = 0; next = next .at; settings = settingsOut r; patterns = patternsOut (r .bits) }
+foundOf end End = nothing endNumber 0 end
+foundOf end CutRecord = nothing 7 0 end
+foundOf end (UnknownSetting place next) = nothing 8 place (next .at)
+
+-- what stands at a place of a file whose version has the number n: the end is told first, then an unknown version
+unfoldable pub foundAt : ℕ → List ℕ → ℕ → Found
+foundAt n bs at =
+    cond (atEnd bs at) (nothing endNumber 0 (length bs))
+    (cond (isVersion n) (foundOf (length bs) (recordAt (versionIn n) bs at)) (nothing 6 0 (length bs)))
+
+-- the number in it that becomes a smaller one: a record's top, or a place
+abbrev pub numberIn : NextRecord → ℕ
+numberIn (Read r next) = r .settings .top
+numberIn End = 0
+numberIn CutRecord = 0
+numberIn (UnknownSetting place next) = place

@@ -1,0 +1,37 @@
+-- What a caller hands over: a version's number, six setting bytes and six bit patterns. Assumes nothing.
+use Prim.Native.Nat.{ℕ}
+use mathlib.Core.Bool.{Bool, cond, _||_}
+use mathlib.Core.List.{List}
+use lib.Dec.{eqb}
+use lib.ListN.{getD}
+use Rattle.job.specs.Bytes.{byteAt}
+use Rattle.job.specs.Settings.{kindOf}
+use Rattle.job.specs.declared.version.Version.{Version}
+use Rattle.job.specs.declared.version.Version.the-variants.{One, Two}
+use Rattle.job.specs.declared.levels.LevelBits.{LevelBits}
+use Rattle.job.specs.declared.record.Record.{Record}
+use Rattle.job_writer.specs.Patterns.{recordOfBits}
+use Rattle.exports.specs.Inputs.{settingsIn}
+
+-- 6 applies to every other number
+unfoldable pub isVersion : ℕ → Bool
+isVersion n = eqb n 1 || eqb n 2
+
+-- the version of a number that is one
+unfoldable pub versionIn : ℕ → Version
+versionIn n = cond (eqb n 1) One Two
+
+-- the bit patterns in the order of a record: outer one to four, inner one and two
+abbrev pub bitsIn : List ℕ → LevelBits
+bitsIn ps = record {
+  outer0 = getD ps 0 0;
+  outer1 = getD ps 1 0;
+  outer2 = getD ps 2 0;
+  outer3 = getD ps 3 0;
+  inner0 = getD ps 4 0;
+  inner1 = getD ps 5 0;
+}
+
+-- the record that setting bytes bs and patterns ps stand for
+abbrev pub recordIn : List ℕ → List ℕ → Record
+recordIn bs ps = recordOfBits (kindOf (byteAt bs 0)) (settingsIn bs) (bitsIn ps)

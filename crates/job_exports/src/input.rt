@@ -1,0 +1,32 @@
+// The record that a caller's settings and patterns stand for.
+ghost use mathlib.Core.Path.{_≡_};
+ghost use Rattle.job_exports.specs.Inputs.{bitsIn, recordIn};
+use exports::input::top_in;
+use job::levels::LevelBits;
+use job::record::Record;
+use job::setting::kind_of;
+use job::setting::read_settings;
+use job_writer::level_bits::record_of_bits;
+
+fn bits_in(patterns: &[u32; 6]) -> LevelBits
+    ensures { λ r. ⌜ r ≡ bitsIn (now (patterns .entry)) ⌝ }
+{
+    LevelBits {
+        outer0: patterns[0],
+        outer1: patterns[1],
+        outer2: patterns[2],
+        outer3: patterns[3],
+        inner0: patterns[4],
+        inner1: patterns[5],
+    }
+}
+
+pub fn record_in(settings: &[u8; 6], patterns: &[u32; 6]) -> Record
+    ensures { λ r. ⌜ r ≡ recordIn (now (settings .entry)) (now (patterns .entry)) ⌝ }
+{
+    let kind = kind_of(settings[0]);
+    let top = top_in(settings);
+    let set = read_settings(settings, 0, top);
+    let bits = bits_in(patterns);
+    record_of_bits(kind, set, bits)
+}

@@ -1,0 +1,20 @@
+// A version by its number.
+ghost use mathlib.Core.Path.{_≡_};
+ghost use Rattle.job_exports.specs.Inputs.{isVersion, versionIn};
+use job::version::Version;
+
+pub fn is_version(number: u32) -> bool
+    ensures { λ r. ⌜ r ≡ isVersion number ⌝ }
+{
+    (number == 1) | (number == 2)
+}
+
+// The version of a number that is one.
+pub fn version_in(number: u32) -> Version
+    ensures { λ r. ⌜ r ≡ versionIn number ⌝ }
+{
+    match number {
+        1 => Version::One,
+        _ => Version::Two,
+    }
+}

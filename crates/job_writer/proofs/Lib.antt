@@ -1,0 +1,13 @@
+-- The laws of `job_writer`.
+pub mod Floats
+pub mod LowBytes
+pub mod Lengths
+pub mod Has
+pub mod SettingBytes
+pub mod LevelBytes
+pub mod Tops
+pub mod Headers
+pub mod RoundTrip
+pub mod WholeFiles
+pub mod Answered
+pub mod Rewritten

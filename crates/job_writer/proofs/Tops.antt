@@ -1,0 +1,42 @@
+-- The top level of a record and its byte, in each version. Assumes nothing.
+use Prim.Native.Nat.{ℕ, zero, suc, _+_, _≤_, _<_}
+use native.Mathlib.Nat.{add-zero}
+use native.Mathlib.Omega.{arith}
+use mathlib.Core.Path.{_≡_, refl, sym}
+use mathlib.Core.Bool.{true}
+use mathlib.Core.List.{List, [], _∷_}
+use borrow.Author.Tests.{eqb-true}
+use lib.ListN.{length, getD}
+use Rattle.job.specs.declared.version.Version.{Version}
+use Rattle.job.specs.declared.version.Version.the-variants.{One, Two}
+use Rattle.job.specs.Bytes.{byteAt}
+use Rattle.job.specs.Version.{recordSize}
+use Rattle.job.specs.Settings.{choices, AllBelow}
+use Rattle.job.specs.Tops.{topAt, AllKnown}
+use Rattle.job_writer.specs.Written.{takesTop, topBytes}
+use Rattle.job_writer.proofs.Has.{Has, has-byte, has-all}
+
+module _ (bs : List ℕ) (at : ℕ) where
+  -- the top level that was written is read
+  pub top-back : (v : Version) (t : ℕ) → takesTop v t ≡ true → Has bs (at + 5) (topBytes v t) → topAt v bs at ≡ t
+  top-back One t h p = sym (eqb-true t 64 h)
+  top-back Two t h p = rw (add-zero (at + 5)) at (has-byte p 0 (omega arith))
+
+  -- it is in range with the other setting bytes
+  pub top-known : (v : Version) (t : ℕ) → takesTop v t ≡ true → topAt v bs at ≡ t → AllBelow choices bs at → AllKnown v bs at
+  top-known One t h e a = a
+  top-known Two t h e a = (a, rw e h)
+
+  -- where all are in range the version takes the top level that is read
+  pub top-taken : (v : Version) → AllKnown v bs at → (AllBelow choices bs at) × (takesTop v (topAt v bs at) ≡ true)
+  top-taken One a = (a, refl)
+  top-taken Two a = a
+
+  -- and it stands where it was read
+  pub top-again : (v : Version) → at + recordSize v ≤ length bs → Has bs (at + 5) (topBytes v (topAt v bs at))
+  top-again One h = record { is = refl }
+  top-again Two h = has-all bs (at + 5) (byteAt bs (at + 5) ∷ []) (omega arith) same
+    where
+      same : (i : ℕ) → i < 1 → byteAt bs (at + 5 + i) ≡ getD (byteAt bs (at + 5) ∷ []) i 0
+      same zero l = rw (add-zero (at + 5))
+      same (suc i) l = absurd (omega arith)

@@ -1,0 +1,56 @@
+-- What a writer has to say, and the list that it leaves. Assumes nothing.
+use Prim.Native.Nat.{ℕ}
+use mathlib.Core.Path.{_≡_}
+use mathlib.Core.Bool.{cond}
+use mathlib.Core.List.{List}
+use lib.Dec.{ltb}
+use lib.ListN.{length}
+use Rattle.tessellate.specs.Answers.{Told, refused, drew}
+use Rattle.tessellate.specs.Draws.{Drew}
+use Rattle.job.specs.declared.version.Version.{Version}
+use Rattle.job.specs.declared.record.Record.{Record}
+use Rattle.job.specs.declared.header.Header.the-variants as read-header
+use Rattle.job.specs.declared.next.NextRecord.the-variants.{Read}
+use Rattle.job.specs.Version.{recordSize}
+use Rattle.job.specs.Header.{start, headerOf}
+use Rattle.job.specs.Records.{recordAt, after}
+use Rattle.job_writer.specs.declared.answer.HeaderWritten.{HeaderWritten}
+use Rattle.job_writer.specs.declared.answer.HeaderWritten.the-variants as header
+use Rattle.job_writer.specs.declared.answer.RecordWritten.{RecordWritten}
+use Rattle.job_writer.specs.declared.answer.RecordWritten.the-variants as «record»
+use Rattle.job_writer.specs.Written.{headerBytes, takesTop, recordBytes}
+use Rattle.job_writer.specs.Whole.{reread}
+
+-- n bytes were written: 0, as where something was drawn
+abbrev pub wrote : ℕ → Told
+wrote n = drew n
+
+-- what each answer says
+abbrev pub toldHeader : HeaderWritten → Told
+toldHeader (header.Written n) = wrote n
+toldHeader header.NoRoom = refused 10
+
+abbrev pub toldRecord : RecordWritten → Told
+toldRecord («record».Written n) = wrote n
+toldRecord «record».NoRoom = refused 10
+toldRecord «record».BadTop = refused 11
+
+-- what is to be said where `size` bytes are to go into a list of `have`
+abbrev pub roomVerdict : ℕ → ℕ → Told
+roomVerdict size have = cond (ltb have size) (refused 10) (wrote size)
+
+-- a record's: a bad top level first
+abbrev pub recordVerdict : Version → Record → ℕ → Told
+recordVerdict v r have = cond (takesTop v (r .settings .top)) (roomVerdict (recordSize v) have) (refused 11)
+
+-- writing a header: xs and xs′ are the list at entry and at exit; 5 bytes at the front and not one more, or the list as it was
+pub record WroteHeader (v : Version) (xs xs′ : List ℕ) (r : HeaderWritten) : Type 0 where
+  pub wrote : Drew (toldHeader r) (roomVerdict 5 (length xs)) (headerBytes v) xs xs′
+  -- what was written is read as the version
+  pub back : toldHeader r .number ≡ 0 → headerOf xs′ ≡ read-header.Read v start
+
+-- writing a record: 29 or 30 bytes, which hold the record's bit patterns, whatever its f32 levels are
+pub record WroteRecord (v : Version) (x : Record) (xs xs′ : List ℕ) (r : RecordWritten) : Type 0 where
+  pub wrote : Drew (toldRecord r) (recordVerdict v x (length xs)) (recordBytes v x) xs xs′
+  -- what was written is read as the same kind, settings and bit patterns
+  pub back : toldRecord r .number ≡ 0 → recordAt v xs′ 0 ≡ Read (reread x) (after v 0)

@@ -1,0 +1,26 @@
+-- A whole file written by one call after the other: the bytes that each said it wrote, in their order. Assumes nothing.
+use Prim.Native.Nat.{ℕ}
+use mathlib.Core.Path.{_≡_}
+use mathlib.Core.List.{List, [], _∷_, _++_}
+use lib.ListN.{take}
+use Rattle.job.specs.declared.version.Version.{Version}
+use Rattle.job.specs.declared.record.Record.{Record}
+use Rattle.job_writer.specs.declared.answer.HeaderWritten.the-variants as header
+use Rattle.job_writer.specs.declared.answer.RecordWritten.the-variants.{Written}
+use Rattle.job_writer.specs.Answers.{WroteHeader, WroteRecord}
+
+-- the bytes ys were written by a call for each record, each into a list of its own or a part of one
+pub data RecordsInTurn (v : Version) : List Record → List ℕ → Type 0 where
+  none : RecordsInTurn v [] []
+  more : {x : Record} {xs : List Record} {l l′ ys : List ℕ} {n : ℕ} → WroteRecord v x l l′ (Written n) → RecordsInTurn v xs ys
+      → RecordsInTurn v (x ∷ xs) (take n l′ ++ ys)
+
+-- the bytes bs were written by a call for the header and then one for each record
+pub record FileInTurn (v : Version) (xs : List Record) (bs : List ℕ) : Type 0 where
+  pub l : List ℕ
+  pub l′ : List ℕ
+  pub n : ℕ
+  pub ys : List ℕ
+  pub header : WroteHeader v l l′ (header.Written n)
+  pub records : RecordsInTurn v xs ys
+  pub is : bs ≡ take n l′ ++ ys

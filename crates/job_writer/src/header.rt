@@ -1,0 +1,23 @@
+// Writes the header of a job file.
+ghost use Rattle.job_writer.specs.Answers.{WroteHeader};
+use crate::answer::HeaderWritten;
+use crate::put::put_u16;
+use job::header::MARK;
+use job::version::Version;
+use job::version::version_number;
+use text::put_bytes;
+
+// The mark that reading compares with, and the version's number.
+pub fn write_header(out: &mut [u8], version: Version) -> HeaderWritten
+    ensures { λ r. ⌜ WroteHeader version (now (out .entry)) (now (out .exit)) r ⌝ }
+{
+    if out.len() < 5 {
+        return HeaderWritten::NoRoom;
+    }
+    let number = version_number(version) as u16;
+    let next = put_bytes(out, 0, &MARK);
+    let count = put_u16(out, next, number);
+    HeaderWritten::Written {
+        count: count as u32,
+    }
+}
