@@ -41,6 +41,7 @@ typedef enum yoktvarim_answer {
     YOKTVARIM_NO_ROOM_FOR_VERTICES = 3, /* the vertex list has under 3 words a point */
     YOKTVARIM_NO_ROOM_FOR_INDICES = 4,  /* the index list is too short */
     YOKTVARIM_UNKNOWN_SETTING = 8,      /* the count is the place, 0 to 4, of the first setting that is out of range */
+    YOKTVARIM_NO_ROOM_FOR_FLOATS = 9,   /* the float list has under 3 words a point */
     YOKTVARIM_BAD_TOP = 11              /* the top is not an even number from 2 to 64 */
 } yoktvarim_answer;
 
@@ -275,6 +276,18 @@ YOKTVARIM_MUST_USE static inline yoktvarim_levels yoktvarim_levels_of(const yokt
 
 YOKTVARIM_ASSERT(sizeof(yoktvarim_job_answer) == 4, "an answer is 32 bits: compile without -fshort-enums");
 YOKTVARIM_ASSERT(sizeof(yoktvarim_patterns) == sizeof(yoktvarim_levels), "a pattern for each level");
+/* Draws points, indices and floats by one call, into all three lists or none: all room is tested before anything is written.
+ * vertices and indices get what yoktvarim_draw_points and yoktvarim_draw_indices write; floats, which has float_words words, gets
+ * the three coordinates of each point once more, each as a float from 0 to 1: the whole number divided once by
+ * YOKTVARIM_ONE_IN_TRIANGLES or YOKTVARIM_ONE_IN_QUADS. For quads and isolines that is exact; for triangles it differs from the
+ * quotient by at most 2^-25, and 0 and 1 are exact. A greater coordinate is a greater float. The three floats of a triangle's point
+ * need not add up to 1.
+ * Beside DRAWN counts[0] is the number of points and counts[1] that of indices; 3 * counts[0] floats were written.
+ * DRAWN, DISCARDED, NO_ROOM_FOR_VERTICES, NO_ROOM_FOR_INDICES, UNKNOWN_SETTING, NO_ROOM_FOR_FLOATS or BAD_TOP. */
+YOKTVARIM_MUST_USE yoktvarim_answer yoktvarim_draw_with_floats(const yoktvarim_settings *settings, const yoktvarim_levels *levels,
+                                                               uint32_t *vertices, size_t vertex_words, uint16_t *indices,
+                                                               size_t index_words, float *floats, size_t float_words,
+                                                               uint32_t *counts);
 
 /* The library reads and writes exactly this. */
 YOKTVARIM_ASSERT(sizeof(yoktvarim_answer) == 4, "an answer is 32 bits: compile without -fshort-enums");

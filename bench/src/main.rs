@@ -1,5 +1,5 @@
 //! Speed of drawing: `bench` prints times as ratios, `bench draw CASE TIMES` draws one case for an instruction counter. A draw
-//! is both calls, that for points and that for indices.
+//! is both calls, that for points and that for indices; `bench floats CASE TIMES` draws by the one call with floats.
 
 mod cases;
 mod proved;
@@ -96,21 +96,24 @@ fn ratios() {
 }
 
 /// Draws case number `case` so many times, for an instruction counter.
-fn draw(case: usize, times: usize) {
+fn repeat(call: impl Fn(&Case, &mut Lists) -> (usize, usize), case: &str, times: &str) {
+    let case = &CASES[case.parse::<usize>().expect("a case")];
     let mut lists = Lists::new();
-    for _ in 0..times {
-        black_box(proved::draw(&CASES[case], &mut lists));
+    for _ in 0..times.parse().expect("a number") {
+        black_box(call(case, &mut lists));
     }
 }
 
-/// The cases' names with the instructions that are the goal, for the script that counts.
+/// The cases' names with the instructions that are the goal and the floats of a draw, for the script that counts.
 fn list() {
+    let mut lists = Lists::new();
     for (number, case) in CASES.iter().enumerate() {
         let goal = case
             .mesa
             .map_or("-".to_string(), |mesa| (mesa / case.part).to_string());
         let mesa = case.mesa.map_or("-".to_string(), |mesa| mesa.to_string());
-        println!("{number};{};{mesa};{goal}", case.name);
+        let (points, _) = proved::draw(case, &mut lists);
+        println!("{number};{};{mesa};{goal};{}", case.name, 3 * points);
     }
 }
 
@@ -119,10 +122,8 @@ fn main() {
     match words.iter().map(String::as_str).collect::<Vec<_>>()[..] {
         [] => ratios(),
         ["list"] => list(),
-        ["draw", case, times] => draw(
-            case.parse().expect("a case"),
-            times.parse().expect("a number"),
-        ),
-        _ => panic!("usage: bench | bench list | bench draw CASE TIMES"),
+        ["draw", case, times] => repeat(proved::draw, case, times),
+        ["floats", case, times] => repeat(proved::draw_with_floats, case, times),
+        _ => panic!("usage: bench | bench list | bench draw CASE TIMES | bench floats CASE TIMES"),
     }
 }

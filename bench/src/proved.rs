@@ -18,12 +18,25 @@ extern "C" {
         indices_length: usize,
         count: *mut u32,
     ) -> u32;
+
+    fn yoktvarim_draw_with_floats(
+        settings: *const u8,
+        levels: *const f32,
+        vertices: *mut u32,
+        vertices_length: usize,
+        indices: *mut u16,
+        indices_length: usize,
+        floats: *mut f32,
+        floats_length: usize,
+        counts: *mut u32,
+    ) -> u32;
 }
 
 /// Full-size lists, cleared once.
 pub struct Lists {
     pub vertices: Vec<u32>,
     pub indices: Vec<u16>,
+    pub floats: Vec<f32>,
 }
 
 impl Lists {
@@ -31,6 +44,7 @@ impl Lists {
         Lists {
             vertices: vec![0; 12_675],
             indices: vec![0; 24_576],
+            floats: vec![0.0; 12_675],
         }
     }
 }
@@ -69,4 +83,24 @@ fn draw_indices(case: &Case, indices: &mut [u16]) -> usize {
 pub fn draw(case: &Case, lists: &mut Lists) -> (usize, usize) {
     let points = draw_points(case, &mut lists.vertices);
     (points, draw_indices(case, &mut lists.indices))
+}
+
+/// Draws a case with floats, by one call.
+pub fn draw_with_floats(case: &Case, lists: &mut Lists) -> (usize, usize) {
+    let mut counts = [0; 2];
+    let answer = unsafe {
+        yoktvarim_draw_with_floats(
+            case.settings.as_ptr(),
+            case.levels.as_ptr(),
+            lists.vertices.as_mut_ptr(),
+            lists.vertices.len(),
+            lists.indices.as_mut_ptr(),
+            lists.indices.len(),
+            lists.floats.as_mut_ptr(),
+            lists.floats.len(),
+            counts.as_mut_ptr(),
+        )
+    };
+    assert_eq!(answer, 0, "{} is drawn with floats", case.name);
+    (counts[0] as usize, counts[1] as usize)
 }

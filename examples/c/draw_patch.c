@@ -1,5 +1,5 @@
 /* Draws one triangle patch and prints it, measures it and one with clamped levels at two tops, meets each answer that is no
- * drawing, and draws points again over indices that are kept. */
+ * drawing, draws points again over indices that are kept, and draws with floats. */
 #include <inttypes.h>
 #include <stdio.h>
 
@@ -7,6 +7,7 @@
 
 static uint32_t vertices[YOKTVARIM_VERTEX_WORDS];
 static uint16_t indices[YOKTVARIM_INDEX_WORDS];
+static float floats[YOKTVARIM_VERTEX_WORDS];
 
 /* Draws into lists of so many words, into both or neither: the room for both is tested before anything is written. */
 static yoktvarim_answer draw(const yoktvarim_settings *settings, const yoktvarim_levels *levels, size_t vertex_words,
@@ -26,11 +27,10 @@ static yoktvarim_answer draw(const yoktvarim_settings *settings, const yoktvarim
     return yoktvarim_draw_indices(settings, levels, indices, index_words, &counts[1]);
 }
 
-/* Draws into lists of so many words, and prints what came of it: a line a point, then a line a triangle. */
-static void show(const yoktvarim_settings *settings, const yoktvarim_levels *levels, size_t vertex_words, size_t index_words)
+/* Prints what a drawing into both lists came to: a line a point, then a line a triangle. */
+static void show_answer(yoktvarim_answer answer, const uint32_t *counts)
 {
-    uint32_t counts[2];
-    switch (draw(settings, levels, vertex_words, index_words, counts)) {
+    switch (answer) {
     case YOKTVARIM_DRAWN:
         printf("drawn %" PRIu32 " %" PRIu32 "\n", counts[0], counts[1]);
         for (uint32_t p = 0; p < counts[0]; p++)
@@ -50,10 +50,33 @@ static void show(const yoktvarim_settings *settings, const yoktvarim_levels *lev
     case YOKTVARIM_UNKNOWN_SETTING:
         printf("unknown setting at place %" PRIu32 "\n", counts[0]);
         break;
+    case YOKTVARIM_NO_ROOM_FOR_FLOATS:
+        printf("no room for floats\n");
+        break;
     case YOKTVARIM_BAD_TOP:
         printf("bad top\n");
         break;
     }
+}
+
+/* Draws into lists of so many words, and prints what came of it. */
+static void show(const yoktvarim_settings *settings, const yoktvarim_levels *levels, size_t vertex_words, size_t index_words)
+{
+    uint32_t counts[2];
+    yoktvarim_answer answer = draw(settings, levels, vertex_words, index_words, counts);
+    show_answer(answer, counts);
+}
+
+/* Draws with floats, into all three lists or none, and prints what came of it: a line of floats for each point, last. */
+static void show_floats(const yoktvarim_settings *settings, const yoktvarim_levels *levels, size_t float_words)
+{
+    uint32_t counts[2];
+    yoktvarim_answer answer = yoktvarim_draw_with_floats(settings, levels, vertices, YOKTVARIM_VERTEX_WORDS, indices,
+                                                         YOKTVARIM_INDEX_WORDS, floats, float_words, counts);
+    show_answer(answer, counts);
+    /* Counts are 0 where nothing was drawn. */
+    for (uint32_t p = 0; p < counts[0]; p++)
+        printf("%.9g %.9g %.9g\n", (double)floats[3 * p], (double)floats[3 * p + 1], (double)floats[3 * p + 2]);
 }
 
 /* The word for a byte of yoktvarim_clamps. */
@@ -137,6 +160,10 @@ int main(void)
 
     if (!slide(settings))
         return 1;
+
+    /* The same four points as floats: a third is no f32, so the centre has the nearest there is. A float less is refused. */
+    show_floats(&settings, &levels, YOKTVARIM_VERTEX_WORDS);
+    show_floats(&settings, &levels, 3 * 4 - 1);
 
     levels.outer[1] = 0;
     show(&settings, &levels, YOKTVARIM_VERTEX_WORDS, YOKTVARIM_INDEX_WORDS);

@@ -23,6 +23,7 @@
 mod clamps;
 mod draw;
 pub mod job;
+pub mod floats;
 mod measure;
 mod mesh;
 mod patch;

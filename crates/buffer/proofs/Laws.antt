@@ -9,170 +9,171 @@ use lib.ListN.{length, take, drop, set, length-append, length-take, length-drop,
 use lib.Seq.{set-split, take-append-add, drop-append-add, take-append-seam, drop-drop}
 use Rattle.buffer.specs.Over.{over, Wrote, flat}
 
--- nothing written
-pub over-none : (xs : List ℕ) (at : ℕ) → over xs at [] ≡ xs
-unfolding over
-over-none xs at = rw add-zero (take-append-drop at xs)
+module _ {A : Type 0} where
+  -- nothing written
+  pub over-none : (xs : List A) (at : ℕ) → over xs at [] ≡ xs
+  unfolding over
+  over-none xs at = rw add-zero (take-append-drop at xs)
 
--- a list that fits leaves the length
-pub over-length : (xs : List ℕ) (at : ℕ) (ys : List ℕ) → at + length ys ≤ length xs → length (over xs at ys) ≡ length xs
-unfolding over
-over-length xs at ys h = simp (length-append, length-take, length-drop) (omega arith)
+  -- a list that fits leaves the length
+  pub over-length : (xs : List A) (at : ℕ) (ys : List A) → at + length ys ≤ length xs → length (over xs at ys) ≡ length xs
+  unfolding over
+  over-length xs at ys h = simp (length-append, length-take, length-drop) (omega arith)
 
--- one store
-pub over-set : (xs : List ℕ) (i v : ℕ) → i < length xs → set xs i v ≡ over xs i (v ∷ [])
-unfolding over
-over-set xs i v h = rw add-one (set-split xs i v h)
+  -- one store
+  pub over-set : (xs : List A) (i : ℕ) (v : A) → i < length xs → set xs i v ≡ over xs i (v ∷ [])
+  unfolding over
+  over-set xs i v h = rw add-one (set-split xs i v h)
 
--- a list, and another right after it
-pub over-over : (xs : List ℕ) (at : ℕ) (ys zs : List ℕ) → at ≤ length xs → over (over xs at ys) (at + length ys) zs ≡ over xs at (ys ++ zs)
-unfolding over
-over-over xs at ys zs h =
-    let P = take at xs in
-    let D = drop (at + length ys) xs in
-    let p : length P ≡ at = omega (arith, length-take at xs) in
-    let front : take (at + length ys) (P ++ (ys ++ D)) ≡ P ++ ys =
-    ap (λ (k : ℕ). take (k + length ys) (P ++ (ys ++ D))) (sym p) ∙ take-append-add P (ys ++ D) (length ys) ∙ ap (λ (l : List ℕ). P ++ l) (take-append-seam ys D) in
-    let back : drop (at + length ys + length zs) (P ++ (ys ++ D)) ≡ drop (at + length ys + length zs) xs =
-    ap (λ (k : ℕ). drop k (P ++ (ys ++ D))) (add-assoc at (length ys) (length zs) ∙ ap (λ (k : ℕ). k + (length ys + length zs)) (sym p))
-    ∙ drop-append-add P (ys ++ D) (length ys + length zs) ∙ drop-append-add ys D (length zs) ∙ drop-drop (length zs) (at + length ys) xs in
-    rw (front, back, length-append) (simp (append-assoc, add-assoc))
+  -- a list, and another right after it
+  pub over-over : (xs : List A) (at : ℕ) (ys zs : List A) → at ≤ length xs → over (over xs at ys) (at + length ys) zs ≡ over xs at (ys ++ zs)
+  unfolding over
+  over-over xs at ys zs h =
+      let P = take at xs in
+      let D = drop (at + length ys) xs in
+      let p : length P ≡ at = omega (arith, length-take at xs) in
+      let front : take (at + length ys) (P ++ (ys ++ D)) ≡ P ++ ys =
+      ap (λ (k : ℕ). take (k + length ys) (P ++ (ys ++ D))) (sym p) ∙ take-append-add P (ys ++ D) (length ys) ∙ ap (λ (l : List A). P ++ l) (take-append-seam ys D) in
+      let back : drop (at + length ys + length zs) (P ++ (ys ++ D)) ≡ drop (at + length ys + length zs) xs =
+      ap (λ (k : ℕ). drop k (P ++ (ys ++ D))) (add-assoc at (length ys) (length zs) ∙ ap (λ (k : ℕ). k + (length ys + length zs)) (sym p))
+      ∙ drop-append-add P (ys ++ D) (length ys + length zs) ∙ drop-append-add ys D (length zs) ∙ drop-drop (length zs) (at + length ys) xs in
+      rw (front, back, length-append) (simp (append-assoc, add-assoc))
 
--- a list, and a store right after it
-pub over-more : (xs : List ℕ) (at : ℕ) (ys : List ℕ) (v : ℕ) → at + length ys < length xs → set (over xs at ys) (at + length ys) v ≡ over xs at (ys ++ (v ∷ []))
-over-more xs at ys v h = over-set (over xs at ys) (at + length ys) v (omega (arith, over-length xs at ys (omega arith))) ∙ over-over xs at ys (v ∷ []) (omega arith)
+  -- a list, and a store right after it
+  pub over-more : (xs : List A) (at : ℕ) (ys : List A) (v : A) → at + length ys < length xs → set (over xs at ys) (at + length ys) v ≡ over xs at (ys ++ (v ∷ []))
+  over-more xs at ys v h = over-set (over xs at ys) (at + length ys) v (omega (arith, over-length xs at ys (omega arith))) ∙ over-over xs at ys (v ∷ []) (omega arith)
 
--- two stores
-pub over-two : (xs : List ℕ) (at x y : ℕ) → at + 2 ≤ length xs → set (set xs at x) (at + 1) y ≡ over xs at (x ∷ y ∷ [])
-over-two xs at x y h = rw (over-set xs at x (omega arith), over-more xs at (x ∷ []) y (omega arith))
+  -- two stores
+  pub over-two : (xs : List A) (at : ℕ) (x y : A) → at + 2 ≤ length xs → set (set xs at x) (at + 1) y ≡ over xs at (x ∷ y ∷ [])
+  over-two xs at x y h = rw (over-set xs at x (omega arith), over-more xs at (x ∷ []) y (omega arith))
 
--- three stores
-pub over-three : (xs : List ℕ) (at x y z : ℕ) → at + 3 ≤ length xs → set (set (set xs at x) (at + 1) y) (at + 2) z ≡ over xs at (x ∷ y ∷ z ∷ [])
-over-three xs at x y z h = rw (over-set xs at x (omega arith), over-more xs at (x ∷ []) y (omega arith), over-more xs at (x ∷ y ∷ []) z (omega arith))
+  -- three stores
+  pub over-three : (xs : List A) (at : ℕ) (x y z : A) → at + 3 ≤ length xs → set (set (set xs at x) (at + 1) y) (at + 2) z ≡ over xs at (x ∷ y ∷ z ∷ [])
+  over-three xs at x y z h = rw (over-set xs at x (omega arith), over-more xs at (x ∷ []) y (omega arith), over-more xs at (x ∷ y ∷ []) z (omega arith))
 
--- the words at the front, read back
-pub over-front : (xs ys : List ℕ) (n : ℕ) → n ≡ length ys → take n (over xs 0 ys) ≡ ys
-unfolding over
-over-front xs ys n e = rw e (take-append-seam ys (drop (0 + length ys) xs))
+  -- the words at the front, read back
+  pub over-front : (xs ys : List A) (n : ℕ) → n ≡ length ys → take n (over xs 0 ys) ≡ ys
+  unfolding over
+  over-front xs ys n e = rw e (take-append-seam ys (drop (0 + length ys) xs))
 
--- nothing written
-pub wrote-none : (xs : List ℕ) (at : ℕ) → Wrote xs at [] xs at
-wrote-none xs at = record { is = sym (over-none xs at); next = omega arith }
+  -- nothing written
+  pub wrote-none : (xs : List A) (at : ℕ) → Wrote xs at [] xs at
+  wrote-none xs at = record { is = sym (over-none xs at); next = omega arith }
 
--- two such calls, one after the other
-pub wrote-then : {xs ys xs₁ zs xs₂ : List ℕ} {at w r : ℕ} → at ≤ length xs → Wrote xs at ys xs₁ w → Wrote xs₁ w zs xs₂ r → Wrote xs at (ys ++ zs) xs₂ r
-wrote-then {xs} {ys} {xs₁} {zs} {xs₂} {at} h p q = record {
-  is = rw (q .is, p .is, p .next) (over-over xs at ys zs h);
-  next = omega (arith, length-append ys zs);
-}
+  -- two such calls, one after the other
+  pub wrote-then : {xs ys xs₁ zs xs₂ : List A} {at w r : ℕ} → at ≤ length xs → Wrote xs at ys xs₁ w → Wrote xs₁ w zs xs₂ r → Wrote xs at (ys ++ zs) xs₂ r
+  wrote-then {xs} {ys} {xs₁} {zs} {xs₂} {at} h p q = record {
+    is = rw (q .is, p .is, p .next) (over-over xs at ys zs h);
+    next = omega (arith, length-append ys zs);
+  }
 
--- it ends within the list
-pub wrote-within : {xs ys xs′ : List ℕ} {at r : ℕ} → at ≤ length xs → Wrote xs at ys xs′ r → r ≤ length xs′
-unfolding over
-wrote-within {xs} {ys} {xs′} {at} h w = rw (w .is, length-append, length-append, length-take, length-drop) (omega arith)
+  -- it ends within the list
+  pub wrote-within : {xs ys xs′ : List A} {at r : ℕ} → at ≤ length xs → Wrote xs at ys xs′ r → r ≤ length xs′
+  unfolding over
+  wrote-within {xs} {ys} {xs′} {at} h w = rw (w .is, length-append, length-append, length-take, length-drop) (omega arith)
 
--- the front of the list is what stood before the place, and what was written
-pub wrote-front : {xs ys xs′ : List ℕ} {at r : ℕ} → at ≤ length xs → Wrote xs at ys xs′ r → take r xs′ ≡ take at xs ++ ys
-unfolding over
-wrote-front {xs} {ys} {xs′} {at} {r} h w =
-    let P = take at xs in
-    let p : length P ≡ at = length-take at xs ∙ omega arith in
-    let n : r ≡ length P + length ys = omega arith in
-    rw (w .is, n) (take-append-add P (ys ++ drop (at + length ys) xs) (length ys) ∙ ap (λ (l : List ℕ). P ++ l) (take-append-seam ys (drop (at + length ys) xs)))
+  -- the front of the list is what stood before the place, and what was written
+  pub wrote-front : {xs ys xs′ : List A} {at r : ℕ} → at ≤ length xs → Wrote xs at ys xs′ r → take r xs′ ≡ take at xs ++ ys
+  unfolding over
+  wrote-front {xs} {ys} {xs′} {at} {r} h w =
+      let P = take at xs in
+      let p : length P ≡ at = length-take at xs ∙ omega arith in
+      let n : r ≡ length P + length ys = omega arith in
+      rw (w .is, n) (take-append-add P (ys ++ drop (at + length ys) xs) (length ys) ∙ ap (λ (l : List A). P ++ l) (take-append-seam ys (drop (at + length ys) xs)))
 
--- what was written for a value was written for an equal one
-pub wrote-as : {A : Type 0} (f : A → List ℕ) {x y : A} {xs xs′ : List ℕ} {at r : ℕ} → x ≡ y → Wrote xs at (f y) xs′ r → Wrote xs at (f x) xs′ r
-wrote-as {A} f {xs = xs} {xs′ = xs′} {at = at} {r = r} e w = subst (λ (y : A). Wrote xs at (f y) xs′ r) (sym e) w
+  -- what was written for a value was written for an equal one
+  pub wrote-as : {B : Type 0} (f : B → List A) {x y : B} {xs xs′ : List A} {at r : ℕ} → x ≡ y → Wrote xs at (f y) xs′ r → Wrote xs at (f x) xs′ r
+  wrote-as {B} f {xs = xs} {xs′ = xs′} {at = at} {r = r} e w = subst (λ (y : B). Wrote xs at (f y) xs′ r) (sym e) w
 
--- ---- The invariant of a loop that writes ys into xs from `at` on, piece after piece: `rest` is left to write, into out from w on.
-pub record Left (out : List ℕ) (w : ℕ) (rest xs : List ℕ) (at : ℕ) (ys : List ℕ) : Type 0 where
-  pub is : over out w rest ≡ over xs at ys
-  pub place : w + length rest ≡ at + length ys
-  pub room : at + length ys ≤ length out
-  pub same : length out ≡ length xs
+  -- ---- The invariant of a loop that writes ys into xs from `at` on, piece after piece: `rest` is left to write, into out from w on.
+  pub record Left (out : List A) (w : ℕ) (rest xs : List A) (at : ℕ) (ys : List A) : Type 0 where
+    pub is : over out w rest ≡ over xs at ys
+    pub place : w + length rest ≡ at + length ys
+    pub room : at + length ys ≤ length out
+    pub same : length out ≡ length xs
 
--- it starts
-pub left-all : {xs rest ys : List ℕ} {at : ℕ} → rest ≡ ys → at + length ys ≤ length xs → Left xs at rest xs at ys
-left-all {xs} {rest} {ys} {at} e h = record { is = ap (over xs at) e; place = ap (λ (l : List ℕ). at + length l) e; room = h; same = refl }
+  -- it starts
+  pub left-all : {xs rest ys : List A} {at : ℕ} → rest ≡ ys → at + length ys ≤ length xs → Left xs at rest xs at ys
+  left-all {xs} {rest} {ys} {at} e h = record { is = ap (over xs at) e; place = ap (λ (l : List A). at + length l) e; room = h; same = refl }
 
--- there is room for the next piece
-pub left-fits : {out rest xs ys : List ℕ} {w at : ℕ} (ps rest′ : List ℕ) → rest ≡ ps ++ rest′ → Left out w rest xs at ys → w + length ps ≤ length out
-left-fits ps rest′ e l =
-    let n = ap length e ∙ length-append ps rest′ in
-    omega arith
+  -- there is room for the next piece
+  pub left-fits : {out rest xs ys : List A} {w at : ℕ} (ps rest′ : List A) → rest ≡ ps ++ rest′ → Left out w rest xs at ys → w + length ps ≤ length out
+  left-fits ps rest′ e l =
+      let n = ap length e ∙ length-append ps rest′ in
+      omega arith
 
--- a piece is written
-pub left-step : {out ps out′ rest rest′ xs ys : List ℕ} {w w′ at : ℕ} → Wrote out w ps out′ w′ → rest ≡ ps ++ rest′ → Left out w rest xs at ys → Left out′ w′ rest′ xs at ys
-left-step {out} {ps} {out′} {rest} {rest′} {xs} {ys} {w} {w′} {at} p e l =
-    let n : length rest ≡ length ps + length rest′ = ap length e ∙ length-append ps rest′ in
-    let o : length out′ ≡ length out = ap length (p .is) ∙ over-length out w ps (omega arith) in
-    record {
-      is = rw (p .is, p .next) (over-over out w ps rest′ (omega arith) ∙ ap (over out w) (sym e) ∙ l .is);
-      place = omega arith;
-      room = omega arith;
-      same = omega arith;
-    }
+  -- a piece is written
+  pub left-step : {out ps out′ rest rest′ xs ys : List A} {w w′ at : ℕ} → Wrote out w ps out′ w′ → rest ≡ ps ++ rest′ → Left out w rest xs at ys → Left out′ w′ rest′ xs at ys
+  left-step {out} {ps} {out′} {rest} {rest′} {xs} {ys} {w} {w′} {at} p e l =
+      let n : length rest ≡ length ps + length rest′ = ap length e ∙ length-append ps rest′ in
+      let o : length out′ ≡ length out = ap length (p .is) ∙ over-length out w ps (omega arith) in
+      record {
+        is = rw (p .is, p .next) (over-over out w ps rest′ (omega arith) ∙ ap (over out w) (sym e) ∙ l .is);
+        place = omega arith;
+        room = omega arith;
+        same = omega arith;
+      }
 
--- nothing is left
-pub left-none : {out rest xs ys : List ℕ} {w at : ℕ} → rest ≡ [] → Left out w rest xs at ys → Wrote xs at ys out w
-left-none {out} {rest} {xs} {ys} {w} {at} e l = record {
-  is = sym (over-none out w) ∙ ap (over out w) (sym e) ∙ l .is;
-  next = omega (arith, ap length e);
-}
+  -- nothing is left
+  pub left-none : {out rest xs ys : List A} {w at : ℕ} → rest ≡ [] → Left out w rest xs at ys → Wrote xs at ys out w
+  left-none {out} {rest} {xs} {ys} {w} {at} e l = record {
+    is = sym (over-none out w) ∙ ap (over out w) (sym e) ∙ l .is;
+    next = omega (arith, ap length e);
+  }
 
--- the last piece is written
-pub left-last : {out ps out′ rest xs ys : List ℕ} {w w′ at : ℕ} → Wrote out w ps out′ w′ → rest ≡ ps → Left out w rest xs at ys → Wrote xs at ys out′ w′
-left-last {ps = ps} p e l = left-none refl (left-step p (e ∙ sym (append-nil ps)) l)
+  -- the last piece is written
+  pub left-last : {out ps out′ rest xs ys : List A} {w w′ at : ℕ} → Wrote out w ps out′ w′ → rest ≡ ps → Left out w rest xs at ys → Wrote xs at ys out′ w′
+  left-last {ps = ps} p e l = left-none refl (left-step p (e ∙ sym (append-nil ps)) l)
 
--- ---- a loop that counts i up to n
-pub flat-step : (f : ℕ → List ℕ) (i n : ℕ) → i < n → flat f i (n - i) ≡ f i ++ flat f (i + 1) (n - (i + 1))
-unfolding flat
-flat-step f i n h =
-    let e : n - i ≡ suc (n - (i + 1)) = omega arith in
-    rw e
+  -- ---- a loop that counts i up to n
+  pub flat-step : (f : ℕ → List A) (i n : ℕ) → i < n → flat f i (n - i) ≡ f i ++ flat f (i + 1) (n - (i + 1))
+  unfolding flat
+  flat-step f i n h =
+      let e : n - i ≡ suc (n - (i + 1)) = omega arith in
+      rw e
 
-pub flat-all : (f : ℕ → List ℕ) (n : ℕ) → flat f 0 (n - 0) ≡ flat f 0 n
-flat-all f n = rw (sub-zero n)
+  pub flat-all : (f : ℕ → List A) (n : ℕ) → flat f 0 (n - 0) ≡ flat f 0 n
+  flat-all f n = rw (sub-zero n)
 
-pub flat-done : (f : ℕ → List ℕ) (i n : ℕ) → n ≤ i → flat f i (n - i) ≡ []
-unfolding flat
-flat-done f i n h =
-    let e : n - i ≡ 0 = omega arith in
-    rw e
+  pub flat-done : (f : ℕ → List A) (i n : ℕ) → n ≤ i → flat f i (n - i) ≡ []
+  unfolding flat
+  flat-done f i n h =
+      let e : n - i ≡ 0 = omega arith in
+      rw e
 
--- pieces of one length
-pub flat-length : (f : ℕ → List ℕ) (c i k : ℕ) → ((j : ℕ) → length (f j) ≡ c) → length (flat f i k) ≡ c * k
-unfolding flat
-flat-length f c i zero h = sym (mul-zero c)
-flat-length f c i (suc k) h = rw (length-append, flat-length f c (i + 1) k h, h i, mul-suc) (add-comm c (c * k))
+  -- pieces of one length
+  pub flat-length : (f : ℕ → List A) (c i k : ℕ) → ((j : ℕ) → length (f j) ≡ c) → length (flat f i k) ≡ c * k
+  unfolding flat
+  flat-length f c i zero h = sym (mul-zero c)
+  flat-length f c i (suc k) h = rw (length-append, flat-length f c (i + 1) k h, h i, mul-suc) (add-comm c (c * k))
 
--- the last piece apart
-pub flat-last : (f : ℕ → List ℕ) (i k : ℕ) → flat f i (suc k) ≡ flat f i k ++ f (i + k)
-unfolding flat
-flat-last f i zero = rw (add-zero i) (append-nil (f i))
-flat-last f i (suc k) =
-    let e : i + 1 + k ≡ i + suc k = omega arith in
-    ap (λ (l : List ℕ). f i ++ l) (flat-last f (i + 1) k ∙ ap (λ (n : ℕ). flat f (i + 1) k ++ f n) e) ∙ sym (append-assoc (f i) (flat f (i + 1) k) (f (i + suc k)))
+  -- the last piece apart
+  pub flat-last : (f : ℕ → List A) (i k : ℕ) → flat f i (suc k) ≡ flat f i k ++ f (i + k)
+  unfolding flat
+  flat-last f i zero = rw (add-zero i) (append-nil (f i))
+  flat-last f i (suc k) =
+      let e : i + 1 + k ≡ i + suc k = omega arith in
+      ap (λ (l : List A). f i ++ l) (flat-last f (i + 1) k ∙ ap (λ (n : ℕ). flat f (i + 1) k ++ f n) e) ∙ sym (append-assoc (f i) (flat f (i + 1) k) (f (i + suc k)))
 
--- the same pieces
-pub flat-same : (f g : ℕ → List ℕ) (i k : ℕ) → ((j : ℕ) → f j ≡ g j) → flat f i k ≡ flat g i k
-unfolding flat
-flat-same f g i zero h = refl
-flat-same f g i (suc k) h = rw (h i, flat-same f g (i + 1) k h)
+  -- the same pieces
+  pub flat-same : (f g : ℕ → List A) (i k : ℕ) → ((j : ℕ) → f j ≡ g j) → flat f i k ≡ flat g i k
+  unfolding flat
+  flat-same f g i zero h = refl
+  flat-same f g i (suc k) h = rw (h i, flat-same f g (i + 1) k h)
 
--- ---- the invariant of a loop that writes f i for each i from 0 to n: four laws, for where it begins, a piece's room, its turn and its end
-pub record Counting (f : ℕ → List ℕ) (i n : ℕ) (out : List ℕ) (w : ℕ) (xs : List ℕ) (at : ℕ) : Type 0 where
-  pub within : i ≤ n
-  pub left : Left out w (flat f i (n - i)) xs at (flat f 0 n)
+  -- ---- the invariant of a loop that writes f i for each i from 0 to n: four laws, for where it begins, a piece's room, its turn and its end
+  pub record Counting (f : ℕ → List A) (i n : ℕ) (out : List A) (w : ℕ) (xs : List A) (at : ℕ) : Type 0 where
+    pub within : i ≤ n
+    pub left : Left out w (flat f i (n - i)) xs at (flat f 0 n)
 
-pub count-start : {f : ℕ → List ℕ} {n : ℕ} {xs : List ℕ} {at : ℕ} → at + length (flat f 0 n) ≤ length xs → Counting f 0 n xs at xs at
-count-start {f} {n} h = record { within = zero-le; left = left-all (flat-all f n) h }
+  pub count-start : {f : ℕ → List A} {n : ℕ} {xs : List A} {at : ℕ} → at + length (flat f 0 n) ≤ length xs → Counting f 0 n xs at xs at
+  count-start {f} {n} h = record { within = zero-le; left = left-all (flat-all f n) h }
 
-pub count-fits : {f : ℕ → List ℕ} {i n : ℕ} {out : List ℕ} {w : ℕ} {xs : List ℕ} {at : ℕ} → i < n → Counting f i n out w xs at → w + length (f i) ≤ length out
-count-fits {f} {i} {n} h c = left-fits (f i) (flat f (i + 1) (n - (i + 1))) (flat-step f i n h) (c .left)
+  pub count-fits : {f : ℕ → List A} {i n : ℕ} {out : List A} {w : ℕ} {xs : List A} {at : ℕ} → i < n → Counting f i n out w xs at → w + length (f i) ≤ length out
+  count-fits {f} {i} {n} h c = left-fits (f i) (flat f (i + 1) (n - (i + 1))) (flat-step f i n h) (c .left)
 
-pub count-step : {f : ℕ → List ℕ} {i n : ℕ} {out out′ : List ℕ} {w w′ : ℕ} {xs : List ℕ} {at : ℕ} → i < n → Wrote out w (f i) out′ w′ → Counting f i n out w xs at → Counting f (i + 1) n out′ w′ xs at
-count-step {f} {i} {n} h p c = record { within = omega arith; left = left-step p (flat-step f i n h) (c .left) }
+  pub count-step : {f : ℕ → List A} {i n : ℕ} {out out′ : List A} {w w′ : ℕ} {xs : List A} {at : ℕ} → i < n → Wrote out w (f i) out′ w′ → Counting f i n out w xs at → Counting f (i + 1) n out′ w′ xs at
+  count-step {f} {i} {n} h p c = record { within = omega arith; left = left-step p (flat-step f i n h) (c .left) }
 
-pub count-done : {f : ℕ → List ℕ} {i n : ℕ} {out : List ℕ} {w : ℕ} {xs : List ℕ} {at : ℕ} → n ≤ i → Counting f i n out w xs at → Wrote xs at (flat f 0 n) out w
-count-done {f} {i} {n} h c = left-none (flat-done f i n h) (c .left)
+  pub count-done : {f : ℕ → List A} {i n : ℕ} {out : List A} {w : ℕ} {xs : List A} {at : ℕ} → n ≤ i → Counting f i n out w xs at → Wrote xs at (flat f 0 n) out w
+  count-done {f} {i} {n} h c = left-none (flat-done f i n h) (c .left)

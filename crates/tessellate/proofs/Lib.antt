@@ -1,5 +1,5 @@
 -- The laws of `tessellate`.
 pub mod Tops
 mod Counted
-mod Draws
+pub mod Draws
 pub mod Together

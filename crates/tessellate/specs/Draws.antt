@@ -16,7 +16,7 @@ use Rattle.tessellate.specs.declared.answer.IndicesAnswer.{IndicesAnswer
 use Rattle.tessellate.specs.Answers.{Told, toldPoints, toldIndices, pointsVerdict, indicesVerdict}
 
 -- a list after an answer of this number: with the words at its front where it is 0, else as it was
-abbrev pub after : ℕ → List ℕ → List ℕ → List ℕ
+abbrev pub after : {A : Type 0} → ℕ → List A → List A → List A
 after zero xs words = over xs 0 words
 after (suc n) xs words = xs
 

@@ -1,0 +1,48 @@
+-- What the call with floats leaves in the two whole-number lists is what the two drawing operations leave there, so that all that is
+-- said of the two holds of it.
+-- Assumes nothing.
+use Prim.Native.Nat.{ℕ, _*_}
+use mathlib.Core.Path.{_≡_, refl, sym, ap, _∙_}
+use mathlib.Core.List.{List}
+use lib.Ieee.{Float}
+use lib.ListN.{take}
+use Rattle.patch.specs.declared.kinds.Patch.{Patch}
+use Rattle.patch.specs.declared.settings.Settings.{Settings}
+use Rattle.drawing.specs.Words.{readPoints}
+use Rattle.drawing.specs.Demand.{Demand}
+use Rattle.drawing.specs.Inside.{SpotsOnce}
+use Rattle.tessellate.specs.declared.answer.PointsAnswer.the-variants as points
+use Rattle.tessellate.specs.declared.answer.IndicesAnswer.the-variants as indices
+use Rattle.tessellate.specs.Answers.{drew}
+use Rattle.tessellate.specs.Draws.{DrewPoints, DrewIndices}
+use Rattle.tessellate.proofs.Draws.{told-drawn, written}
+use Rattle.tessellate.proofs.Together.{together, once-together}
+use Rattle.float_drawing.specs.declared.answer.FloatsAnswer.{FloatsAnswer}
+use Rattle.float_drawing.specs.Answers.{toldFloats, drewBoth}
+use Rattle.float_drawing.specs.Draws.{DrewWithFloats}
+use Rattle.float_drawing.proofs.Verdicts.{Fits, drawn-fits}
+
+module _ (set : Settings) (p : Patch) (r : FloatsAnswer) {v v′ i i′ : List ℕ} {f f′ : List Float} {P I : ℕ}
+    (d : DrewWithFloats set p v v′ i i′ f f′ r) (e : toldFloats r ≡ drewBoth P I) where
+  pub fits : Fits set p v i f P I
+  fits = drawn-fits set p v i f P I (sym e ∙ d .answer)
+
+  -- as drawing the points alone
+  pub as-points : DrewPoints set p v v′ (points.Drawn P)
+  as-points =
+      let right = told-drawn set p 3 _ _ _ (fits .top) (fits .drawn) (fits .vertices) ∙ ap drew (sym (fits .point-count)) in
+      written P refl right (d .vertices ∙ rw e)
+
+  -- as drawing the indices alone
+  pub as-indices : DrewIndices set p i i′ (indices.Drawn I)
+  as-indices =
+      let right = told-drawn set p 4 _ _ _ (fits .top) (fits .drawn) (fits .corners) ∙ ap drew (sym (fits .index-count)) in
+      written I refl right (d .indices ∙ rw e)
+
+  -- demand 3 of what the call writes
+  pub together-with-floats : Demand set p (readPoints (take (3 * P) v′)) (take I i′)
+  together-with-floats = together set p (points.Drawn P) (indices.Drawn I) as-points as-indices refl refl
+
+  -- and no spot is cut twice
+  pub once-with-floats : SpotsOnce set p (readPoints (take (3 * P) v′)) (take I i′)
+  once-with-floats = once-together set p (points.Drawn P) (indices.Drawn I) as-points as-indices refl refl

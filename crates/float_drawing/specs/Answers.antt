@@ -1,0 +1,36 @@
+-- The numbers and values of the answers of drawing with floats, and which of them applies.
+-- Assumes nothing.
+use Prim.Native.Nat.{ℕ, _*_}
+use mathlib.Core.Bool.{cond}
+use mathlib.Core.List.{[], _∷_}
+use lib.Dec.{ltb}
+use Rattle.level.specs.Top.{isTop}
+use Rattle.patch.specs.declared.kinds.Patch.{Patch}
+use Rattle.patch.specs.declared.settings.Settings.{Settings}
+use Rattle.patch.specs.Subdivide.{discards}
+use Rattle.tessellate.specs.Answers.{Told, refused, pointsOf, indicesOf}
+use Rattle.float_drawing.specs.declared.answer.FloatsAnswer.{FloatsAnswer}
+use Rattle.float_drawing.specs.declared.answer.FloatsAnswer.the-variants.{Drawn, Discarded, NoRoomForVertices, NoRoomForIndices, NoRoomForFloats, BadTop}
+
+-- drawn, with both counts
+abbrev pub drewBoth : ℕ → ℕ → Told
+drewBoth points indices = record { number = 0; values = points ∷ indices ∷ [] }
+
+-- the table of the two drawing operations, with 9 for the floats
+abbrev pub toldFloats : FloatsAnswer → Told
+toldFloats (Drawn points indices) = drewBoth points indices
+toldFloats Discarded = refused 1
+toldFloats NoRoomForVertices = refused 3
+toldFloats NoRoomForIndices = refused 4
+toldFloats NoRoomForFloats = refused 9
+toldFloats BadTop = refused 11
+
+-- so many points and indices into lists of v, i and f words: three words and three floats a point, the lowest number first
+unfoldable pub roomVerdict : ℕ → ℕ → ℕ → ℕ → ℕ → Told
+roomVerdict points indices v i f =
+    cond (ltb v (3 * points)) (refused 3) (cond (ltb i indices) (refused 4) (cond (ltb f (3 * points)) (refused 9) (drewBoth points indices)))
+
+-- what drawing with floats has to say: first of all a bad top, else the lowest number that applies
+unfoldable pub floatsVerdict : Settings → Patch → ℕ → ℕ → ℕ → Told
+unfolding roomVerdict
+floatsVerdict set p v i f = cond (isTop (set .top)) (cond (discards p) (refused 1) (roomVerdict (pointsOf set p) (indicesOf set p) v i f)) (refused 11)

@@ -1,0 +1,13 @@
+-- What is said of a float beside its whole coordinate.
+-- Assumes nothing.
+use Prim.Native.Nat.{ℕ}
+use lib.Ieee.{Float}
+use Rattle.patch.specs.declared.kinds.Patch.{Patch}
+use Rattle.patch.specs.declared.kinds.Patch.the-variants.{Triangles, Quads, Isolines}
+use Rattle.coordinate.specs.Coordinate.{Exact, Near}
+
+-- quads and isolines: exactly x / 65,536; triangles: a whole number of parts of 2 ^ -41, near x / 196,608
+abbrev pub FloatOf : Patch → ℕ → Float → Type 0
+FloatOf (Triangles a b c i) x f = Near x f
+FloatOf (Quads a b c d i j) x f = Exact x f
+FloatOf (Isolines a b) x f = Exact x f

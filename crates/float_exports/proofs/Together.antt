@@ -1,0 +1,57 @@
+-- What a call that answered 0 leaves behind: the counts are right, and demand 3 holds. Assumes nothing.
+use Prim.Native.Nat.{ℕ, _*_}
+use mathlib.Core.Path.{_≡_, refl, sym, ap, _∙_}
+use mathlib.Core.Bool.{Bool, true, false, cond}
+use mathlib.Core.List.{List, [], _∷_}
+use native.Mathlib.Omega.{arith}
+use lib.Dec.{ltb}
+use lib.Ieee.{Float}
+use lib.ListN.{length, take, getD}
+use Rattle.level.specs.Top.{isTop}
+use Rattle.patch.specs.Subdivide.{discards}
+use Rattle.drawing.specs.Words.{readPoints}
+use Rattle.drawing.specs.Demand.{Demand}
+use Rattle.tessellate.specs.Answers.{Told, refused, pointsOf, indicesOf}
+use Rattle.exports.specs.Inputs.{patchIn, settingsIn}
+use Rattle.exports.specs.Replies.{twoWords}
+use Rattle.exports.proofs.Together.{known-zero}
+use Rattle.float_drawing.specs.declared.answer.FloatsAnswer.the-variants.{Drawn}
+use Rattle.float_drawing.specs.Answers.{drewBoth, floatsVerdict}
+use Rattle.float_drawing.specs.Draws.{DrewWithFloats}
+use Rattle.float_drawing.proofs.Together.{together-with-floats}
+use Rattle.float_exports.specs.Calls.{FloatsCalled}
+
+module _ (bs : List ℕ) (xs : List Float) where
+  abbrev points : ℕ
+  points = pointsOf (settingsIn bs) (patchIn bs xs)
+
+  abbrev corners : ℕ
+  corners = indicesOf (settingsIn bs) (patchIn bs xs)
+
+  verdict-zero : (v i f : ℕ) → floatsVerdict (settingsIn bs) (patchIn bs xs) v i f .number ≡ 0 → floatsVerdict (settingsIn bs) (patchIn bs xs) v i f ≡ drewBoth points corners
+  unfolding floatsVerdict
+  verdict-zero v i f = go (isTop (settingsIn bs .top)) (discards (patchIn bs xs)) (ltb v (3 * points)) (ltb i corners) (ltb f (3 * points))
+    where
+      go : (t a b c d : Bool) → cond t (cond a (refused 1) (cond b (refused 3) (cond c (refused 4) (cond d (refused 9) (drewBoth points corners))))) (refused 11) .number ≡ 0
+          → cond t (cond a (refused 1) (cond b (refused 3) (cond c (refused 4) (cond d (refused 9) (drewBoth points corners))))) (refused 11) ≡ drewBoth points corners
+      go false a b c d e = absurd (omega arith)
+      go true true b c d e = absurd (omega arith)
+      go true false true c d e = absurd (omega arith)
+      go true false false true d e = absurd (omega arith)
+      go true false false false true e = absurd (omega arith)
+      go true false false false false e = refl
+
+  module _ {v v′ i i′ : List ℕ} {f f′ : List Float} {c′ : List ℕ} (d : FloatsCalled bs xs v v′ i i′ f f′ c′ 0) where
+    -- such a call is a drawing with both counts told
+    pub called-drew : DrewWithFloats (settingsIn bs) (patchIn bs xs) v v′ i i′ f f′ (Drawn (getD c′ 0 0) (getD c′ 1 0))
+    called-drew =
+        let t = floatsVerdict (settingsIn bs) (patchIn bs xs) (length v) (length i) (length f) in
+        let k = known-zero bs t (sym (d .says .number)) in
+        let z = verdict-zero (length v) (length i) (length f) (ap (λ (x : Told). x .number) (sym k) ∙ sym (d .says .number)) in
+        let w : c′ ≡ points ∷ corners ∷ [] = d .says .counts ∙ ap (λ (x : Told). twoWords (x .values)) (k ∙ z) in
+        let first : getD c′ 0 0 ≡ points = ap (λ (l : List ℕ). getD l 0 0) w in
+        let second : getD c′ 1 0 ≡ corners = ap (λ (l : List ℕ). getD l 1 0) w in
+        record { answer = rw (first, second) (sym z); vertices = d .vertices; indices = d .indices; floats = d .floats }
+
+    pub called-with-floats : Demand (settingsIn bs) (patchIn bs xs) (readPoints (take (3 * getD c′ 0 0) v′)) (take (getD c′ 1 0) i′)
+    called-with-floats = together-with-floats (settingsIn bs) (patchIn bs xs) (Drawn (getD c′ 0 0) (getD c′ 1 0)) called-drew refl

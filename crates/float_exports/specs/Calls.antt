@@ -1,0 +1,26 @@
+-- What a call of drawing with floats answers and leaves behind, for every input: bs are the setting bytes, xs the levels, v and v′ the
+-- vertex list at entry and at exit, i and i′ the index list, f and f′ the float list, and c′ the counts at exit. Assumes nothing.
+use Prim.Native.Nat.{ℕ}
+use mathlib.Core.Path.{_≡_}
+use mathlib.Core.List.{List}
+use lib.Ieee.{Float}
+use lib.ListN.{length}
+use Rattle.tessellate.specs.Answers.{Told}
+use Rattle.tessellate.specs.Draws.{after, pointWords, connectionWords}
+use Rattle.exports.specs.Inputs.{patchIn, settingsIn}
+use Rattle.exports.specs.Replies.{unknownSetting, badTop, twoWords}
+use Rattle.exports.specs.Calls.{known, Says}
+use Rattle.float_drawing.specs.Answers.{floatsVerdict}
+use Rattle.float_drawing.specs.Draws.{floatWords}
+
+-- what drawing with floats into lists of so many words has to say
+abbrev pub floatsSay : List ℕ → List Float → ℕ → ℕ → ℕ → Told
+floatsSay bs xs v i f = known bs badTop unknownSetting (floatsVerdict (settingsIn bs) (patchIn bs xs) v i f)
+
+pub record FloatsCalled (bs : List ℕ) (xs : List Float) (v v′ i i′ : List ℕ) (f f′ : List Float) (c′ : List ℕ) (r : ℕ) : Type 0 where
+  -- 11, 8, or what the operation says
+  pub says : Says twoWords (floatsSay bs xs (length v) (length i) (length f)) c′ r
+  -- drawn: the counted words at each list's front and not one more; else untouched
+  pub vertices : v′ ≡ after r v (pointWords (settingsIn bs) (patchIn bs xs))
+  pub indices : i′ ≡ after r i (connectionWords (settingsIn bs) (patchIn bs xs))
+  pub floats : f′ ≡ after r f (floatWords (settingsIn bs) (patchIn bs xs))

@@ -1,0 +1,2 @@
+-- The definitions of `float_exports`.
+pub mod Calls
