@@ -289,8 +289,44 @@ YOKTVARIM_MUST_USE yoktvarim_answer yoktvarim_draw_with_floats(const yoktvarim_s
                                                                size_t index_words, float *floats, size_t float_words,
                                                                uint32_t *counts);
 
+/* Checking a mesh that anybody made for a patch. */
+
+/* What yoktvarim_check_mesh answers: accepted, or the first kind of fault in the order of the numbers, after BAD_TOP and
+ * UNKNOWN_SETTING. No other number is given. 0 is the one yes: ask yoktvarim_is_accepted. Places count from 0: those of the index
+ * list, points, triangles, a triangle's corners, and the outline's pieces along the walk. */
+typedef enum yoktvarim_verdict {
+    YOKTVARIM_ACCEPTED = 0,                   /* no hole, no overlap and no turned triangle; or a discarded patch and two empty lists */
+    YOKTVARIM_CHECK_UNKNOWN_SETTING = 8,      /* places[0] is the place, 0 to 4, of the first setting that is out of range */
+    YOKTVARIM_CHECK_BAD_TOP = 11,             /* the top is not an even number from 2 to 64 */
+    YOKTVARIM_FAULT_ISOLINES = 20,            /* isolines have no triangles */
+    YOKTVARIM_FAULT_DOTS = 21,                /* nor have patches in point mode */
+    YOKTVARIM_FAULT_SHOULD_BE_DISCARDED = 22, /* the patch is discarded, and a list is not empty */
+    YOKTVARIM_FAULT_NOT_THREES = 23,          /* the words of the points or the number of indices is no multiple of three */
+    YOKTVARIM_FAULT_UNKNOWN_INDEX = 24,       /* the index at places[0] of the list is no point's number */
+    YOKTVARIM_FAULT_OUTSIDE = 25,             /* point places[0] lies outside the patch */
+    YOKTVARIM_FAULT_EQUAL_POINTS = 26,        /* points places[0] and places[1] are equal */
+    YOKTVARIM_FAULT_TURNED = 27,              /* triangle places[0] has no area or turns the wrong way */
+    YOKTVARIM_FAULT_SIDE_TWICE = 28,          /* triangles places[0] and places[1] have a directed side in common */
+    YOKTVARIM_FAULT_OPEN_SIDE = 29,           /* the side of triangle places[0] from its corner places[1], 0 to 2, has no
+                                               * reverse and is no piece of the outline */
+    YOKTVARIM_FAULT_MISSING_PIECE = 30        /* piece places[0] of the outline is no side of a triangle */
+} yoktvarim_verdict;
+
+/* Whether points, three words u, v, w each, and indices, three to a triangle, are a right mesh of the patch. Lists of any length and
+ * content may be given; they are only read. places has two words, both always written; what is not told is 0. */
+YOKTVARIM_MUST_USE yoktvarim_verdict yoktvarim_check_mesh(const yoktvarim_settings *settings, const yoktvarim_levels *levels,
+                                                          const uint32_t *points, size_t point_words,
+                                                          const uint16_t *indices, size_t index_words, uint64_t *places);
+
+/* 1 for YOKTVARIM_ACCEPTED, 0 for every fault. */
+YOKTVARIM_MUST_USE static inline unsigned yoktvarim_is_accepted(yoktvarim_verdict verdict)
+{
+    return verdict == YOKTVARIM_ACCEPTED;
+}
+
 /* The library reads and writes exactly this. */
 YOKTVARIM_ASSERT(sizeof(yoktvarim_answer) == 4, "an answer is 32 bits: compile without -fshort-enums");
+YOKTVARIM_ASSERT(sizeof(yoktvarim_verdict) == 4, "a verdict is 32 bits: compile without -fshort-enums");
 YOKTVARIM_ASSERT(sizeof(yoktvarim_settings) == 6, "six setting bytes");
 YOKTVARIM_ASSERT(sizeof(yoktvarim_levels) == 24, "six 32-bit floats");
 YOKTVARIM_ASSERT(sizeof(yoktvarim_clamps) == 6, "a byte for each level");

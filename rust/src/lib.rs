@@ -20,6 +20,7 @@
 //! The top of the settings says how finely a patch can be cut at most: an even number from 2 to 64. Any other number is
 //! answered with `BadTop`, before everything else.
 
+pub mod check;
 mod clamps;
 mod draw;
 pub mod job;
@@ -29,6 +30,7 @@ mod mesh;
 mod patch;
 pub mod raw;
 
+pub use check::{check_mesh, Verdict};
 pub use clamps::{Clamp, Clamps};
 pub use draw::{draw_indices, draw_points, IndicesAnswer, PointsAnswer};
 pub use measure::{measure, Size};

@@ -16,5 +16,5 @@ pub mod Starred
 pub mod Sample
 pub mod GreatestTop
 pub mod Kept
-pub mod UpTo
+pub mod InPatch
 pub mod Distinct

@@ -7,6 +7,7 @@ pub mod Coordinates
 pub mod Counts
 pub mod Demand
 pub mod Inside
+pub mod InPatch
 pub mod Levels
 pub mod Sizes
 pub mod Starred

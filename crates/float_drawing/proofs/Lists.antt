@@ -17,7 +17,7 @@ use Rattle.mesh.proofs.Lists.{all-at}
 use Rattle.mesh.proofs.Words.{words-length}
 use Rattle.drawing.specs.Points.{points}
 use Rattle.drawing.specs.Coordinates.{one}
-use Rattle.drawing.proofs.UpTo.{words-up-to}
+use Rattle.drawing.proofs.InPatch.{words-up-to}
 use Rattle.tessellate.specs.declared.answer.PointsAnswer.{PointsAnswer}
 use Rattle.tessellate.specs.declared.answer.IndicesAnswer.{IndicesAnswer}
 use Rattle.tessellate.specs.Answers.{toldPoints, toldIndices, pointsOf, indicesOf, drew}

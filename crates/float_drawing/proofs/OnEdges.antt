@@ -26,7 +26,7 @@ use Rattle.drawing.specs.Coordinates.{one, UpTo}
 use Rattle.drawing.specs.Demand.{Surface, edges}
 use Rattle.drawing.proofs.Runs.{good-run}
 use Rattle.drawing.proofs.Cases.{Cases, all-cases}
-use Rattle.drawing.proofs.UpTo.{points-up-to}
+use Rattle.drawing.proofs.InPatch.{points-up-to}
 use Rattle.float_drawing.specs.Edges.{axis, atPlace}
 
 -- a coordinate of a point by its number

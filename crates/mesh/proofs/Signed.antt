@@ -27,7 +27,7 @@ pub is-same : (z : ℤ) (a b c d : ℕ) → Is z a b → a + d ≡ c + b → Is 
 is-same (pos n) a b c d h e = omega arith
 is-same (negsuc n) a b c d h e = omega arith
 
-is-neg : (x : ℤ) (a b : ℕ) → Is x a b → Is (negℤ x) b a
+pub is-neg : (x : ℤ) (a b : ℕ) → Is x a b → Is (negℤ x) b a
 is-neg (pos zero) a b h = omega arith
 is-neg (pos (suc n)) a b h = omega arith
 is-neg (negsuc n) a b h = omega arith
@@ -38,14 +38,14 @@ is-add (pos m) (negsuc n) a b c d h k = is-same (subℕ m (suc n)) _ _ _ _ (is-s
 is-add (negsuc m) (pos n) a b c d h k = is-same (subℕ n (suc m)) _ _ _ _ (is-sub n (suc m)) (omega arith)
 is-add (negsuc m) (negsuc n) a b c d h k = omega arith
 
-is-diff : (a b : ℕ) → Is (pos a -ℤ pos b) a b
+pub is-diff : (a b : ℕ) → Is (pos a -ℤ pos b) a b
 is-diff a b = is-same (pos a -ℤ pos b) _ _ _ _
     (is-add (pos a) (negℤ (pos b)) a 0 0 b (omega arith) (is-neg (pos b) b 0 (omega arith))) (omega arith)
 
 is-product : (m n : ℕ) → Is (negℤ (pos (m * n))) 0 (m * n)
 is-product m n = is-neg (pos (m * n)) (m * n) 0 (omega arith)
 
-is-mul : (x y : ℤ) (a b c d : ℕ) → Is x a b → Is y c d → Is (x *ℤ y) (a * c + b * d) (a * d + b * c)
+pub is-mul : (x y : ℤ) (a b c d : ℕ) → Is x a b → Is y c d → Is (x *ℤ y) (a * c + b * d) (a * d + b * c)
 is-mul (pos m) (pos n) a b c d h k = rw (h, k) (omega arith)
 is-mul (pos m) (negsuc n) a b c d h k = is-same (negℤ (pos (m * suc n))) _ _ _ _ (is-product m (suc n)) (rw (h, ← k) (omega arith))
 is-mul (negsuc m) (pos n) a b c d h k = is-same (negℤ (pos (suc m * n))) _ _ _ _ (is-product (suc m) n) (rw (← h, k) (omega arith))

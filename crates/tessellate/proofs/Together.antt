@@ -58,13 +58,21 @@ front : {t right : Told} {words xs xs′ : List ℕ} (n k : ℕ) → Drew t righ
 front {words = words} {xs = xs} n k d e h = ap (take k) (d .list ∙ rw e) ∙ over-front xs words k h
 
 module _ (set : Settings) (p : Patch) where
+  points-fit : (r : PointsAnswer) {v v′ : List ℕ} {P : ℕ} → DrewPoints set p v v′ r → toldPoints r ≡ drew P
+      → Fits set p (3 * pointsOf set p) (length v) (pointsOf set p) P
+  points-fit r {v} {P = P} d e = drawn-means set p 2 (3 * pointsOf set p) (length v) (pointsOf set p) P (sym e ∙ d .answer)
+
+  -- the words of the points that were drawn
+  pub point-words-drawn : (r : PointsAnswer) {v v′ : List ℕ} {P : ℕ} → DrewPoints set p v v′ r → toldPoints r ≡ drew P → take (3 * P) v′ ≡ pointWords set p
+  point-words-drawn r {P = P} d e =
+      front P (3 * P) d e (omega (arith, points-fit r d e .count, words-length (points (subdivision (set .spacing) (set .top) p))))
+
   -- the points that were drawn, read off the list
   pub points-drawn : (r : PointsAnswer) {v v′ : List ℕ} {P : ℕ} → DrewPoints set p v v′ r → toldPoints r ≡ drew P
       → Top (set .top) × (discards p ≡ false) × (readPoints (take (3 * P) v′) ≡ points (subdivision (set .spacing) (set .top) p))
-  points-drawn r {v} {P = P} d e =
-      let c = subdivision (set .spacing) (set .top) p in
-      let f = drawn-means set p 2 (3 * pointsOf set p) (length v) (pointsOf set p) P (sym e ∙ d .answer) in
-      (f .top, f .drawn, ap readPoints (front P (3 * P) d e (omega (arith, f .count, words-length (points c)))) ∙ read-points (points c))
+  points-drawn r d e =
+      let f = points-fit r d e in
+      (f .top, f .drawn, ap readPoints (point-words-drawn r d e) ∙ read-points (points (subdivision (set .spacing) (set .top) p)))
 
   -- the indices that were drawn
   pub indices-drawn : (r : IndicesAnswer) {i i′ : List ℕ} {I : ℕ} → DrewIndices set p i i′ r → toldIndices r ≡ drew I

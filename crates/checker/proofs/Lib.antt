@@ -1,0 +1,3 @@
+-- The laws of mesh checking.
+pub mod Fronts
+pub mod Arms

@@ -1,0 +1,2 @@
+-- The definitions of mesh checking.
+pub mod Outlines

@@ -1,0 +1,118 @@
+// The check of a mesh: accepted, or its first kind of fault.
+ghost use mathlib.Core.Path.{_≡_};
+ghost use lib.ListN.{length};
+ghost use Rattle.level.specs.Top.{Top};
+ghost use Rattle.drawing.specs.Demand.{outline};
+ghost use Rattle.mesh_verdict.specs.Faults.{meshFault};
+ghost use Rattle.verdict_meaning.specs.Checks.{isIsolines, isTriangles, isEmpty};
+ghost use Rattle.verdict_meaning.specs.Means.{Checked};
+use level::Spacing;
+use mesh_verdict::Verdict;
+use patch::kinds::Patch;
+use patch::settings::Settings;
+
+// Whether a patch is of isolines.
+fn is_isolines(patch: Patch) -> bool
+    ensures { λ r. ⌜ r ≡ isIsolines patch ⌝ }
+{
+    match patch {
+        Patch::Triangles {
+            outer0: _,
+            outer1: _,
+            outer2: _,
+            inner0: _,
+        } => false,
+        Patch::Quads {
+            outer0: _,
+            outer1: _,
+            outer2: _,
+            outer3: _,
+            inner0: _,
+            inner1: _,
+        } => false,
+        Patch::Isolines {
+            outer0: _,
+            outer1: _,
+        } => true,
+    }
+}
+
+// Whether a patch is a triangle.
+fn is_triangles(patch: Patch) -> bool
+    ensures { λ r. ⌜ r ≡ isTriangles patch ⌝ }
+{
+    match patch {
+        Patch::Triangles {
+            outer0: _,
+            outer1: _,
+            outer2: _,
+            inner0: _,
+        } => true,
+        Patch::Quads {
+            outer0: _,
+            outer1: _,
+            outer2: _,
+            outer3: _,
+            inner0: _,
+            inner1: _,
+        } => false,
+        Patch::Isolines {
+            outer0: _,
+            outer1: _,
+        } => false,
+    }
+}
+
+// Whether a list of points and one of indices are both empty.
+fn is_empty(points: &[u32], indices: &[u16]) -> bool
+    ensures { λ r. ⌜ r ≡ isEmpty (now (points .entry)) (now (indices .entry)) ⌝ }
+{
+    (points.len() == 0) & (indices.len() == 0)
+}
+
+// The first kind of fault of a mesh for a patch that is not discarded.
+fn patch_fault(
+    patch: Patch,
+    spacing: Spacing,
+    top: u32,
+    positive: bool,
+    points: &[u32],
+    indices: &[u16],
+) -> Verdict
+    requires { ⌜ Top top ⌝ }
+    ensures { λ r. ⌜ r ≡ meshFault (isTriangles patch) positive (outline spacing top patch) (now (points .entry)) (now (indices .entry)) ⌝ }
+{
+    let triangles = is_triangles(patch);
+    let outline = crate::outline_words::outline_of(patch, spacing, top);
+    let words = outline.words;
+    let count = outline.count;
+    mesh_verdict::fault::mesh_fault(&words[0..count], points, indices, triangles, positive)
+}
+
+// The points are three words each and the indices three a triangle, as drawing writes them.
+pub fn check_mesh(patch: Patch, settings: Settings, points: &[u32], indices: &[u16]) -> Verdict
+    ensures { λ r. ⌜ Checked settings patch (now (points .entry)) (now (indices .entry)) r ⌝ }
+{
+    let spacing = settings.spacing;
+    let top = settings.top;
+    let order = settings.order;
+    let origin = settings.origin;
+    if !level::is_top(top) {
+        return Verdict::BadTop;
+    }
+    if is_isolines(patch) {
+        return Verdict::Isolines;
+    }
+    if settings.point_mode {
+        return Verdict::Dots;
+    }
+    let cut = patch::subdivision::subdivide(patch, spacing, top);
+    if patch::subdivision::is_discarded(cut) {
+        if is_empty(points, indices) {
+            return Verdict::Accepted;
+        }
+        return Verdict::ShouldBeDiscarded;
+    }
+    let positive = patch::settings::turns_positive(order, origin);
+    patch_fault(patch, spacing, top, positive, points, indices)
+}

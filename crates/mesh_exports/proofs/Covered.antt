@@ -1,0 +1,46 @@
+-- A mesh that the call accepts covers its patch, and holds every clear spot once.
+-- Assumes nothing.
+use Prim.Native.Nat.{ℕ}
+use mathlib.Core.Path.{_≡_, refl, sym, ap, _∙_}
+use mathlib.Core.Bool.{false}
+use mathlib.Core.List.{List}
+use native.Mathlib.Omega.{arith}
+use lib.Ieee.{Float}
+use Rattle.patch.specs.Subdivide.{discards}
+use Rattle.tessellate.specs.Answers.{Told}
+use Rattle.mesh_verdict.specs.declared.Verdict.{Verdict}
+use Rattle.mesh_verdict.specs.declared.Verdict.the-variants.{BadTop, Isolines, Dots, ShouldBeDiscarded, NotThrees, UnknownIndex, Outside, EqualPoints, Turned, SideTwice, OpenSide, MissingPiece, Accepted}
+use Rattle.verdict_meaning.specs.Checks.{verdict}
+use Rattle.verdict_meaning.specs.Numbers.{toldVerdict}
+use Rattle.verdict_meaning.specs.Covered.{Covered}
+use Rattle.verdict_meaning.proofs.Verdicts.{checked}
+use Rattle.verdict_meaning.proofs.Accepted.{accepted-covered}
+use Rattle.exports.specs.Inputs.{patchIn, settingsIn}
+use Rattle.exports.specs.Replies.{twoWords}
+use Rattle.exports.specs.Calls.{Says}
+use Rattle.exports.proofs.Together.{known-zero}
+use Rattle.mesh_exports.specs.Founds.{checkSays}
+
+-- no fault has the number 0
+zero-accepted : (v : Verdict) → toldVerdict v .number ≡ 0 → v ≡ Accepted
+zero-accepted Accepted e = refl
+zero-accepted BadTop e = absurd (omega arith)
+zero-accepted Isolines e = absurd (omega arith)
+zero-accepted Dots e = absurd (omega arith)
+zero-accepted ShouldBeDiscarded e = absurd (omega arith)
+zero-accepted NotThrees e = absurd (omega arith)
+zero-accepted (UnknownIndex place) e = absurd (omega arith)
+zero-accepted (Outside point) e = absurd (omega arith)
+zero-accepted (EqualPoints first second) e = absurd (omega arith)
+zero-accepted (Turned triangle) e = absurd (omega arith)
+zero-accepted (SideTwice first second) e = absurd (omega arith)
+zero-accepted (OpenSide triangle corner) e = absurd (omega arith)
+zero-accepted (MissingPiece piece) e = absurd (omega arith)
+
+pub called-covered : (bs : List ℕ) (xs : List Float) (pw iw : List ℕ) {c′ : List ℕ} → Says twoWords (checkSays bs xs pw iw) c′ 0
+    → discards (patchIn bs xs) ≡ false → Covered (settingsIn bs) (patchIn bs xs) pw iw
+called-covered bs xs pw iw s d =
+    let v = verdict (settingsIn bs) (patchIn bs xs) pw iw in
+    let k = known-zero bs (toldVerdict v) (sym (s .number)) in
+    let z = zero-accepted v (ap (λ (x : Told). x .number) (sym k) ∙ sym (s .number)) in
+    accepted-covered (settingsIn bs) (patchIn bs xs) pw iw (checked (settingsIn bs) (patchIn bs xs) pw iw (sym z)) d

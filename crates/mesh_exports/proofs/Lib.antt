@@ -1,0 +1,3 @@
+-- The laws of `mesh_exports`.
+pub mod Calls
+pub mod Covered

@@ -1,0 +1,2 @@
+-- The definitions of `mesh_exports`.
+pub mod Founds

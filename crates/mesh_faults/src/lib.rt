@@ -1,0 +1,5 @@
+// The faults that a mesh of triangles can have: the search for the first place of each.
+pub mod area;
+pub mod inside;
+pub mod outline;
+pub mod side;

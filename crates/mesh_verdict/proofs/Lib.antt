@@ -1,0 +1,2 @@
+-- The laws of the first kind of fault.
+pub mod Chain

@@ -1,0 +1,2 @@
+-- The definitions of the first kind of fault.
+pub mod Faults

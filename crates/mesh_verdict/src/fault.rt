@@ -1,0 +1,97 @@
+// The faults of a mesh one after the other, in the order of finding.
+ghost use mathlib.Core.Path.{_≡_};
+ghost use lib.ListN.{length};
+ghost use Rattle.drawing.specs.Words.{readPoints, readTriangles};
+ghost use Rattle.mesh_faults.specs.Turns.{AllNumbered, AllSmall};
+ghost use Rattle.mesh_verdict.specs.Faults.{outlineFault, sideFault, pointFault, meshFault};
+use crate::Verdict;
+
+// The faults that single sides and the outline show.
+fn outline_fault(outline: &[u32], points: &[u32], indices: &[u16], positive: bool) -> Verdict
+    requires { ⌜ AllNumbered (length (readPoints (now points))) (now indices) ⌝ }
+    ensures { λ r. ⌜ r ≡ outlineFault positive (readPoints (now (outline .entry))) (readPoints (now (points .entry))) (readTriangles (now (indices .entry))) ⌝ }
+{
+    let side = mesh_faults::side::first_open(outline, points, indices, positive);
+    if side < indices.len() / 3 * 3 {
+        return Verdict::OpenSide {
+            triangle: side / 3,
+            corner: side % 3,
+        };
+    }
+    let piece = mesh_faults::outline::first_missing(outline, points, indices, positive);
+    if piece < outline.len() / 3 {
+        return Verdict::MissingPiece { piece };
+    }
+    Verdict::Accepted
+}
+
+// The faults of triangles before those.
+fn side_fault(outline: &[u32], points: &[u32], indices: &[u16], positive: bool) -> Verdict
+    requires { ⌜ AllNumbered (length (readPoints (now points))) (now indices) ⌝ ∗ ⌜ AllSmall (readPoints (now points)) ⌝ }
+    ensures { λ r. ⌜ r ≡ sideFault positive (readPoints (now (outline .entry))) (readPoints (now (points .entry))) (readTriangles (now (indices .entry))) ⌝ }
+{
+    let count = indices.len() / 3;
+    let triangle = mesh_faults::area::first_turned(points, indices, positive);
+    if triangle < count {
+        return Verdict::Turned { triangle };
+    }
+    let reused = searches::pair::first_reused(indices);
+    if reused < count {
+        let t = searches::triangle::triangle_at(indices, reused);
+        return Verdict::SideTwice {
+            first: searches::pair::first_sharing(indices, t, reused),
+            second: reused,
+        };
+    }
+    outline_fault(outline, points, indices, positive)
+}
+
+// The faults of points before those.
+fn point_fault(
+    outline: &[u32],
+    points: &[u32],
+    indices: &[u16],
+    triangles: bool,
+    positive: bool,
+) -> Verdict
+    requires { ⌜ AllNumbered (length (readPoints (now points))) (now indices) ⌝ }
+    ensures { λ r. ⌜ r ≡ pointFault triangles positive (readPoints (now (outline .entry))) (readPoints (now (points .entry))) (readTriangles (now (indices .entry))) ⌝ }
+{
+    let count = points.len() / 3;
+    let point = mesh_faults::inside::first_outside(points, triangles);
+    if point < count {
+        return Verdict::Outside { point };
+    }
+    let repeated = searches::point::first_repeated(points);
+    if repeated < count {
+        let q = searches::point::point_at(points, repeated);
+        return Verdict::EqualPoints {
+            first: searches::point::first_equal(points, q, repeated),
+            second: repeated,
+        };
+    }
+    side_fault(outline, points, indices, positive)
+}
+
+// The first kind of fault of a mesh of a triangle patch, or a quad patch, with the outline's points and the turn asked.
+pub fn mesh_fault(
+    outline: &[u32],
+    points: &[u32],
+    indices: &[u16],
+    triangles: bool,
+    positive: bool,
+) -> Verdict
+    ensures { λ r. ⌜ r ≡ meshFault triangles positive (readPoints (now (outline .entry))) (now (points .entry)) (now (indices .entry)) ⌝ }
+{
+    if points.len() % 3 != 0 {
+        return Verdict::NotThrees;
+    }
+    if indices.len() % 3 != 0 {
+        return Verdict::NotThrees;
+    }
+    let place = searches::index::first_unknown(indices, points.len() / 3);
+    if place < indices.len() {
+        return Verdict::UnknownIndex { place };
+    }
+    point_fault(outline, points, indices, triangles, positive)
+}

@@ -1,0 +1,2 @@
+-- What is tested of a mesh, whoever cut it.
+pub mod Sound

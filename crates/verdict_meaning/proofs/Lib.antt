@@ -1,0 +1,11 @@
+-- The laws of what checking a mesh answers, lowest first.
+pub mod Tells
+pub mod Sides
+pub mod PointTests
+pub mod SideTests
+pub mod Stages
+pub mod Forward
+pub mod Back
+pub mod Verdicts
+pub mod Accepted
+pub mod Own
