@@ -324,12 +324,50 @@ YOKTVARIM_MUST_USE static inline unsigned yoktvarim_is_accepted(yoktvarim_verdic
     return verdict == YOKTVARIM_ACCEPTED;
 }
 
+/* What replaying a recording answers. 0 is the one yes: ask yoktvarim_all_agree, not `if (answer)`. */
+typedef enum yoktvarim_replay_answer {
+    YOKTVARIM_ALL_AGREE = 0,              /* told->entry is the number of entries, 0 for a header alone */
+    YOKTVARIM_REPLAY_NOT_A_RECORDING = 5, /* under 5 bytes, or they do not begin with "TSR" */
+    YOKTVARIM_REPLAY_UNKNOWN_VERSION = 6, /* the version is not 1 */
+    YOKTVARIM_REPLAY_CUT_ENTRY = 7,       /* every whole entry agrees, and 1 to 33 bytes are left after them */
+    YOKTVARIM_REPLAY_DIFFERS = 60         /* told->entry is the first entry that differs, counted from 0 */
+} yoktvarim_replay_answer;
+
+/* One side of an entry: the number of an answer and the counts of points and indices, which are 0 unless it is 0, drawn. What was
+ * recorded can be any number of one byte, and any two of two bytes. */
+typedef struct yoktvarim_replay_side {
+    uint64_t answer;
+    uint64_t points;
+    uint64_t indices;
+} yoktvarim_replay_side;
+
+/* What is told of a recording: beside ALL_AGREE the number of entries alone, and beside DIFFERS all of it. */
+typedef struct yoktvarim_replay_told {
+    uint64_t entry;
+    yoktvarim_replay_side recorded;
+    yoktvarim_replay_side replayed;
+} yoktvarim_replay_told;
+
+/* Replays a recording of byte_count bytes: a header, the letters "TSR" and the version 1 in two bytes, and then entries of 34 bytes,
+ * each a job record of version 1, the number of the answer in a byte, and points and indices in two bytes each, low byte first.
+ * Draws each record into full-size lists of its own (about 100 kB on the stack) and compares number and counts. A record with a
+ * setting out of range agrees exactly if it carries 8 and zero counts. *told is always written; whatever is not told is 0. */
+YOKTVARIM_MUST_USE yoktvarim_replay_answer yoktvarim_replay(const uint8_t *bytes, size_t byte_count, yoktvarim_replay_told *told);
+
+/* 1 for YOKTVARIM_ALL_AGREE, 0 for every other answer. */
+YOKTVARIM_MUST_USE static inline unsigned yoktvarim_all_agree(yoktvarim_replay_answer answer)
+{
+    return answer == YOKTVARIM_ALL_AGREE;
+}
+
 /* The library reads and writes exactly this. */
 YOKTVARIM_ASSERT(sizeof(yoktvarim_answer) == 4, "an answer is 32 bits: compile without -fshort-enums");
 YOKTVARIM_ASSERT(sizeof(yoktvarim_verdict) == 4, "a verdict is 32 bits: compile without -fshort-enums");
 YOKTVARIM_ASSERT(sizeof(yoktvarim_settings) == 6, "six setting bytes");
 YOKTVARIM_ASSERT(sizeof(yoktvarim_levels) == 24, "six 32-bit floats");
 YOKTVARIM_ASSERT(sizeof(yoktvarim_clamps) == 6, "a byte for each level");
+YOKTVARIM_ASSERT(sizeof(yoktvarim_replay_answer) == 4, "an answer is 32 bits: compile without -fshort-enums");
+YOKTVARIM_ASSERT(sizeof(yoktvarim_replay_told) == 56, "seven 64-bit words");
 YOKTVARIM_ASSERT(sizeof(size_t) == 8, "64-bit lengths");
 #undef YOKTVARIM_ASSERT
 

@@ -29,6 +29,7 @@ mod measure;
 mod mesh;
 mod patch;
 pub mod raw;
+mod replay;
 
 pub use check::{check_mesh, Verdict};
 pub use clamps::{Clamp, Clamps};
@@ -36,6 +37,7 @@ pub use draw::{draw_indices, draw_points, IndicesAnswer, PointsAnswer};
 pub use measure::{measure, Size};
 pub use mesh::{mesh, BadTop, Mesh};
 pub use patch::{DomainOrigin, Patch, Settings, Spacing, VertexOrder, GREATEST_TOP};
+pub use replay::{replay, Outcome, Replay};
 
 /// A vertex list of this many words has room for every patch at every top: 4,225 points of 3 words each.
 pub const VERTEX_WORDS: usize = 12_675;

@@ -14,18 +14,20 @@ use Rattle.job.specs.declared.header.Header.{Header}
 use Rattle.job.specs.declared.header.Header.the-variants.{Read, NotAJob, UnknownVersion}
 use Rattle.job.specs.Bytes.{word}
 use Rattle.job.specs.Version.{versionNumber}
-use Rattle.job.specs.Header.{mark, startsWith, start, headerOf, headerNumber, HeaderRead, HeaderMeans}
+use Rattle.job.specs.Header.{mark, startsWith, lacksMark, start, headerOf, headerNumber, HeaderRead, HeaderMeans}
 use Rattle.job.proofs.Numbers.{apart}
 use Rattle.job.proofs.Marks.{starts-take, take-starts}
 
 module _ (bs : List ℕ) where
-  pub header-short : length bs < 5 → headerOf bs ≡ NotAJob
+  pub header-lacks : lacksMark mark bs ≡ true → headerOf bs ≡ NotAJob
   unfolding headerOf
-  header-short h = rw (lt-ltb _ _ h)
+  header-lacks h = rw h
+
+  pub header-short : length bs < 5 → headerOf bs ≡ NotAJob
+  header-short h = header-lacks (rw (lt-ltb _ _ h))
 
   pub header-other : startsWith mark bs ≡ false → headerOf bs ≡ NotAJob
-  unfolding headerOf
-  header-other h = rw (h, or-true)
+  header-other h = header-lacks (rw (h, or-true))
 
   pub header-version : 5 ≤ length bs → startsWith mark bs ≡ true → (word 2 bs 3 ≡ 1 → ⊥) → (word 2 bs 3 ≡ 2 → ⊥) → headerOf bs ≡ UnknownVersion
   unfolding headerOf

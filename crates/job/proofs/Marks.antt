@@ -1,14 +1,15 @@
 -- A mark at the beginning of a list. Assumes nothing.
 use Prim.Native.Nat.{ℕ, _≤_, _<_}
+use native.Mathlib.Decide.{decLe}
 use native.Mathlib.Omega.{arith}
 use mathlib.Core.Path.{_≡_, refl, sym, ap, _∙_}
 use mathlib.Core.Bool.{Bool, true, false, _&&_, false≢true}
 use mathlib.Core.List.{List, [], _∷_}
-use borrow.Author.Tests.{eq-eqb, eqb-true}
+use borrow.Author.Tests.{eq-eqb, eqb-true, lt-ltb, le-ltb, not-false}
 use lib.Dec.{eqb}
 use lib.ListN.{length, getD, take}
 use lib.Seq.{ext-getD, getD-take, length-take-le}
-use Rattle.job.specs.Header.{startsWith}
+use Rattle.job.specs.Header.{startsWith, lacksMark}
 
 both : (s t : Bool) → (s && t) ≡ true → (s ≡ true) × (t ≡ true)
 both true t h = (refl, h)
@@ -43,3 +44,10 @@ module _ (ms bs : List ℕ) where
       differ : (t : Bool) → startsWith ms bs ≡ t → t ≡ false
       differ false e = refl
       differ true e = absurd (d (sym (getD-take (length ms) bs k 0 h) ∙ ap (λ (l : List ℕ). getD l k 0) (starts-take ms bs e)))
+
+  -- a file that does not lack the mark has a header's five bytes, and begins with it
+  pub has-mark : lacksMark ms bs ≡ false → (5 ≤ length bs) × (startsWith ms bs ≡ true)
+  has-mark h = elim (decLe 5 (length bs)) [
+    | yes l ↦ (l, not-false (startsWith ms bs) (rw (le-ltb (length bs) 5 l) at h))
+    | no l ↦ absurd (false≢true (sym h ∙ rw (lt-ltb (length bs) 5 (omega arith))))
+  ]

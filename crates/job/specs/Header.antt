@@ -23,9 +23,17 @@ startsWith [] bs = true
 startsWith (m ∷ ms) [] = false
 startsWith (m ∷ ms) (b ∷ bs) = eqb b m && startsWith ms bs
 
--- answer 5 applies: under 5 bytes, or another mark
+-- a file has under 5 bytes, or another mark than ms
+abbrev pub lacksMark : List ℕ → List ℕ → Bool
+lacksMark ms bs = ltb (length bs) 5 || not (startsWith ms bs)
+
+-- the number of its version: 16 bits after the mark
+abbrev pub versionIn : List ℕ → ℕ
+versionIn bs = word 2 bs 3
+
+-- answer 5 applies
 abbrev pub notAJob : List ℕ → Bool
-notAJob bs = ltb (length bs) 5 || not (startsWith mark bs)
+notAJob bs = lacksMark mark bs
 
 -- the first record is at byte 5
 abbrev pub start : Cursor
@@ -35,15 +43,15 @@ start = record { at = 5 }
 abbrev pub byVersion : ℕ → Header
 byVersion n = cond (eqb n 1) (Read One start) (cond (eqb n 2) (Read Two start) UnknownVersion)
 
--- what the header of a job file says: the version is 16 bits after the mark
+-- what the header of a job file says
 unfoldable pub headerOf : List ℕ → Header
-headerOf bs = cond (notAJob bs) NotAJob (byVersion (word 2 bs 3))
+headerOf bs = cond (notAJob bs) NotAJob (byVersion (versionIn bs))
 
 -- when each answer is the right one
 abbrev pub HeaderMeans : List ℕ → Header → Type 0
 HeaderMeans bs NotAJob = (length bs < 5) ⊎ (take 3 bs ≡ mark → ⊥)
-HeaderMeans bs UnknownVersion = (5 ≤ length bs) × (take 3 bs ≡ mark) × (word 2 bs 3 ≡ 1 → ⊥) × (word 2 bs 3 ≡ 2 → ⊥)
-HeaderMeans bs (Read v next) = (5 ≤ length bs) × (take 3 bs ≡ mark) × (word 2 bs 3 ≡ versionNumber v) × (next ≡ start)
+HeaderMeans bs UnknownVersion = (5 ≤ length bs) × (take 3 bs ≡ mark) × (versionIn bs ≡ 1 → ⊥) × (versionIn bs ≡ 2 → ⊥)
+HeaderMeans bs (Read v next) = (5 ≤ length bs) × (take 3 bs ≡ mark) × (versionIn bs ≡ versionNumber v) × (next ≡ start)
 
 -- the number of each answer that refuses; none, [], where a header is read
 abbrev pub headerNumber : Header → List ℕ

@@ -2,7 +2,7 @@
 ghost use mathlib.Core.Path.{_≡_};
 ghost use Prim.Native.Nat.{_≤_};
 ghost use lib.ListN.{length};
-ghost use Rattle.job.specs.Header.{startsWith, HeaderRead};
+ghost use Rattle.job.specs.Header.{startsWith, lacksMark, versionIn, HeaderRead};
 use crate::cursor::Cursor;
 use crate::version::Version;
 use crate::word::read_u16;
@@ -31,17 +31,32 @@ fn starts_with(bytes: &[u8], mark: &[u8]) -> bool
     true
 }
 
+// Whether a file is too short for a header of five bytes, or begins with another mark.
+pub fn lacks_mark(bytes: &[u8], mark: &[u8; 3]) -> bool
+    ensures { λ r. ⌜ r ≡ lacksMark (now (mark .entry)) (now (bytes .entry)) ⌝ }
+{
+    if bytes.len() < 5 {
+        return true;
+    }
+    !starts_with(bytes, mark)
+}
+
+// The number of the version, after the mark.
+pub fn read_version(bytes: &[u8]) -> u16
+    requires { ⌜ 5 ≤ length (now bytes) ⌝ }
+    ensures { λ r. ⌜ r ≡ versionIn (now (bytes .entry)) ⌝ }
+{
+    read_u16(bytes, 3)
+}
+
 pub fn read_header(bytes: &[u8]) -> Header
     ensures { λ r. ⌜ HeaderRead (now (bytes .entry)) r ⌝ }
 {
-    if bytes.len() < 5 {
-        return Header::NotAJob;
-    }
-    if !starts_with(bytes, &MARK) {
+    if lacks_mark(bytes, &MARK) {
         return Header::NotAJob;
     }
     let next = Cursor { at: 5 };
-    match read_u16(bytes, 3) {
+    match read_version(bytes) {
         1 => Header::Read {
             version: Version::One,
             next,

@@ -7,4 +7,4 @@ pub mod record;
 pub mod setting;
 mod top;
 pub mod version;
-mod word;
+pub mod word;

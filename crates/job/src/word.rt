@@ -4,7 +4,7 @@ ghost use Prim.Native.Nat.{_+_, _≤_};
 ghost use lib.ListN.{length};
 ghost use Rattle.job.specs.Bytes.{word};
 
-pub(crate) fn read_u16(bytes: &[u8], at: usize) -> u16
+pub fn read_u16(bytes: &[u8], at: usize) -> u16
     requires { ⌜ at + 2 ≤ length (now bytes) ⌝ }
     ensures { λ r. ⌜ r ≡ word 2 (now (bytes .entry)) at ⌝ }
 {

@@ -37,6 +37,9 @@ pub digits-more : (x : ℕ) → 10 ≤ x → digits x ≡ digits (x / 10) ++ ((4
 unfolding digits
 digits-more x h = rw (in-more x x h, in-same x (suc (x / 10)) (x / 10) (omega arith) (omega arith))
 
+pub digits-more-length : (x : ℕ) → 10 ≤ x → length (digits x) ≡ length (digits (x / 10)) + 1
+digits-more-length x h = ap length (digits-more x h) ∙ length-append (digits (x / 10)) ((48 + x % 10) ∷ [])
+
 -- ---- by pairs, as the code writes them
 
 pub digits-two : (x : ℕ) → 10 ≤ x → x < 100 → digits x ≡ (48 + x / 10) ∷ (48 + x % 10) ∷ []
@@ -105,3 +108,7 @@ digits-length = digits-all (λ x bs. (k : ℕ) → x < 10 ^ suc k → length bs 
 
 pub digits-short : (x : ℕ) → x < 2 ^ 32 → length (digits x) ≤ 10
 digits-short x h = digits-length x 9 (omega arith)
+
+-- a number of 64 bits has at most twenty
+pub digits-long : (x : ℕ) → x < 2 ^ 64 → length (digits x) ≤ 20
+digits-long x h = digits-length x 19 (omega arith)

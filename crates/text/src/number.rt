@@ -30,3 +30,16 @@ pub fn put_number(out: &mut [u8], at: usize, x: u32) -> usize
     let w = put_number(out, at, x / 100);
     put_pair(out, w, x % 100)
 }
+
+// All digits of a longer x: the last one, after those before it.
+pub fn put_long(out: &mut [u8], at: usize, x: u64) -> usize
+    requires { ⌜ at + length (digits x) ≤ length (now out) ⌝ }
+    ensures { λ r. ⌜ Wrote (now (out .entry)) at (digits x) (now (out .exit)) r ⌝ }
+{
+    if x < 4294967296 {
+        return put_number(out, at, x as u32);
+    }
+    let w = put_long(out, at, x / 10);
+    out[w] = b'0' + (x % 10) as u8;
+    w + 1
+}

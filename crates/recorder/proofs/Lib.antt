@@ -1,0 +1,3 @@
+-- The laws of `recorder`, lowest first.
+pub mod Entry
+pub mod Recordings

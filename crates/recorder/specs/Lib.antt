@@ -1,0 +1,2 @@
+-- The definitions of `recorder`.
+pub mod Recordings

@@ -1,0 +1,71 @@
+-- The recording of calls that were made: each record as the writer of job files writes it, and what drawing answered to it. Assumes
+-- nothing.
+use Prim.Native.Nat.{ℕ}
+use mathlib.Core.List.{List, [], _∷_, _++_}
+use lib.ListN.{length, getD}
+use Rattle.tessellate.specs.declared.answer.PointsAnswer.{PointsAnswer}
+use Rattle.tessellate.specs.declared.answer.IndicesAnswer.{IndicesAnswer}
+use Rattle.tessellate.specs.Answers.{toldPoints, toldIndices}
+use Rattle.tessellate.specs.Draws.{DrewPoints, DrewIndices}
+use Rattle.patch_text.specs.Room.{FullSize}
+use Rattle.job.specs.declared.version.Version.the-variants.{One}
+use Rattle.job.specs.declared.record.Record.{Record}
+use Rattle.job.specs.Bytes.{lowBytes}
+use Rattle.job.specs.Patches.{patchOf}
+use Rattle.job_writer.specs.Written.{recordBytes}
+use Rattle.job_writer.specs.Patterns.{Agrees}
+use Rattle.job_writer.specs.Whole.{Writable}
+use Rattle.replay.specs.declared.outcome.Outcome.{Outcome}
+use Rattle.replay.specs.Replays.{mark}
+
+-- a call: a record, and what the two drawing operations answered to it
+pub record Call : Type 0 where
+  pub entry : Record
+  pub points : PointsAnswer
+  pub indices : IndicesAnswer
+
+-- the call was made: the record can be written, and both operations drew its patch into full-size lists
+pub record Made (c : Call) : Type 0 where
+  pub writable : Writable One (c .entry)
+  pub levels : Agrees (c .entry)
+  pub v : List ℕ
+  pub v′ : List ℕ
+  pub i : List ℕ
+  pub i′ : List ℕ
+  pub full : FullSize (length v) (length i)
+  pub drew-points : DrewPoints (c .entry .settings) (patchOf (c .entry)) v v′ (c .points)
+  pub drew-indices : DrewIndices (c .entry .settings) (patchOf (c .entry)) i i′ (c .indices)
+
+-- every call of the list was made
+pub data AllMade : List Call → Type 0 where
+  none : AllMade []
+  more : {c : Call} {cs : List Call} → Made c → AllMade cs → AllMade (c ∷ cs)
+
+-- the answer's number and both counts, zero unless drawn
+abbrev pub answered : Call → Outcome
+answered c = record {
+  answer = toldPoints (c .points) .number;
+  points = getD (toldPoints (c .points) .values) 0 0;
+  indices = getD (toldIndices (c .indices) .values) 0 0;
+}
+
+-- in an entry: a byte, and two bytes for each count, low byte first
+abbrev pub outcomeBytes : Outcome → List ℕ
+outcomeBytes o = (o .answer ∷ []) ++ (lowBytes 2 (o .points) ++ lowBytes 2 (o .indices))
+
+-- an entry: the record, and what was answered
+unfoldable pub entryBytes : Call → List ℕ
+entryBytes c = recordBytes One (c .entry) ++ outcomeBytes (answered c)
+
+-- entries, one after the other
+unfoldable pub entriesBytes : List Call → List ℕ
+entriesBytes [] = []
+entriesBytes (c ∷ cs) = entryBytes c ++ entriesBytes cs
+
+-- the header: the mark, and version 1
+abbrev pub headerBytes : List ℕ
+headerBytes = mark ++ lowBytes 2 1
+
+-- the recording of some calls
+abbrev pub recordingOf : List Call → List ℕ
+recordingOf cs = headerBytes ++ entriesBytes cs

@@ -1,0 +1,27 @@
+-- What a call that replays a recording answers and leaves behind, for every input: bs are the bytes, and w′ the seven words at exit.
+-- Assumes nothing.
+use Prim.Native.Nat.{ℕ}
+use mathlib.Core.Path.{_≡_}
+use mathlib.Core.List.{List, [], _∷_}
+use lib.ListN.{getD}
+use Rattle.replay.specs.declared.answer.Replay.{Replay}
+use Rattle.replay.specs.declared.answer.Replay.the-variants.{AllAgree, Differs, NotARecording, UnknownVersion, CutEntry}
+use Rattle.replay.specs.Told.{toldReplay}
+use Rattle.replay.specs.Replays.{replayOf}
+
+-- the number of an answer: that of its refusal; 0 where all agree; 60, a number of our own, where an entry differs
+abbrev pub callNumber : Replay → ℕ
+callNumber (AllAgree n) = 0
+callNumber (Differs k a b) = 60
+callNumber NotARecording = 5
+callNumber UnknownVersion = 6
+callNumber CutEntry = 7
+
+-- seven words for the values of an answer, 0 where there is none
+abbrev pub sevenWords : List ℕ → List ℕ
+sevenWords vs = getD vs 0 0 ∷ getD vs 1 0 ∷ getD vs 2 0 ∷ getD vs 3 0 ∷ getD vs 4 0 ∷ getD vs 5 0 ∷ getD vs 6 0 ∷ []
+
+-- a call
+pub record ReplayCalled (bs w′ : List ℕ) (r : ℕ) : Type 0 where
+  pub number : r ≡ callNumber (replayOf bs)
+  pub told : w′ ≡ sevenWords (toldReplay (replayOf bs) .values)

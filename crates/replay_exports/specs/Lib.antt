@@ -1,0 +1,2 @@
+-- The definitions of `replay_exports`.
+pub mod Calls

@@ -1,0 +1,46 @@
+// Reading standard input.
+ghost use Prim.Native.Nat.{_+_, _≤_};
+ghost use lib.ListN.{length};
+ghost use Rattle.io.specs.Counts.{Counts};
+use libc::STDIN_FILENO;
+
+// How many bytes were read, and whether reading stopped at a read that failed. Fewer bytes than asked for and no failure: the input
+// has ended.
+pub struct Input {
+    pub count: usize,
+    pub failed: bool,
+}
+
+// One read, to the bytes from `at` on.
+fn read_on(bytes: &mut [u8], at: usize) -> Input
+    requires { ⌜ at ≤ length (now bytes) ⌝ }
+    ensures { λ r. ⌜ at + r .count ≤ length (now (bytes .entry)) ⌝ }
+{
+    let rest = &mut bytes[at..];
+    let got = libc::read(STDIN_FILENO, rest);
+    Input {
+        count: io::count(got, rest),
+        failed: got < 0,
+    }
+}
+
+// Reads to the front of `bytes` until they are full, the input ends or a read fails.
+pub fn read_front(bytes: &mut [u8]) -> Input
+    ensures { λ r. ⌜ Counts (r .count) (now (bytes .exit)) ⌝ }
+{
+    let mut at = 0;
+    while at < bytes.len() {
+        let next = read_on(bytes, at);
+        if next.count == 0 {
+            return Input {
+                count: at,
+                failed: next.failed,
+            };
+        }
+        at += next.count;
+    }
+    Input {
+        count: at,
+        failed: false,
+    }
+}
