@@ -360,6 +360,77 @@ YOKTVARIM_MUST_USE static inline unsigned yoktvarim_all_agree(yoktvarim_replay_a
     return answer == YOKTVARIM_ALL_AGREE;
 }
 
+/* Two designers on one vertex list and one index list, each with a quota of words in both. The first designer's part of a list begins
+ * at its word 0, the second's right after it. Patches are appended in a designer's part, points and indices or neither, with indices
+ * that count from the part's beginning.
+ *
+ * Take any calls since a start, each handed the state that the last one left and, unless it is refused, the same two lists, which
+ * nobody else writes. What one designer gets (every answer, every count and every word of the own part) is the same as if the other had
+ * made none of them, and answers depend only on the own quotas, the own calls and the two lists' lengths at the start. A fresh start
+ * ends both designs and begins this anew. Nothing is said of time: how long a call takes may depend on everything; and calls on one
+ * state or on the same lists are not made at once. */
+
+/* What these calls answer, in the order in which they are looked for. No other number is ever given. */
+typedef enum yoktvarim_share_answer {
+    YOKTVARIM_SHARE_DONE = 0,                  /* started, cleared, or drawn: counts[0] points and counts[1] indices were appended */
+    YOKTVARIM_SHARE_QUOTAS_TOO_LARGE = 12,     /* start: the quotas add up past a list */
+    YOKTVARIM_SHARE_BAD_TOP = 11,              /* draw: as YOKTVARIM_BAD_TOP */
+    YOKTVARIM_SHARE_BAD_STATE = 14,            /* draw, clear: a list of another length than at the start, or a state with quotas past
+                                                * a list, more used than a quota or part of a point used */
+    YOKTVARIM_SHARE_UNKNOWN_DESIGNER = 15,     /* draw, clear: the designer is neither 0 nor 1 */
+    YOKTVARIM_SHARE_UNKNOWN_SETTING = 8,       /* draw: as YOKTVARIM_UNKNOWN_SETTING, with the place in counts[0] */
+    YOKTVARIM_SHARE_DISCARDED = 1,             /* draw: as YOKTVARIM_DISCARDED */
+    YOKTVARIM_SHARE_TOO_MANY_POINTS = 13,      /* draw: the part would have more than 65,535 points */
+    YOKTVARIM_SHARE_NO_ROOM_FOR_VERTICES = 3,  /* draw: too little is left of this designer's quota of vertex words */
+    YOKTVARIM_SHARE_NO_ROOM_FOR_INDICES = 4    /* draw: too little is left of this designer's quota of index words */
+} yoktvarim_share_answer;
+
+/* What a designer asks for at the start, in words. */
+typedef struct yoktvarim_quota {
+    uint64_t vertices;
+    uint64_t indices;
+} yoktvarim_quota;
+
+/* One designer's part of a list: how many words it has, and how many of them are used, from its first word on. */
+typedef struct yoktvarim_part {
+    uint64_t quota;
+    uint64_t used;
+} yoktvarim_part;
+
+/* A list's length at the start, and both designers' parts. */
+typedef struct yoktvarim_shared_list {
+    uint64_t length;
+    yoktvarim_part share[2];
+} yoktvarim_shared_list;
+
+/* The state, which the caller keeps: start fills it, draw and clear change it, and every answer but DONE leaves it as it was. Its ten
+ * numbers may be anything: what cannot be is answered with BAD_STATE. */
+typedef struct yoktvarim_shared {
+    yoktvarim_shared_list vertices;
+    yoktvarim_shared_list indices;
+} yoktvarim_shared;
+
+/* Gives the designers their quotas of both lists, quotas[0] to designer 0 and quotas[1] to designer 1, with nothing used. Of the lists
+ * only the lengths are looked at. DONE or QUOTAS_TOO_LARGE. */
+YOKTVARIM_MUST_USE yoktvarim_share_answer yoktvarim_share_start(const uint32_t *vertices, size_t vertex_words, const uint16_t *indices,
+                                                                size_t index_words, const yoktvarim_quota *quotas,
+                                                                yoktvarim_shared *state);
+
+/* Appends the points and the indices of a patch to the designer's part of each list. Both counts are always written. */
+YOKTVARIM_MUST_USE yoktvarim_share_answer yoktvarim_share_draw(yoktvarim_shared *state, uint32_t designer,
+                                                               const yoktvarim_settings *settings, const yoktvarim_levels *levels,
+                                                               uint32_t *vertices, size_t vertex_words, uint16_t *indices,
+                                                               size_t index_words, uint32_t *counts);
+
+/* Gives the room of the designer's part back; its words stay until they are written over. Of the lists only the lengths are looked at.
+ * DONE, BAD_STATE or UNKNOWN_DESIGNER. */
+YOKTVARIM_MUST_USE yoktvarim_share_answer yoktvarim_share_clear(yoktvarim_shared *state, uint32_t designer, const uint32_t *vertices,
+                                                                size_t vertex_words, const uint16_t *indices, size_t index_words);
+
+YOKTVARIM_ASSERT(sizeof(yoktvarim_share_answer) == 4, "an answer is 32 bits: compile without -fshort-enums");
+YOKTVARIM_ASSERT(sizeof(yoktvarim_quota) == 16, "two 64-bit numbers");
+YOKTVARIM_ASSERT(sizeof(yoktvarim_shared) == 80, "ten 64-bit numbers");
+
 /* The library reads and writes exactly this. */
 YOKTVARIM_ASSERT(sizeof(yoktvarim_answer) == 4, "an answer is 32 bits: compile without -fshort-enums");
 YOKTVARIM_ASSERT(sizeof(yoktvarim_verdict) == 4, "a verdict is 32 bits: compile without -fshort-enums");

@@ -30,6 +30,7 @@ mod mesh;
 mod patch;
 pub mod raw;
 mod replay;
+pub mod shared;
 
 pub use check::{check_mesh, Verdict};
 pub use clamps::{Clamp, Clamps};

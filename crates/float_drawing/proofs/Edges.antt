@@ -31,7 +31,8 @@ use Rattle.tessellate.proofs.Tops.{top-as}
 use Rattle.tessellate.proofs.Together.{points-drawn}
 use Rattle.coordinate.specs.Coordinate.{coordinate}
 use Rattle.float_drawing.specs.declared.answer.FloatsAnswer.{FloatsAnswer}
-use Rattle.float_drawing.specs.Answers.{toldFloats, drewBoth}
+use Rattle.tessellate.specs.Answers.{drewBoth}
+use Rattle.float_drawing.specs.Answers.{toldFloats}
 use Rattle.float_drawing.specs.Draws.{DrewWithFloats}
 use Rattle.float_drawing.specs.Edges.{axis, inRisingOrder, edgeFloat, floatsAlong, SameKind}
 use Rattle.float_drawing.proofs.Together.{fits, as-points}

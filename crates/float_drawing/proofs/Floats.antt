@@ -25,7 +25,8 @@ use Rattle.tessellate.proofs.Tops.{top-as}
 use Rattle.coordinate.specs.Coordinate.{coordinate}
 use Rattle.coordinate.proofs.Laws.{exact, near, triangle-apart, quad-apart}
 use Rattle.float_drawing.specs.declared.answer.FloatsAnswer.{FloatsAnswer}
-use Rattle.float_drawing.specs.Answers.{toldFloats, drewBoth}
+use Rattle.tessellate.specs.Answers.{drewBoth}
+use Rattle.float_drawing.specs.Answers.{toldFloats}
 use Rattle.float_drawing.specs.Draws.{floatWords, DrewWithFloats}
 use Rattle.float_drawing.specs.Said.{FloatOf}
 use Rattle.float_drawing.proofs.Lists.{counted, word-at, word-small}

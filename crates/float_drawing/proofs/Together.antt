@@ -13,12 +13,12 @@ use Rattle.drawing.specs.Demand.{Demand}
 use Rattle.drawing.specs.Inside.{SpotsOnce}
 use Rattle.tessellate.specs.declared.answer.PointsAnswer.the-variants as points
 use Rattle.tessellate.specs.declared.answer.IndicesAnswer.the-variants as indices
-use Rattle.tessellate.specs.Answers.{drew}
+use Rattle.tessellate.specs.Answers.{drew, drewBoth}
 use Rattle.tessellate.specs.Draws.{DrewPoints, DrewIndices}
 use Rattle.tessellate.proofs.Draws.{told-drawn, written}
 use Rattle.tessellate.proofs.Together.{together, once-together}
 use Rattle.float_drawing.specs.declared.answer.FloatsAnswer.{FloatsAnswer}
-use Rattle.float_drawing.specs.Answers.{toldFloats, drewBoth}
+use Rattle.float_drawing.specs.Answers.{toldFloats}
 use Rattle.float_drawing.specs.Draws.{DrewWithFloats}
 use Rattle.float_drawing.proofs.Verdicts.{Fits, drawn-fits}
 

@@ -15,10 +15,10 @@ use Rattle.patch.specs.declared.settings.Settings.{Settings}
 use Rattle.patch.specs.Subdivide.{discards}
 use Rattle.tessellate.specs.declared.answer.Size.{Size}
 use Rattle.tessellate.specs.declared.answer.Size.the-variants.{Counts, Discarded, BadTop}
-use Rattle.tessellate.specs.Answers.{Told, refused, pointsOf, indicesOf, measured}
+use Rattle.tessellate.specs.Answers.{Told, refused, pointsOf, indicesOf, measured, drewBoth}
 use Rattle.float_drawing.specs.declared.answer.FloatsAnswer.{FloatsAnswer}
 use Rattle.float_drawing.specs.declared.answer.FloatsAnswer.the-variants.{Drawn}
-use Rattle.float_drawing.specs.Answers.{drewBoth, toldFloats, roomVerdict, floatsVerdict}
+use Rattle.float_drawing.specs.Answers.{toldFloats, roomVerdict, floatsVerdict}
 
 module _ (v i f : ℕ) where
   -- by what measuring says

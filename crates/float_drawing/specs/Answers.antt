@@ -2,19 +2,14 @@
 -- Assumes nothing.
 use Prim.Native.Nat.{ℕ, _*_}
 use mathlib.Core.Bool.{cond}
-use mathlib.Core.List.{[], _∷_}
 use lib.Dec.{ltb}
 use Rattle.level.specs.Top.{isTop}
 use Rattle.patch.specs.declared.kinds.Patch.{Patch}
 use Rattle.patch.specs.declared.settings.Settings.{Settings}
 use Rattle.patch.specs.Subdivide.{discards}
-use Rattle.tessellate.specs.Answers.{Told, refused, pointsOf, indicesOf}
+use Rattle.tessellate.specs.Answers.{Told, refused, drewBoth, pointsOf, indicesOf}
 use Rattle.float_drawing.specs.declared.answer.FloatsAnswer.{FloatsAnswer}
 use Rattle.float_drawing.specs.declared.answer.FloatsAnswer.the-variants.{Drawn, Discarded, NoRoomForVertices, NoRoomForIndices, NoRoomForFloats, BadTop}
-
--- drawn, with both counts
-abbrev pub drewBoth : ℕ → ℕ → Told
-drewBoth points indices = record { number = 0; values = points ∷ indices ∷ [] }
 
 -- the table of the two drawing operations, with 9 for the floats
 abbrev pub toldFloats : FloatsAnswer → Told

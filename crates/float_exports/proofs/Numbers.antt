@@ -9,11 +9,11 @@ use lib.Ieee.{Float}
 use Rattle.level.specs.Top.{isTop}
 use Rattle.patch.specs.Subdivide.{discards}
 use Rattle.job.specs.Settings.{firstUnknown}
-use Rattle.tessellate.specs.Answers.{refused, pointsOf, indicesOf}
+use Rattle.tessellate.specs.Answers.{refused, pointsOf, indicesOf, drewBoth}
 use Rattle.exports.specs.Inputs.{topIn, patchIn, settingsIn}
 use Rattle.exports.specs.Replies.{unknownSetting, badTop}
 use Rattle.exports.specs.Calls.{known, OneOf}
-use Rattle.float_drawing.specs.Answers.{drewBoth, floatsVerdict}
+use Rattle.float_drawing.specs.Answers.{floatsVerdict}
 use Rattle.float_exports.specs.Calls.{floatsSay}
 
 module _ (bs : List ℕ) (xs : List Float) where

@@ -11,12 +11,12 @@ use Rattle.level.specs.Top.{isTop}
 use Rattle.patch.specs.Subdivide.{discards}
 use Rattle.drawing.specs.Words.{readPoints}
 use Rattle.drawing.specs.Demand.{Demand}
-use Rattle.tessellate.specs.Answers.{Told, refused, pointsOf, indicesOf}
+use Rattle.tessellate.specs.Answers.{Told, refused, pointsOf, indicesOf, drewBoth}
 use Rattle.exports.specs.Inputs.{patchIn, settingsIn}
 use Rattle.exports.specs.Replies.{twoWords}
 use Rattle.exports.proofs.Together.{known-zero}
 use Rattle.float_drawing.specs.declared.answer.FloatsAnswer.the-variants.{Drawn}
-use Rattle.float_drawing.specs.Answers.{drewBoth, floatsVerdict}
+use Rattle.float_drawing.specs.Answers.{floatsVerdict}
 use Rattle.float_drawing.specs.Draws.{DrewWithFloats}
 use Rattle.float_drawing.proofs.Together.{together-with-floats}
 use Rattle.float_exports.specs.Calls.{FloatsCalled}

@@ -32,6 +32,10 @@ refused n = record { number = n; values = [] }
 abbrev pub drew : ℕ → Told
 drew n = record { number = 0; values = n ∷ [] }
 
+-- drawn, with both counts
+abbrev pub drewBoth : ℕ → ℕ → Told
+drewBoth p i = record { number = 0; values = p ∷ i ∷ [] }
+
 -- the table, number by number; 2 once stood for more points than an index can number, and is not used again
 abbrev pub toldPoints : PointsAnswer → Told
 toldPoints (points.Drawn n) = drew n

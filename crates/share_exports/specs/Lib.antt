@@ -1,0 +1,3 @@
+-- The definitions of `share_exports`.
+pub mod Words
+pub mod Calls

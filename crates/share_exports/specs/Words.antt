@@ -1,0 +1,37 @@
+-- The state, the quotas and a designer as words. Assumes nothing.
+use Prim.Native.Nat.{ℕ, _+_}
+use mathlib.Core.Bool.{cond}
+use mathlib.Core.List.{List, [], _∷_, _++_}
+use lib.Dec.{eqb}
+use lib.ListN.{getD}
+use Rattle.shares.specs.declared.state.Designer.{Designer}
+use Rattle.shares.specs.declared.state.Designer.the-variants.{First, Second}
+use Rattle.shares.specs.declared.state.SharedList.{SharedList}
+use Rattle.shares.specs.declared.state.Quota.{Quota}
+use Rattle.shares.specs.declared.state.State.{State}
+
+-- a list's five words from k on: its length, and quota and used words of each designer
+abbrev pub listIn : List ℕ → ℕ → SharedList
+listIn ws k = record {
+  length = getD ws k 0;
+  first = record { quota = getD ws (k + 1) 0; used = getD ws (k + 2) 0 };
+  second = record { quota = getD ws (k + 3) 0; used = getD ws (k + 4) 0 };
+}
+
+abbrev pub listWords : SharedList → List ℕ → List ℕ
+listWords t ws = t .length ∷ t .first .quota ∷ t .first .used ∷ t .second .quota ∷ t .second .used ∷ ws
+
+-- a state's ten words: those of the vertex list and then those of the index list
+abbrev pub stateIn : List ℕ → State
+stateIn ws = record { vertices = listIn ws 0; indices = listIn ws 5 }
+
+abbrev pub stateWords : State → List ℕ
+stateWords s = listWords (s .vertices) (listWords (s .indices) [])
+
+-- a designer's quota: words for vertices, then words for indices
+abbrev pub quotaIn : List ℕ → ℕ → Quota
+quotaIn ws k = record { vertices = getD ws k 0; indices = getD ws (k + 1) 0 }
+
+-- the designers are 0 and 1
+abbrev pub designerOf : ℕ → Designer
+designerOf n = cond (eqb n 0) First Second

@@ -1,0 +1,91 @@
+// Drawing into a designer's part.
+ghost use mathlib.Core.Path.{_≡_};
+ghost use lib.ListN.{length};
+ghost use Rattle.exports.specs.Replies.{replyOf};
+ghost use Rattle.shares.specs.Answers.{done, accepted, drawVerdict};
+ghost use Rattle.share_exports.specs.Calls.{asked, DrawCalled, Called};
+use crate::reply::of_draw;
+use crate::words::designer_of;
+use crate::words::keep;
+use crate::words::state_in;
+use exports::reply::Reply;
+use exports::reply::bad_top;
+use exports::reply::refusal;
+use exports::reply::say_two;
+use exports::reply::unknown_setting;
+use patch::kinds::Patch;
+use patch::settings::Settings;
+use shares::state::Designer;
+use shares::state::State;
+
+// What stands against a call before its patch is looked at; the number 0 where nothing does.
+fn objection(state: State, designer: u32, settings: &[u8; 6], v: usize, i: usize) -> Reply
+    ensures { λ r. ⌜ r ≡ replyOf (asked (now (settings .entry)) designer (accepted v i state) done) ⌝ }
+{
+    let top = exports::input::top_in(settings);
+    if !level::is_top(top) {
+        return bad_top();
+    }
+    if !shares::shared_list::accepts(state, v, i) {
+        return refusal(14);
+    }
+    if 1 < designer {
+        return refusal(15);
+    }
+    let place = job::setting::first_unknown(settings, 0);
+    if place < 5 {
+        return unknown_setting(place);
+    }
+    refusal(0)
+}
+
+// A patch and settings that are known, for a designer that is.
+fn draw_known(
+    words: &mut [u64; 10],
+    state: State,
+    designer: Designer,
+    patch: Patch,
+    settings: Settings,
+    vertices: &mut [u32],
+    indices: &mut [u16],
+    counts: &mut [u32; 2],
+) -> u32
+    ensures { λ r. ⌜ Called (drawVerdict designer state settings patch (length (now (vertices .entry))) (length (now (indices .entry)))) designer state settings patch (now (words .entry)) (now (words .exit)) (now (vertices .entry)) (now (vertices .exit)) (now (indices .entry)) (now (indices .exit)) (now (counts .exit)) r ⌝ }
+{
+    let result = shares::draw::draw(state, designer, patch, settings, vertices, indices);
+    let answer = result.answer;
+    let reply = of_draw(answer);
+    let next = result.state;
+    keep(words, reply.number == 0, next);
+    say_two(reply, counts)
+}
+
+#[no_mangle]
+pub extern "C" fn yoktvarim_share_draw(
+    state: &mut [u64; 10],
+    designer: u32,
+    settings: &[u8; 6],
+    levels: &[f32; 6],
+    vertices: &mut [u32],
+    indices: &mut [u16],
+    counts: &mut [u32; 2],
+) -> u32
+    ensures { λ r. ⌜ DrawCalled (now (settings .entry)) (now (levels .entry)) designer (now (state .entry)) (now (state .exit)) (now (vertices .entry)) (now (vertices .exit)) (now (indices .entry)) (now (indices .exit)) (now (counts .exit)) r ⌝ }
+{
+    let shared = state_in(state);
+    let why = objection(shared, designer, settings, vertices.len(), indices.len());
+    if 0 < why.number {
+        return say_two(why, counts);
+    }
+    let top = exports::input::top_in(settings);
+    draw_known(
+        state,
+        shared,
+        designer_of(designer),
+        exports::input::patch_in(settings, levels),
+        job::setting::read_settings(settings, 0, top),
+        vertices,
+        indices,
+        counts,
+    )
+}

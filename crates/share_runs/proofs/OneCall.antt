@@ -1,0 +1,65 @@
+-- Demand 3 of what one call appends, taken by itself, and that it holds each spot once.
+-- Assumes nothing.
+use Prim.Native.Nat.{ℕ, _+_, _-_, _*_, _≤_}
+use mathlib.Core.Path.{_≡_, refl, sym, ap, _∙_}
+use mathlib.Core.List.{List, [], _∷_, map}
+use native.Mathlib.Omega.{arith}
+use lib.ListN.{length, take, drop}
+use Rattle.buffer.specs.Over.{over}
+use Rattle.patch.specs.declared.kinds.Patch.{Patch}
+use Rattle.patch.specs.declared.settings.Settings.{Settings}
+use Rattle.patch.specs.Subdivide.{subdivision}
+use Rattle.drawing.specs.Points.{points}
+use Rattle.drawing.specs.Words.{readPoints}
+use Rattle.drawing.specs.Demand.{Demand}
+use Rattle.drawing.specs.Inside.{SpotsOnce}
+use Rattle.drawing.proofs.ReadBack.{read-points}
+use Rattle.drawing.proofs.Demand.{demand}
+use Rattle.drawing.proofs.Once.{demand-once}
+use Rattle.tessellate.specs.Answers.{Told, drewBoth}
+use Rattle.tessellate.specs.Draws.{pointWords, connectionWords}
+use Rattle.tessellate.proofs.Tops.{top-as}
+use Rattle.shares.specs.declared.state.Designer.{Designer}
+use Rattle.shares.specs.declared.state.State.{State}
+use Rattle.shares.specs.declared.answer.DrawResult.{DrawResult}
+use Rattle.shares.specs.SharedList.{firstFree}
+use Rattle.shares.specs.Answers.{toldDraw, pointsIn}
+use Rattle.shares.specs.Operations.{newIndices, DidDraw}
+use Rattle.shares.proofs.Parts.{lent-words}
+use Rattle.shares.proofs.Counts.{point-words, index-words}
+use Rattle.shares.proofs.Drawn.{ready}
+
+-- numbers raised by n, and n taken off again
+lowered : (n : ℕ) (xs : List ℕ) → map (λ x. x - n) (map (λ x. n + x) xs) ≡ xs
+lowered n [] = refl
+lowered n (x ∷ xs) =
+    let e : n + x - n ≡ x = omega arith in
+    rw (e, lowered n xs)
+
+-- the words from a on, m of them, are those that were written there
+written : (xs : List ℕ) {xs′ : List ℕ} (a m : ℕ) (ws : List ℕ) → m ≡ length ws → a ≤ length xs → xs′ ≡ over xs a ws → take m (drop a xs′) ≡ ws
+written xs {xs′} a m ws e h is =
+    let n : a + m - a ≡ m = omega arith in
+    rw is (ap (λ (j : ℕ). take j (drop a (over xs a ws))) (sym n) ∙ lent-words xs a (a + m) ws (omega arith) h)
+
+-- the points and indices that a call appended, read off the lists that it left; the indices less the number that they are counted from
+pub one-call : (d : Designer) (s : State) (set : Settings) (p : Patch) {v v′ i i′ : List ℕ} (r : DrawResult) (m k : ℕ) → DidDraw d s set p v v′ i i′ r
+    → toldDraw (r .answer) ≡ drewBoth m k
+    → Demand set p (readPoints (take (3 * m) (drop (firstFree d (s .vertices)) v′))) (map (λ x. x - pointsIn d s) (take k (drop (firstFree d (s .indices)) i′)))
+one-call d s set p {v} {v′} {i} {i′} r m k h e =
+    let c = subdivision (set .spacing) (set .top) p in
+    let g = ready d s set p v i m k (sym e ∙ h .answer) in
+    let n = pointsIn d s in
+    let drawn : toldDraw (r .answer) .number ≡ 0 = ap (λ (t : Told). t .number) e in
+    let vs : v′ ≡ over v (firstFree d (s .vertices)) (pointWords set p) = h .vertices ∙ rw drawn in
+    let is : i′ ≡ over i (firstFree d (s .indices)) (newIndices d s set p) = h .indices ∙ rw drawn in
+    let ps = written v (firstFree d (s .vertices)) (3 * m) (pointWords set p) (omega (arith, g .points, point-words set p)) (omega (arith, g .vertices)) vs in
+    let ws = written i (firstFree d (s .indices)) k (newIndices d s set p) (omega (arith, g .words, index-words n set p)) (omega (arith, g .indices)) is in
+    rw (ps, read-points (points c), ws, lowered n (connectionWords set p)) (demand set (top-as (set .top) (g .vertices .top)) p (g .vertices .drawn))
+
+-- and every spot is held once
+pub once-call : (d : Designer) (s : State) (set : Settings) (p : Patch) {v v′ i i′ : List ℕ} (r : DrawResult) (m k : ℕ) → DidDraw d s set p v v′ i i′ r
+    → toldDraw (r .answer) ≡ drewBoth m k
+    → SpotsOnce set p (readPoints (take (3 * m) (drop (firstFree d (s .vertices)) v′))) (map (λ x. x - pointsIn d s) (take k (drop (firstFree d (s .indices)) i′)))
+once-call d s set p {v} {i = i} r m k h e =
+    demand-once set (top-as (set .top) (ready d s set p v i m k (sym e ∙ h .answer) .vertices .top)) p (one-call d s set p r m k h e)

@@ -1,0 +1,62 @@
+-- A designer alone: the answers and the words that come of the own part of the state and the own calls.
+-- Assumes nothing.
+use Prim.Native.Nat.{ℕ, _+_, _-_, _/_}
+use mathlib.Core.List.{List, [], _∷_}
+use lib.ListN.{length}
+use Rattle.buffer.specs.Over.{over}
+use Rattle.patch.specs.declared.kinds.Patch.{Patch}
+use Rattle.patch.specs.declared.settings.Settings.{Settings}
+use Rattle.tessellate.specs.Answers.{Told}
+use Rattle.tessellate.specs.Draws.{pointWords}
+use Rattle.shares.specs.SharedList.{usedTo}
+use Rattle.shares.specs.Answers.{lent, verdict, clearVerdict}
+use Rattle.shares.specs.Operations.{unlessRefused, shifted}
+use Rattle.share_runs.specs.Session.{Request, draw, clear, Call, Answered, OwnState, View}
+
+-- the answer to a request, lent lists of v and i words
+unfoldable pub answerOf : OwnState → Request → ℕ → ℕ → Told
+answerOf a (draw set p) v i =
+    verdict set p (lent v i (a .vertexLength) (a .indexLength)) (a .vertices .used / 3) (a .vertices .quota - a .vertices .used)
+    (a .indices .quota - a .indices .used)
+answerOf a clear v i = clearVerdict (lent v i (a .vertexLength) (a .indexLength))
+
+-- an own part with other numbers of used words
+abbrev pub ownStateWith : ℕ → ℕ → OwnState → OwnState
+ownStateWith v i a = record { vertexLength = a .vertexLength; indexLength = a .indexLength; vertices = usedTo v (a .vertices); indices = usedTo i (a .indices) }
+
+-- the index words that are appended
+abbrev pub indexWordsOf : OwnState → Settings → Patch → List ℕ
+indexWordsOf a set p = shifted (a .vertices .used / 3) set p
+
+-- the own part of the state after a request that was not refused
+unfoldable pub ownStateServed : OwnState → Request → OwnState
+ownStateServed a (draw set p) = ownStateWith (a .vertices .used + length (pointWords set p)) (a .indices .used + length (indexWordsOf a set p)) a
+ownStateServed a clear = ownStateWith 0 0 a
+
+-- the view after it
+unfoldable pub viewServed : View → Request → View
+viewServed w (draw set p) = record {
+  state = ownStateServed (w .state) (draw set p);
+  vertices = over (w .vertices) (w .state .vertices .used) (pointWords set p);
+  indices = over (w .indices) (w .state .indices .used) (indexWordsOf (w .state) set p);
+}
+viewServed w clear = record { state = ownStateServed (w .state) clear; vertices = w .vertices; indices = w .indices }
+
+-- call by call
+abbrev pub callAnswer : OwnState → Call → Told
+callAnswer a c = answerOf a (c .request) (c .vertices) (c .indices)
+
+abbrev pub ownStateNext : OwnState → Call → OwnState
+ownStateNext a c = unlessRefused (callAnswer a c .number) (ownStateServed a (c .request)) a
+
+abbrev pub viewNext : View → Call → View
+viewNext w c = unlessRefused (callAnswer (w .state) c .number) (viewServed w (c .request)) w
+
+-- the answers to calls, and the view after them
+unfoldable pub ownStateAnswers : OwnState → List Call → List Answered
+ownStateAnswers a [] = []
+ownStateAnswers a (c ∷ cs) = record { to = c .by; told = callAnswer a c } ∷ ownStateAnswers (ownStateNext a c) cs
+
+unfoldable pub viewAfter : View → List Call → View
+viewAfter w [] = w
+viewAfter w (c ∷ cs) = viewAfter (viewNext w c) cs

@@ -1,0 +1,128 @@
+-- Calls of the operations are what the definitions play, so the other's calls do not show in them.
+-- Assumes nothing.
+use Prim.Native.Nat.{ℕ, zero, suc}
+use mathlib.Core.Path.{_≡_, refl, sym, ap, subst, _∙_}
+use mathlib.Core.Bool.{Bool, true, false, cond}
+use mathlib.Core.List.{List}
+use native.Mathlib.Omega.{arith}
+use lib.ListN.{length}
+use Rattle.tessellate.specs.Answers.{Told, refused}
+use Rattle.tessellate.specs.Draws.{pointWords}
+use Rattle.shares.specs.declared.state.Designer.{Designer}
+use Rattle.shares.specs.declared.state.State.{State}
+use Rattle.shares.specs.declared.state.Quota.{Quota}
+use Rattle.shares.specs.SharedList.{appended}
+use Rattle.shares.specs.declared.answer.StartAnswer.the-variants.{Started, QuotasTooLarge}
+use Rattle.shares.specs.Answers.{done, toldDraw, toldClear, quotasFit}
+use Rattle.shares.specs.Operations.{unlessRefused, startState, newIndices, drawnState, clearedState}
+use Rattle.share_runs.specs.Session.{draw, clear, Call, Session, Answered, answerTo, served, answer, next, answers, play, callsOf, answersOf, view, quotaOf, begun}
+use Rattle.share_runs.specs.Run.{Begun, begin, Made, drew, cleared, Ran, none, more}
+use Rattle.share_runs.proofs.Isolation.{begun-good, answered-then, kept-lengths, isolated, own-only}
+
+-- a session by its parts
+session-of : {a a′ : State} {b b′ c c′ : List ℕ} → a ≡ a′ → b ≡ b′ → c ≡ c′
+    → _≡_ {A = Session} (record { state = a; vertices = b; indices = c }) (record { state = a′; vertices = b′; indices = c′ })
+session-of e f g = cc
+
+-- what a call does
+record Is (s : Session) (c : Call) (t : Told) (s′ : Session) : Type 0 where
+  told : t ≡ answer s c
+  left : s′ ≡ next s c
+
+made-is : {s s′ : Session} {c : Call} {t : Told} → Made s c t s′ → Is s c t s′
+unfolding answerTo served
+made-is (drew s d set p v v′ i i′ r h l) = record {
+  told = h .answer;
+  left = go (toldDraw (r .answer) .number) refl ∙ ap (λ (t : Told). unlessRefused (t .number) (served s d (draw set p)) s) (h .answer);
+}
+  where
+    go : (n : ℕ) → toldDraw (r .answer) .number ≡ n
+        → _≡_ {A = Session} (record { state = r .state; vertices = unlessRefused n v′ (s .vertices); indices = unlessRefused n i′ (s .indices) }) (unlessRefused n (served s d (draw set p)) s)
+    go zero e =
+        session-of (h .state ∙ ap (λ (n : ℕ). unlessRefused n (drawnState d (s .state) set p) (s .state)) e)
+        (h .vertices ∙ ap (λ (n : ℕ). unlessRefused n (appended d (pointWords set p) (s .state .vertices) v) v) e ∙ ap (appended d (pointWords set p) (s .state .vertices)) (l .vertices e))
+        (h .indices ∙ ap (λ (n : ℕ). unlessRefused n (appended d (newIndices d (s .state) set p) (s .state .indices) i) i) e
+        ∙ ap (appended d (newIndices d (s .state) set p) (s .state .indices)) (l .indices e))
+    go (suc n) e = session-of (h .state ∙ ap (λ (n : ℕ). unlessRefused n (drawnState d (s .state) set p) (s .state)) e) refl refl
+made-is (cleared s d v i r h) = record {
+  told = h .answer;
+  left = go (toldClear (r .answer) .number) refl ∙ ap (λ (t : Told). unlessRefused (t .number) (served s d clear) s) (h .answer);
+}
+  where
+    go : (n : ℕ) → toldClear (r .answer) .number ≡ n
+        → _≡_ {A = Session} (record { state = r .state; vertices = s .vertices; indices = s .indices }) (unlessRefused n (served s d clear) s)
+    go zero e = session-of (h .state ∙ ap (λ (n : ℕ). unlessRefused n (clearedState d (s .state)) (s .state)) e) refl refl
+    go (suc n) e = session-of (h .state ∙ ap (λ (n : ℕ). unlessRefused n (clearedState d (s .state)) (s .state)) e) refl refl
+
+-- a run of calls is what is played
+pub record Played (s : Session) (cs : List Call) (xs : List Answered) (s′ : Session) : Type 0 where
+  pub told : xs ≡ answers s cs
+  pub left : s′ ≡ play s cs
+
+pub ran-is : {s s′ : Session} {cs : List Call} {xs : List Answered} → Ran s cs xs s′ → Played s cs xs s′
+unfolding answers play
+ran-is (none s) = record { told = refl; left = refl }
+ran-is (more s s₁ s₂ c t cs xs m r) =
+    let i = made-is m in
+    let p = ran-is r in
+    record {
+      told = answered-then (c .by) (i .told) (p .told ∙ ap (λ (x : Session). answers x cs) (i .left));
+      left = p .left ∙ ap (λ (x : Session). play x cs) (i .left);
+    }
+
+-- ---- an accepted start
+-- the quotas fit, and the session is the definitions'
+record Is-begun (a b : Quota) (v i : List ℕ) (s : Session) : Type 0 where
+  fit : quotasFit (length v) (length i) a b ≡ true
+  is : s ≡ begun a b v i
+
+begun-is : {a b : Quota} {v i : List ℕ} {s : Session} → Begun a b v i s → Is-begun a b v i s
+begun-is {a} {b} {v} {i} (begin s h) = go (quotasFit (length v) (length i) a b) refl (h .answer) (h .is)
+  where
+    go : (x : Bool) → quotasFit (length v) (length i) a b ≡ x → done ≡ cond x done (refused 12)
+        → Started s ≡ cond x (Started (startState (length v) (length i) a b)) QuotasTooLarge
+        → Is-begun a b v i (record { state = s; vertices = v; indices = i })
+    go true e k j = let same : s ≡ startState (length v) (length i) a b = cc in record { fit = e; is = session-of same refl refl }
+    go false e k j = let z : _≡_ {A = ℕ} 0 12 = ap (λ (t : Told). t .number) k in absurd (omega arith)
+
+-- what a run from an accepted start plays
+run-is : {a b : Quota} {v i : List ℕ} {s s′ : Session} {cs : List Call} {xs : List Answered} → Begun a b v i s → Ran s cs xs s′
+    → Played (begun a b v i) cs xs s′
+run-is {s′ = s′} {cs = cs} {xs = xs} b r = subst (λ (x : Session). Played x cs xs s′) (begun-is b .is) (ran-is r)
+
+-- what one designer has of a run, and of another in which the other's calls were never made: the same answers with their counts, the same
+-- part of the state and the same words
+pub undisturbed : (a b : Quota) (v i : List ℕ) (d : Designer) (cs : List Call) {xs ys : List Answered} {s₀ s s′ : Session} → Begun a b v i s₀
+    → Ran s₀ cs xs s → Ran s₀ (callsOf d cs) ys s′ → (answersOf d xs ≡ answersOf d ys) × (view d s ≡ view d s′)
+undisturbed a b v i d cs g r r′ =
+    let h = isolated a b v i (begun-is g .fit) d cs in
+    let p = run-is g r in
+    let q = run-is g r′ in
+    (ap (answersOf d) (p .told) ∙ h .answered ∙ ap (answersOf d) (sym (q .told)), ap (view d) (p .left) ∙ h .left ∙ ap (view d) (sym (q .left)))
+
+-- answers depend on the own quota, the own calls and the lengths of the two lists at the start alone
+pub own-runs : (d : Designer) (a b a′ b′ : Quota) (v v′ i i′ : List ℕ) → quotaOf d a b ≡ quotaOf d a′ b′ → length v ≡ length v′ → length i ≡ length i′
+    → (cs cs′ : List Call) → callsOf d cs ≡ callsOf d cs′ → {xs ys : List Answered} {s₀ s₀′ s s′ : Session} → Begun a b v i s₀ → Begun a′ b′ v′ i′ s₀′
+    → Ran s₀ cs xs s → Ran s₀′ cs′ ys s′ → answersOf d xs ≡ answersOf d ys
+own-runs d a b a′ b′ v v′ i i′ q m n cs cs′ e g g′ r r′ =
+    ap (answersOf d) (run-is g r .told) ∙ own-only d a b a′ b′ v v′ i i′ (begun-is g .fit) (begun-is g′ .fit) q m n cs cs′ e ∙ ap (answersOf d) (sym (run-is g′ r′ .told))
+
+-- a run leaves lists of the start's lengths
+pub record SameLengths (v i : List ℕ) (s : Session) : Type 0 where
+  pub vertices : length (s .vertices) ≡ length v
+  pub indices : length (s .indices) ≡ length i
+
+pub same-lengths : {a b : Quota} {v i : List ℕ} {s₀ s : Session} {cs : List Call} {xs : List Answered} → Begun a b v i s₀ → Ran s₀ cs xs s → SameLengths v i s
+same-lengths {a} {b} {v} {i} {cs = cs} g r =
+    let h = kept-lengths (begun a b v i) (begun-good a b v i (begun-is g .fit)) cs in
+    let e = run-is g r .left in
+    record { vertices = ap (λ (x : Session). length (x .vertices)) e ∙ h .0; indices = ap (λ (x : Session). length (x .indices)) e ∙ h .1 }
+
+-- a fresh start, on the lists that a run left, begins anew: a designer's answers are those after a start with the same own quota on lists
+-- that nobody used before
+pub anew : (d : Designer) (a b a′ b′ a″ b″ : Quota) (v i : List ℕ) (before cs cs′ : List Call) {xs ys zs : List Answered} {s₀ s s₁ s₁′ s₂ s₂′ : Session}
+    → Begun a b v i s₀ → Ran s₀ before xs s → Begun a′ b′ (s .vertices) (s .indices) s₁ → Ran s₁ cs ys s₁′ → Begun a″ b″ v i s₂ → Ran s₂ cs′ zs s₂′
+    → quotaOf d a′ b′ ≡ quotaOf d a″ b″ → callsOf d cs ≡ callsOf d cs′ → answersOf d ys ≡ answersOf d zs
+anew d a b a′ b′ a″ b″ v i before cs cs′ g r g₁ r₁ g₂ r₂ q e =
+    let h = same-lengths g r in
+    own-runs d a′ b′ a″ b″ _ v _ i q (h .vertices) (h .indices) cs cs′ e g₁ g₂ r₁ r₂

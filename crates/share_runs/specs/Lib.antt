@@ -1,0 +1,3 @@
+-- The definitions of `share_runs`.
+pub mod Session
+pub mod Run

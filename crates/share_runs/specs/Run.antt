@@ -1,0 +1,46 @@
+-- A start and the calls after it, one after the other: what each was lent, answered and left, by the operations' promises alone.
+-- Assumes nothing.
+use Prim.Native.Nat.{ℕ}
+use mathlib.Core.Path.{_≡_}
+use mathlib.Core.List.{List, [], _∷_}
+use lib.ListN.{length}
+use Rattle.patch.specs.declared.kinds.Patch.{Patch}
+use Rattle.patch.specs.declared.settings.Settings.{Settings}
+use Rattle.tessellate.specs.Answers.{Told}
+use Rattle.shares.specs.declared.state.Designer.{Designer}
+use Rattle.shares.specs.declared.state.Quota.{Quota}
+use Rattle.shares.specs.declared.state.State.{State}
+use Rattle.shares.specs.declared.answer.StartAnswer.the-variants.{Started}
+use Rattle.shares.specs.declared.answer.DrawResult.{DrawResult}
+use Rattle.shares.specs.declared.answer.ClearResult.{ClearResult}
+use Rattle.shares.specs.Answers.{toldDraw, toldClear}
+use Rattle.shares.specs.Operations.{unlessRefused, DidStart, DidDraw, DidClear}
+use Rattle.share_runs.specs.Session.{draw, clear, Call, Session, Answered}
+
+-- an accepted start, with these quotas, on the lists v and i: the session that it begins
+pub data Begun (a b : Quota) (v i : List ℕ) : Session → Type 0 where
+  begin : (s : State) → DidStart (length v) (length i) a b (Started s) → Begun a b v i (record { state = s; vertices = v; indices = i })
+
+-- the two lists v and i that a call of this answer was lent are the session's, unless it was refused
+pub record SameLists (s : Session) (t : Told) (v i : List ℕ) : Type 0 where
+  pub vertices : t .number ≡ 0 → v ≡ s .vertices
+  pub indices : t .number ≡ 0 → i ≡ s .indices
+
+-- one call: handed the session's state, it answers, and leaves the next session
+pub data Made : Session → Call → Told → Session → Type 0 where
+  drew : (s : Session) (d : Designer) (set : Settings) (p : Patch) (v v′ i i′ : List ℕ) (r : DrawResult) → DidDraw d (s .state) set p v v′ i i′ r
+      → SameLists s (toldDraw (r .answer)) v i
+      → Made s (record { by = d; request = draw set p; vertices = length v; indices = length i }) (toldDraw (r .answer)) (record {
+        state = r .state;
+        vertices = unlessRefused (toldDraw (r .answer) .number) v′ (s .vertices);
+        indices = unlessRefused (toldDraw (r .answer) .number) i′ (s .indices);
+      })
+  cleared : (s : Session) (d : Designer) (v i : List ℕ) (r : ClearResult) → DidClear d (s .state) (length v) (length i) r
+      → Made s (record { by = d; request = clear; vertices = length v; indices = length i }) (toldClear (r .answer))
+      (record { state = r .state; vertices = s .vertices; indices = s .indices })
+
+-- calls, the answers to them, and the session after them
+pub data Ran : Session → List Call → List Answered → Session → Type 0 where
+  none : (s : Session) → Ran s [] [] s
+  more : (s s₁ s₂ : Session) (c : Call) (t : Told) (cs : List Call) (xs : List Answered) → Made s c t s₁ → Ran s₁ cs xs s₂
+      → Ran s (c ∷ cs) (record { to = c .by; told = t } ∷ xs) s₂

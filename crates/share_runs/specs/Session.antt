@@ -1,0 +1,118 @@
+-- Calls since a start, one after the other, and what one designer sees of them.
+-- Assumes nothing.
+use Prim.Native.Nat.{ℕ}
+use mathlib.Core.Bool.{Bool, true, false, cond}
+use mathlib.Core.List.{List, [], _∷_}
+use lib.ListN.{length}
+use Rattle.patch.specs.declared.kinds.Patch.{Patch}
+use Rattle.patch.specs.declared.settings.Settings.{Settings}
+use Rattle.tessellate.specs.Answers.{Told}
+use Rattle.tessellate.specs.Draws.{pointWords}
+use Rattle.shares.specs.declared.state.Designer.{Designer}
+use Rattle.shares.specs.declared.state.Designer.the-variants.{First, Second}
+use Rattle.shares.specs.declared.state.Share.{Share}
+use Rattle.shares.specs.declared.state.Quota.{Quota}
+use Rattle.shares.specs.declared.state.State.{State}
+use Rattle.shares.specs.SharedList.{share, part, appended}
+use Rattle.shares.specs.Answers.{accepted, drawVerdict, clearVerdict}
+use Rattle.shares.specs.Operations.{unlessRefused, startState, newIndices, drawnState, clearedState}
+
+-- what a designer may ask for after the start
+pub data Request : Type 0 where
+  draw : Settings → Patch → Request
+  clear : Request
+
+-- a call: who asks, for what, and the lengths of the two lists that are lent with it
+pub record Call : Type 0 where
+  pub by : Designer
+  pub request : Request
+  pub vertices : ℕ
+  pub indices : ℕ
+
+-- the state and the two lists between calls
+pub record Session : Type 0 where
+  pub state : State
+  pub vertices : List ℕ
+  pub indices : List ℕ
+
+-- the answer to a call: it looks at the lengths of the lists alone
+unfoldable pub answerTo : State → Designer → Request → ℕ → ℕ → Told
+answerTo s d (draw set p) v i = drawVerdict d s set p v i
+answerTo s d clear v i = clearVerdict (accepted v i s)
+
+-- a session after a request that was not refused
+unfoldable pub served : Session → Designer → Request → Session
+served s d (draw set p) = record {
+  state = drawnState d (s .state) set p;
+  vertices = appended d (pointWords set p) (s .state .vertices) (s .vertices);
+  indices = appended d (newIndices d (s .state) set p) (s .state .indices) (s .indices);
+}
+served s d clear = record { state = clearedState d (s .state); vertices = s .vertices; indices = s .indices }
+
+-- the answer to a call, and the session after it
+abbrev pub answer : Session → Call → Told
+answer s c = answerTo (s .state) (c .by) (c .request) (c .vertices) (c .indices)
+
+abbrev pub next : Session → Call → Session
+next s c = unlessRefused (answer s c .number) (served s (c .by) (c .request)) s
+
+-- an answer, and whose it is
+pub record Answered : Type 0 where
+  pub to : Designer
+  pub told : Told
+
+-- the answers to calls, one after the other, and the session after them
+unfoldable pub answers : Session → List Call → List Answered
+answers s [] = []
+answers s (c ∷ cs) = record { to = c .by; told = answer s c } ∷ answers (next s c) cs
+
+unfoldable pub play : Session → List Call → Session
+play s [] = s
+play s (c ∷ cs) = play (next s c) cs
+
+-- whether two designers are one
+abbrev pub same : Designer → Designer → Bool
+same First First = true
+same First Second = false
+same Second First = false
+same Second Second = true
+
+-- those of a list that belong to a designer
+unfoldable pub of : {A : Type 0} → (A → Designer) → Designer → List A → List A
+of who d [] = []
+of who d (x ∷ xs) = cond (same d (who x)) (x ∷ of who d xs) (of who d xs)
+
+-- a designer's calls, and the answers to them
+abbrev pub callsOf : Designer → List Call → List Call
+callsOf d cs = of (λ c. c .by) d cs
+
+abbrev pub answersOf : Designer → List Answered → List Answered
+answersOf d xs = of (λ a. a .to) d xs
+
+-- a designer's part of the state, with the lengths of the start
+pub record OwnState : Type 0 where
+  pub vertexLength : ℕ
+  pub indexLength : ℕ
+  pub vertices : Share
+  pub indices : Share
+
+abbrev pub ownState : Designer → State → OwnState
+ownState d s = record { vertexLength = s .vertices .length; indexLength = s .indices .length; vertices = share d (s .vertices); indices = share d (s .indices) }
+
+-- what a designer has: the part of the state and the words of both parts
+pub record View : Type 0 where
+  pub state : OwnState
+  pub vertices : List ℕ
+  pub indices : List ℕ
+
+abbrev pub view : Designer → Session → View
+view d s = record { state = ownState d (s .state); vertices = part d (s .state .vertices) (s .vertices); indices = part d (s .state .indices) (s .indices) }
+
+-- what a designer is given by the start
+abbrev pub quotaOf : Designer → Quota → Quota → Quota
+quotaOf First a b = a
+quotaOf Second a b = b
+
+-- a session that a start begins on two lists
+abbrev pub begun : Quota → Quota → List ℕ → List ℕ → Session
+begun a b v i = record { state = startState (length v) (length i) a b; vertices = v; indices = i }

@@ -1,0 +1,2 @@
+// Runs of calls on a shared pair of lists: that neither designer's calls show in what the other gets, and what one call appends.
+// Definitions and theorems, with nothing to run.

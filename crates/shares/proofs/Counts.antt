@@ -1,0 +1,21 @@
+-- How many words a patch has.
+-- Assumes nothing.
+use Prim.Native.Nat.{ℕ, _+_, _*_}
+use mathlib.Core.Path.{_≡_}
+use lib.ListN.{length, length-map}
+use Rattle.patch.specs.declared.kinds.Patch.{Patch}
+use Rattle.patch.specs.declared.settings.Settings.{Settings}
+use Rattle.patch.specs.Subdivide.{subdivision}
+use Rattle.mesh.proofs.Words.{words-length}
+use Rattle.drawing.specs.Points.{points}
+use Rattle.tessellate.specs.Answers.{pointsOf, indicesOf}
+use Rattle.tessellate.specs.Draws.{pointWords, connectionWords}
+use Rattle.shares.specs.Operations.{shifted}
+
+-- its points
+pub point-words : (set : Settings) (p : Patch) → length (pointWords set p) ≡ 3 * pointsOf set p
+point-words set p = words-length (points (subdivision (set .spacing) (set .top) p))
+
+-- its indices, counted from anywhere
+pub index-words : (n : ℕ) (set : Settings) (p : Patch) → length (shifted n set p) ≡ indicesOf set p
+index-words n set p = length-map (connectionWords set p) (λ x. n + x)

@@ -1,0 +1,10 @@
+-- The laws of `shares`.
+pub mod Parts
+pub mod Sound
+pub mod Passed
+pub mod Counts
+mod Raised
+mod Lent
+pub mod Drawn
+mod Refused
+mod Measured

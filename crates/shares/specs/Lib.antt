@@ -1,0 +1,5 @@
+-- The definitions of `shares`.
+pub mod SharedList
+pub mod Answers
+pub mod Room
+pub mod Operations
