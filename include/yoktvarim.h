@@ -431,6 +431,45 @@ YOKTVARIM_ASSERT(sizeof(yoktvarim_share_answer) == 4, "an answer is 32 bits: com
 YOKTVARIM_ASSERT(sizeof(yoktvarim_quota) == 16, "two 64-bit numbers");
 YOKTVARIM_ASSERT(sizeof(yoktvarim_shared) == 80, "ten 64-bit numbers");
 
+/* Comparing two triangle meshes: what one has and the other has not. */
+
+/* What yoktvarim_compare_meshes answers. No other number is ever given, and 0 is the one yes. Every other answer leaves the list of
+ * differences as it was. The left mesh is looked at first, then the right one, for each of these in turn. */
+typedef enum yoktvarim_comparison {
+    YOKTVARIM_COMPARED = 0,             /* *count differences were written; 0 of them: the same points and the same triangles */
+    YOKTVARIM_NO_ROOM_FOR_DIFFERENCES = 40,/* the list has under 3 words for each of the *count differences */
+    YOKTVARIM_LEFT_NOT_THREES = 41,     /* the left mesh has point words or indices that are no multiple of three */
+    YOKTVARIM_LEFT_UNKNOWN_INDEX = 42,  /* it has an index past its points */
+    YOKTVARIM_LEFT_EQUAL_POINTS = 43,   /* it has two equal points */
+    YOKTVARIM_RIGHT_NOT_THREES = 44,    /* the same three of the right mesh */
+    YOKTVARIM_RIGHT_UNKNOWN_INDEX = 45,
+    YOKTVARIM_RIGHT_EQUAL_POINTS = 46
+} yoktvarim_comparison;
+
+/* The three words of a difference, one difference after the other in the list. */
+typedef struct yoktvarim_difference {
+    uint64_t what;   /* 0 a point, 1 a triangle */
+    uint64_t side;   /* 0 only the left mesh has it, 1 only the right one */
+    uint64_t number; /* its number in its own mesh, from 0; the lowest, if a triangle is repeated */
+} yoktvarim_difference;
+
+/* Compares two meshes of any origin: points of three words, and three indices a triangle. Points are the same where their three
+ * coordinates agree, whatever their numbers; triangles where their corners agree by coordinates up to rotation, and not by a flip.
+ *
+ * Writes the differences to the front of the list, which has difference_words words: first the left mesh's points that the right
+ * one has not, then the right one's, then the left mesh's triangles, then the right one's, each in the order of its own list and
+ * each once. *count is always written: how many there are beside COMPARED and NO_ROOM, else 0. A list of 0 words counts them. The
+ * list may be an array of yoktvarim_difference. */
+YOKTVARIM_MUST_USE yoktvarim_comparison yoktvarim_compare_meshes(const uint32_t *left_points, size_t left_point_words,
+                                                                 const uint16_t *left_indices, size_t left_index_words,
+                                                                 const uint32_t *right_points, size_t right_point_words,
+                                                                 const uint16_t *right_indices, size_t right_index_words,
+                                                                 uint64_t *differences, size_t difference_words,
+                                                                 uint64_t *count);
+
+YOKTVARIM_ASSERT(sizeof(yoktvarim_comparison) == 4, "an answer is 32 bits: compile without -fshort-enums");
+YOKTVARIM_ASSERT(sizeof(yoktvarim_difference) == 24, "three 64-bit words");
+
 /* The library reads and writes exactly this. */
 YOKTVARIM_ASSERT(sizeof(yoktvarim_answer) == 4, "an answer is 32 bits: compile without -fshort-enums");
 YOKTVARIM_ASSERT(sizeof(yoktvarim_verdict) == 4, "a verdict is 32 bits: compile without -fshort-enums");

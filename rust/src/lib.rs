@@ -21,7 +21,9 @@
 //! answered with `BadTop`, before everything else.
 
 pub mod check;
+pub mod answers;
 mod clamps;
+pub mod compare;
 mod draw;
 pub mod job;
 pub mod floats;
@@ -34,6 +36,7 @@ pub mod shared;
 
 pub use check::{check_mesh, Verdict};
 pub use clamps::{Clamp, Clamps};
+pub use compare::{compare_meshes, Comparison, Difference, MeshFault, Side, What};
 pub use draw::{draw_indices, draw_points, IndicesAnswer, PointsAnswer};
 pub use measure::{measure, Size};
 pub use mesh::{mesh, BadTop, Mesh};

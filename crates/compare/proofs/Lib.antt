@@ -1,0 +1,4 @@
+-- The laws of comparing, lowest first.
+pub mod Passing
+pub mod Parts
+pub mod Verdicts

@@ -1,0 +1,111 @@
+-- The numbers that pass a test: how a loop counts them, and how a loop writes their words.
+-- Assumes nothing.
+use Prim.Native.Nat.{ℕ, zero, suc, _+_, _*_, _-_, _≤_, _<_}
+use mathlib.Core.Path.{_≡_, refl, ap, _∙_}
+use mathlib.Core.Bool.{Bool, true, false, cond, true≢false}
+use mathlib.Core.List.{List, [], _∷_, _++_}
+use native.Mathlib.Nat.{add-zero}
+use native.Mathlib.Omega.{arith}
+use lib.ListN.{length, length-append}
+use Rattle.buffer.specs.Over.{flat}
+use Rattle.buffer.proofs.Laws.{flat-step, flat-all, flat-done}
+use Rattle.mesh.specs.Cover.{Face}
+use Rattle.searches.proofs.First.{Below}
+use Rattle.differences.specs.Lacking.{Row, passing, lacks, lacking}
+use Rattle.differences.specs.Meshes.{sameFace}
+use Rattle.differences.specs.Found.{AllInPlace}
+use Rattle.differences.proofs.Lacks.{in-place-found}
+use Rattle.differences.specs.Differences.{Difference, each, words, wordsIf}
+
+-- the number k, if it passes
+abbrev pub one : (ℕ → Bool) → ℕ → List ℕ
+one t k = cond (t k) (k ∷ []) []
+
+one-length : (b : Bool) (k : ℕ) → length (cond b (k ∷ []) []) ≡ cond b 1 0
+one-length true k = refl
+one-length false k = refl
+
+pub cond-most : (b : Bool) → cond b 1 0 ≤ 1
+cond-most true = omega arith
+cond-most false = omega arith
+
+-- ---- counting: c have passed below k, and n are looked at
+pub record Tally (t : ℕ → Bool) (k n c : ℕ) : Type 0 where
+  pub within : k ≤ n
+  pub small : c ≤ k
+  pub left : c + length (flat (one t) k (n - k)) ≡ length (passing t n)
+
+pub tally-start : {t : ℕ → Bool} {n : ℕ} → Tally t 0 n 0
+unfolding passing
+tally-start {t} {n} = record { within = omega arith; small = omega arith; left = omega (arith, ap length (flat-all (one t) n)) }
+
+pub tally-step : {t : ℕ → Bool} {k n c d : ℕ} → k < n → d ≡ cond (t k) 1 0 → Tally t k n c → Tally t (k + 1) n (c + d)
+tally-step {t} {k} {n} {c} {d} l e h =
+    let s = ap length (flat-step (one t) k n l) ∙ length-append (one t k) (flat (one t) (k + 1) (n - (k + 1))) in
+    let o = one-length (t k) k in
+    let m = cond-most (t k) in
+    record { within = omega arith; small = omega arith; left = omega arith }
+
+pub tally-done : {t : ℕ → Bool} {k n c : ℕ} → n ≤ k → Tally t k n c → c ≡ length (passing t n)
+tally-done {t} {k} {n} {c} l h =
+    let s = ap length (flat-done (one t) k n l) in
+    omega arith
+
+-- at most all of them pass
+flat-most : (t : ℕ → Bool) (i k : ℕ) → length (flat (one t) i k) ≤ k
+unfolding flat
+flat-most t i zero = omega arith
+flat-most t i (suc k) =
+    rw (length-append (one t i) (flat (one t) (i + 1) k), one-length (t i) i) (omega (arith, cond-most (t i), flat-most t (i + 1) k))
+
+pub passing-most : (t : ℕ → Bool) (n : ℕ) → length (passing t n) ≤ n
+unfolding passing
+passing-most t n = flat-most t 0 n
+
+-- ---- words
+pub words-append : (ds es : List Difference) → words (ds ++ es) ≡ words ds ++ words es
+unfolding words
+words-append [] es = refl
+words-append (d ∷ ds) es = ap (λ (l : List ℕ). d .kind ∷ d .side ∷ d .number ∷ l) (words-append ds es)
+
+pub words-length : (ds : List Difference) → length (words ds) ≡ 3 * length ds
+unfolding words
+words-length [] = refl
+words-length (d ∷ ds) = omega (arith, words-length ds)
+
+-- the words of the numbers that pass are those of each number in turn
+one-words : (kind side k : ℕ) (b : Bool) (ks ws : List ℕ) → words (each kind side ks) ≡ ws
+    → words (each kind side (cond b (k ∷ []) [] ++ ks)) ≡ wordsIf kind side b k ++ ws
+unfolding words
+one-words kind side k true ks ws e = ap (λ (l : List ℕ). kind ∷ side ∷ k ∷ l) e
+one-words kind side k false ks ws e = e
+
+flat-words : (kind side : ℕ) (t : ℕ → Bool) (i n : ℕ)
+    → words (each kind side (flat (one t) i n)) ≡ flat (λ k. wordsIf kind side (t k) k) i n
+unfolding flat words
+flat-words kind side t i zero = refl
+flat-words kind side t i (suc n) = one-words kind side i (t i) (flat (one t) (i + 1) n) _ (flat-words kind side t (i + 1) n)
+
+pub passing-words : (kind side : ℕ) (t : ℕ → Bool) (n m : ℕ) → n ≡ m
+    → words (each kind side (passing t n)) ≡ flat (λ k. wordsIf kind side (t k) k) 0 m
+unfolding passing
+passing-words kind side t n m e = flat-words kind side t 0 n ∙ ap (flat (λ k. wordsIf kind side (t k) k) 0) e
+
+-- ---- no number passes
+skip : (b : Bool) (k : ℕ) (ks : List ℕ) → b ≡ false → ks ≡ [] → cond b (k ∷ []) [] ++ ks ≡ []
+skip true k ks e h = absurd (true≢false e)
+skip false k ks e h = h
+
+flat-none : (t : ℕ → Bool) (i n : ℕ) → ((j : ℕ) → j < n → t (i + j) ≡ false) → flat (one t) i n ≡ []
+unfolding flat
+flat-none t i zero h = refl
+flat-none t i (suc n) h =
+    skip (t i) i _ (rw add-zero at (h 0 (omega arith))) (flat-none t (i + 1) n (λ j l. let e : i + 1 + j ≡ i + suc j = omega arith in rw e (h (suc j) (omega arith))))
+
+pub passing-none : (t : ℕ → Bool) (n : ℕ) → Below t n → passing t n ≡ []
+unfolding passing
+passing-none t n h = flat-none t 0 n (λ j l. let e : 0 + j ≡ j = omega arith in rw e (h j l))
+
+-- every triangle is in its place
+pub in-place-none : (xs ys : Row Face) → AllInPlace xs ys → lacking sameFace xs ys ≡ []
+in-place-none xs ys h = passing-none (lacks sameFace xs ys) (xs .count) (λ k l. in-place-found xs ys k (h .each k l))

@@ -1,0 +1,57 @@
+-- Meets its contract. Assumes nothing.
+use borrow.Author.Needs.{needs}
+use native.Mathlib.Omega.{arith}
+use Prim.Native.Nat.{_-_}
+use mathlib.Core.Path.{ap, _∙_}
+use mathlib.Core.Bool.{Bool, cond}
+use Rattle.searches.proofs.Read.{triangles-count}
+use Rattle.differences.specs.Lacking.{lacks}
+use Rattle.differences.specs.Meshes.{facesIn, sameFace}
+use Rattle.compare.proofs.Passing.{cond-most, Tally, tally-start, tally-step, tally-done}
+use Rattle.compare.proofs.list.count_faces.Statement.{statement}
+use Rattle.compare.proofs.list.count_faces.Tie as tie
+
+abbrev Inv-loop : tie.InvT-loop
+Inv-loop points indices other-points other-indices count n₀ k₀ n k = Tally (lacks sameFace (facesIn points indices) (facesIn other-points other-indices)) k count n
+
+abbrev μ-loop : tie.MeasureT-loop
+μ-loop points indices other-points other-indices count n₀ k₀ n k = count - k
+
+loop-holds : tie.Need-loop-holds Inv-loop μ-loop
+loop-holds c = tally-start
+
+lacks-face-requires : tie.Need-lacks-face-requires Inv-loop μ-loop
+lacks-face-requires c κs = search needs
+
+one-if-requires : tie.Need-one-if-requires Inv-loop μ-loop
+one-if-requires c κs = search needs
+
+add-n : tie.Need-add-n Inv-loop μ-loop
+add-n c = omega (arith, c .one-if .ensures, cond-most (c .before .lacks-face .result))
+
+add-k : tie.Need-add-k Inv-loop μ-loop
+add-k c = search needs
+
+loop-less : tie.Need-loop-less Inv-loop μ-loop
+loop-less c = search needs
+
+loop-again : tie.Need-loop-again Inv-loop μ-loop
+loop-again c = tally-step (omega arith) (c .one-if .ensures ∙ ap (λ (b : Bool). cond b 1 0) (c .before .lacks-face .ensures)) (c .before .before .before .loop .inv)
+
+returns : tie.Need-returns Inv-loop μ-loop
+returns c = rw (triangles-count (c .before .before .before .before .before .before .args .indices .now)) (tally-done (c .loop-test .left) (c .before .loop .inv))
+
+pub count-faces-spec : {M : Type 1} → statement M
+count-faces-spec =
+    tie.close
+    (tie.spec
+    Inv-loop
+    μ-loop
+    loop-holds
+    lacks-face-requires
+    one-if-requires
+    add-n
+    add-k
+    loop-less
+    loop-again
+    returns)

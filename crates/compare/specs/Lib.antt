@@ -1,0 +1,2 @@
+-- The definitions of what comparing answers.
+pub mod Answers

@@ -1,0 +1,35 @@
+-- The numbers of refusals, and the call.
+-- Assumes nothing.
+use Prim.Native.Nat.{ℕ, _+_, _≤_}
+use mathlib.Core.Path.{_≡_, refl, sym, ap, _∙_}
+use mathlib.Core.List.{List, [], _∷_}
+use native.Mathlib.Nat.{add-zero}
+use native.Mathlib.Omega.{arith}
+use Rattle.compare.specs.declared.answer.Fault.{Fault}
+use Rattle.compare.specs.declared.answer.Fault.the-variants.{NotThrees, UnknownIndex, EqualPoints}
+use Rattle.compare.specs.declared.answer.Comparison.{Comparison}
+use Rattle.compare.specs.Answers.{toldFault, told, Answered}
+use Rattle.tessellate.specs.Draws.{after}
+use Rattle.exports.specs.Calls.{Called}
+use Rattle.compare_exports.specs.declared.reply.Reply.{Reply}
+use Rattle.compare_exports.specs.Calls.{replyOf, shiftOf}
+
+pub shift-most : (f : Fault) → shiftOf f ≤ 2
+shift-most NotThrees = omega arith
+shift-most UnknownIndex = omega arith
+shift-most EqualPoints = omega arith
+
+-- counted on from n
+pub fault-told : (n : ℕ) (f : Fault) → record { number = n + shiftOf f; count = 0 } ≡ replyOf (toldFault n f)
+fault-told n NotThrees = ap (λ (k : ℕ). record { number = k; count = 0 }) (add-zero n)
+fault-told n UnknownIndex = refl
+fault-told n EqualPoints = refl
+
+-- the answer is told by its number and its count
+pub called : (right a : Comparison) (ws xs xs′ : List ℕ) (p : Reply) → Answered right a ws xs xs′ → p ≡ replyOf (told a) → Called (told right) ws xs xs′ (p .count ∷ []) (p .number)
+called right a ws xs xs′ p h e =
+    let f : p ≡ replyOf (told right) = e ∙ ap (λ (b : Comparison). replyOf (told b)) (h .answer) in
+    record {
+      says = record { number = ap (λ (q : Reply). q .number) f; counts = ap (λ (q : Reply). q .count ∷ []) f };
+      list = h .list ∙ ap (λ (q : Reply). after (q .number) xs ws) (sym e);
+    }

@@ -1,0 +1,2 @@
+-- The definitions of the exported call.
+pub mod Calls

@@ -1,0 +1,5 @@
+-- The laws of the searches for differences, lowest first.
+pub mod Tests
+pub mod Finds
+pub mod Numbers
+pub mod Lacks

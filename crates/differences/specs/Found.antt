@@ -1,0 +1,64 @@
+-- What the searches for a point and for a triangle say.
+-- Assumes nothing.
+use Prim.Native.Nat.{ℕ, _≤_, _<_}
+use mathlib.Core.Path.{_≡_}
+use mathlib.Core.Bool.{Bool, true, false}
+use mathlib.Core.List.{List}
+use lib.ListN.{length}
+use Rattle.mesh.specs.declared.Point.{Point}
+use Rattle.mesh.specs.Cover.{Face}
+use Rattle.mesh.specs.Faces.{at, faceOf}
+use Rattle.searches.specs.First.{some}
+use Rattle.searches.specs.Points.{samePoint}
+use Rattle.searches.specs.Triangles.{triangleAt}
+use Rattle.searches.specs.Same.{sameTriangle}
+use Rattle.strip.specs.declared.triangle.Triangle.{Triangle}
+use Rattle.differences.specs.declared.corners.Match.{Match}
+use Rattle.differences.specs.declared.corners.Match.the-variants.{Corners, Missing}
+use Rattle.differences.specs.Lacking.{Row}
+use Rattle.differences.specs.Meshes.{sameCorners, sameFace}
+
+-- from number `from` on up to r, at most to `to`, no point lies at p; one does at r, if r is less than `to`
+pub record Passed (ps : List Point) (from to : ℕ) (p : Point) (r : ℕ) : Type 0 where
+  pub least : from ≤ r
+  pub most : r ≤ to
+  pub there : r < to → samePoint (at ps r) p ≡ true
+  pub none : (i : ℕ) → from ≤ i → i < r → samePoint (at ps i) p ≡ false
+
+-- a point at p among the first `count`, or `count` and there is none
+pub record Found (ps : List Point) (count : ℕ) (p : Point) (r : ℕ) : Type 0 where
+  pub most : r ≤ count
+  pub there : r < count → samePoint (at ps r) p ≡ true
+  pub none : r ≡ count → (i : ℕ) → i < count → samePoint (at ps i) p ≡ false
+
+-- a triangle whose corners are points, and can be the numbers of an index list
+pub record Cornered (n : ℕ) (t : Triangle) : Type 0 where
+  pub a : t .a < n
+  pub b : t .b < n
+  pub c : t .c < n
+  pub small-a : t .a < 65536
+  pub small-b : t .b < 65536
+  pub small-c : t .c < 65536
+
+-- is triangle t the one with these corners? none is where a corner is missing
+abbrev pub isMatch : Match → Triangle → Bool
+isMatch (Corners s) t = sameTriangle t s
+isMatch Missing t = false
+
+-- m are the corners of f among the points ps: a triangle by number is f exactly where it has them
+pub record Matched (ps : List Point) (f : Face) (m : Match) : Type 0 where
+  pub each : (t : Triangle) → Cornered (length ps) t → sameFace (faceOf (at ps) t) f ≡ isMatch m t
+
+-- is one of the triangles t, up to rotation?
+abbrev pub someTriangle : List Triangle → Triangle → Bool
+someTriangle ts t = some (λ i. sameTriangle (triangleAt ts i) t) (length ts)
+
+-- triangle k of ys has the same corners in the same order as triangle k of xs
+pub record InPlace (xs ys : Row Face) (k : ℕ) : Type 0 where
+  pub number : k < ys .count
+  pub same : sameCorners (ys .entry k) (xs .entry k) ≡ true
+
+-- and every one, of as many
+pub record AllInPlace (xs ys : Row Face) : Type 0 where
+  pub count : xs .count ≡ ys .count
+  pub each : (k : ℕ) → k < xs .count → InPlace xs ys k

@@ -1,0 +1,47 @@
+-- Meets its contract. Assumes nothing.
+use native.Mathlib.Omega.{arith}
+use mathlib.Core.Path.{refl}
+use Rattle.distinct.specs.Marks.{slotOf}
+use borrow.Author.Needs.{needs}
+use Rattle.distinct.proofs.mark.slot_of.Statement.{statement}
+use Rattle.distinct.proofs.mark.slot_of.Tie as tie
+use Rattle.distinct.proofs.mark.slot_of.Reads as reads
+use Rattle.distinct.proofs.mark.slot_of.Lts as lts
+
+cast-result : tie.Need-cast-result
+cast-result c = search needs
+
+cast-result-2 : tie.Need-cast-result-2
+cast-result-2 c = search needs
+
+mul-result : tie.Need-mul-result
+mul-result c = search needs
+
+add-result : tie.Need-add-result
+add-result c = search needs
+
+cast-result-3 : tie.Need-cast-result-3
+cast-result-3 c = search needs
+
+mul-result-2 : tie.Need-mul-result-2
+mul-result-2 c = search needs
+
+add-result-2 : tie.Need-add-result-2
+add-result-2 c = search needs
+
+returns : tie.Need-returns
+unfolding slotOf
+returns c = (refl, omega arith)
+
+pub slot-of-spec : {M : Type 1} → statement M
+slot-of-spec =
+    tie.close
+    (tie.spec
+    cast-result
+    cast-result-2
+    mul-result
+    add-result
+    cast-result-3
+    mul-result-2
+    add-result-2
+    returns)

@@ -1,0 +1,110 @@
+-- Meets its contract: no point before j lies where an earlier one lies, and the marks name them. Assumes nothing.
+use native.Mathlib.Omega.{arith}
+use Prim.Native.Nat.{_-_, _≤_}
+use mathlib.Core.Path.{_≡_, _∙_, sym, ap, refl}
+use lib.ListN.{length, length-set}
+use Rattle.drawing.specs.Words.{readPoints}
+use Rattle.searches.specs.Points.{repeats, firstRepeated}
+use Rattle.searches.proofs.First.{Below, below-zero, below-more, first-at, first-none}
+use Rattle.searches.proofs.Read.{points-count}
+use Rattle.distinct.specs.Marks.{slotOf, Marks}
+use Rattle.distinct.proofs.Table.{marks-none, marks-name, marks-more}
+use borrow.Author.Needs.{needs}
+use Rattle.distinct.proofs.search.by_table.Statement.{statement}
+use Rattle.distinct.proofs.search.by_table.Tie as tie
+use Rattle.distinct.proofs.search.by_table.Reads as reads
+use Rattle.distinct.proofs.search.by_table.Lts as lts
+use Rattle.distinct.proofs.mark.mark_after.Reads as mark-after-reads
+use Rattle.distinct.proofs.mark.slot_of.Reads as slot-of-reads
+use Rattle.distinct.proofs.search.repeats_earlier.Reads as repeats-earlier-reads
+use Rattle.searches.proofs.point.point_at.Reads as point-at-reads
+
+abbrev Inv-loop : tie.InvT-loop
+Inv-loop points count marks₀ j₀ marks j = (j ≤ count) × Below (repeats (readPoints points)) j × Marks (readPoints points) j marks × (length marks ≡ 16381)
+
+abbrev μ-loop : tie.MeasureT-loop
+μ-loop points count marks₀ j₀ marks j = count - j
+
+loop-holds : tie.Need-loop-holds Inv-loop μ-loop
+loop-holds c = (omega arith, below-zero _, marks-none _ _, refl)
+
+point-at-requires : tie.Need-point-at-requires Inv-loop μ-loop
+point-at-requires c κs = search needs
+
+slot-of-requires : tie.Need-slot-of-requires Inv-loop μ-loop
+slot-of-requires c κs = search needs
+
+mul-mark : tie.Need-mul-mark Inv-loop μ-loop
+mul-mark c = search needs
+
+array-read-mark : tie.Need-array-read-mark Inv-loop μ-loop
+array-read-mark c = search needs
+
+repeats-earlier-requires : tie.Need-repeats-earlier-requires Inv-loop μ-loop
+repeats-earlier-requires c κs =
+    let l = c .before .before .before .loop in
+    let ps = readPoints (c .before .before .before .before .before .args .points .now) in
+    (omega arith, (c .before .point-at .ensures, rw (← c .slot-of .ensures .0) (marks-name ps (l .j) (c .slot-of .result) (l .marks) (l .inv .2))))
+
+returns : tie.Need-returns Inv-loop μ-loop
+unfolding firstRepeated
+returns c =
+    let l = c .before .before .before .before .before .loop in
+    let xs = c .before .before .before .before .before .before .before .args .points .now in
+    sym (first-at _ _ (l .j) (omega (arith, points-count xs)) (l .inv .1) (sym (c .before .repeats-earlier .ensures) ∙ c .if1 .taken))
+
+mark-after-requires : tie.Need-mark-after-requires Inv-loop μ-loop
+mark-after-requires c κs = search needs
+
+mul-marks : tie.Need-mul-marks Inv-loop μ-loop
+mul-marks c = search needs
+
+array-write-marks : tie.Need-array-write-marks Inv-loop μ-loop
+array-write-marks c = search needs
+
+add-j : tie.Need-add-j Inv-loop μ-loop
+add-j c = search needs
+
+loop-less : tie.Need-loop-less Inv-loop μ-loop
+loop-less c = search needs
+
+loop-again : tie.Need-loop-again Inv-loop μ-loop
+loop-again c =
+    let l = c .before .before .before .before .before .before .loop in
+    let ps = readPoints (c .before .before .before .before .before .before .before .before .args .points .now) in
+    let s = c .before .before .before .slot-of in (
+      omega arith,
+      below-more _ (l .j) (l .inv .1) (sym (c .before .before .repeats-earlier .ensures) ∙ c .before .if1 .left),
+      marks-more ps (l .j) (s .result) (c .mark-after .result) (l .marks) (l .inv .2) (c .mark-after .ensures)
+          (s .ensures .0 ∙ ap slotOf (c .before .before .before .before .point-at .ensures)) (omega (arith, s .ensures .1, l .inv .3)),
+      length-set (l .marks) (s .result) (c .mark-after .result) ∙ l .inv .3,
+    )
+
+returns-2 : tie.Need-returns-2 Inv-loop μ-loop
+unfolding firstRepeated
+returns-2 c =
+    let l = c .before .loop in
+    let xs = c .before .before .before .args .points .now in
+    let e : l .j ≡ length (readPoints xs) = omega (arith, points-count xs) in
+    e ∙ sym (first-none _ _ (rw e at (l .inv .1)))
+
+pub by-table-spec : {M : Type 1} → statement M
+by-table-spec =
+    tie.close
+    (tie.spec
+    Inv-loop
+    μ-loop
+    loop-holds
+    point-at-requires
+    slot-of-requires
+    mul-mark
+    array-read-mark
+    repeats-earlier-requires
+    returns
+    mark-after-requires
+    mul-marks
+    array-write-marks
+    add-j
+    loop-less
+    loop-again
+    returns-2)

@@ -1,0 +1,2 @@
+-- The definitions of the table of marks.
+pub mod Marks

@@ -1,0 +1,31 @@
+-- A table of marks, one for each slot: which earlier points can lie where a point lies.
+-- Assumes nothing.
+use Prim.Native.Nat.{ℕ, _+_, _*_, _-_, _%_, _<_}
+use mathlib.Core.Path.{_≡_}
+use mathlib.Core.Bool.{false}
+use mathlib.Core.List.{List}
+use mathlib.Core.Logic.{_⊎_}
+use lib.ListN.{getD}
+use Rattle.mesh.specs.declared.Point.{Point}
+use Rattle.mesh.specs.Faces.{at}
+use Rattle.searches.specs.Points.{samePoint}
+
+-- the slot of a point: few points of a tessellated patch have the same one
+unfoldable pub slotOf : Point → ℕ
+slotOf p = (p .u + 65 * p .v + 4225 * p .w) % 16381
+
+-- the mark of slot s after the first j points: every point that has the slot is the one named, or there are several
+pub record Names (ps : List Point) (j s mark : ℕ) : Type 0 where
+  pub each : (i : ℕ) → i < j → slotOf (at ps i) ≡ s → (mark ≡ i + 1) ⊎ (mark ≡ 65535)
+
+-- the marks after the first j points
+pub record Marks (ps : List Point) (j : ℕ) (ms : List ℕ) : Type 0 where
+  pub each : (i : ℕ) → i < j → (getD ms (slotOf (at ps i)) 0 ≡ i + 1) ⊎ (getD ms (slotOf (at ps i)) 0 ≡ 65535)
+
+-- a mark that names no point at p
+abbrev pub Clear : List Point → ℕ → Point → Type 0
+Clear ps mark p = (mark ≡ 0) ⊎ ((mark < 65535) × (samePoint (at ps (mark - 1)) p ≡ false))
+
+-- the mark r after point number j where it was `mark`
+abbrev pub Marked : ℕ → ℕ → ℕ → Type 0
+Marked mark j r = (r ≡ 65535) ⊎ ((mark ≡ 0) × (r ≡ j + 1))

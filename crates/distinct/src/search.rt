@@ -1,0 +1,55 @@
+// The search, with the table where it pays.
+ghost use mathlib.Core.Path.{_≡_};
+ghost use Prim.Native.Nat.{_/_, _<_};
+ghost use lib.ListN.{length};
+ghost use Rattle.mesh.specs.Faces.{at};
+ghost use Rattle.drawing.specs.Words.{readPoints};
+ghost use Rattle.searches.specs.Points.{repeats, firstRepeated};
+ghost use Rattle.distinct.specs.Marks.{slotOf, Names};
+use crate::mark::is_clear;
+use crate::mark::mark_after;
+use crate::mark::slot_of;
+use mesh::Point;
+use searches::point::first_equal;
+use searches::point::point_at;
+
+// Whether point number j, which lies at p, lies where an earlier one lies; the mark is that of its slot.
+fn repeats_earlier(points: &[u32], j: usize, p: Point, mark: u16) -> bool
+    requires { ⌜ j < length (now points) / 3 ⌝ ∗ ⌜ p ≡ at (readPoints (now points)) j ⌝ ∗ ⌜ Names (readPoints (now points)) j (slotOf p) mark ⌝ }
+    ensures { λ r. ⌜ r ≡ repeats (readPoints (now (points .entry))) j ⌝ }
+{
+    if is_clear(points, mark, p) {
+        return false;
+    }
+    first_equal(points, p, j) < j
+}
+
+// The first point that lies where an earlier one lies, or the number of points.
+fn by_table(points: &[u32]) -> usize
+    ensures { λ r. ⌜ r ≡ firstRepeated (readPoints (now (points .entry))) ⌝ }
+{
+    let count = points.len() / 3;
+    let mut marks = [0u16; 16381];
+    let mut j = 0;
+    while j < count {
+        let p = point_at(points, j);
+        let s = slot_of(p);
+        let mark = marks[s];
+        if repeats_earlier(points, j, p, mark) {
+            return j;
+        }
+        marks[s] = mark_after(mark, j);
+        j += 1;
+    }
+    j
+}
+
+// The same; a table for few points would cost more than it saves.
+pub fn first_repeated(points: &[u32]) -> usize
+    ensures { λ r. ⌜ r ≡ firstRepeated (readPoints (now (points .entry))) ⌝ }
+{
+    if points.len() < 100 {
+        return searches::point::first_repeated(points);
+    }
+    by_table(points)
+}

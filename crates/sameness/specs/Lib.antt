@@ -1,0 +1,3 @@
+-- The definitions of what an answer of comparing means.
+pub mod Same
+pub mod Refusals

@@ -1,0 +1,148 @@
+//! Comparing two triangle meshes: the points and triangles that one has and the other has not.
+//!
+//! Points are the same where their three coordinates agree, whatever their numbers; triangles where their corners agree by
+//! coordinates up to rotation, and not by a flip. Meshes may come from anywhere: any lengths and any numbers are answered.
+//!
+//! ```
+//! use yoktvarim::{compare, compare_meshes, Comparison, Difference, Side, What};
+//!
+//! let square = [0, 1, 0, 0, 0, 0, 1, 0, 0, 1, 1, 0];
+//! let left = (&square[..], &[0, 1, 2, 0, 2, 3][..]);
+//! let right = (&square[..], &[1, 2, 0, 1, 2, 3][..]); // the first triangle rotated, the other diagonal for the second
+//! let mut words = [0; 6];
+//! assert_eq!(compare_meshes(left, right, &mut words), Comparison::Differences { count: 2 });
+//! let found: Vec<Difference> = compare::differences(&words).collect();
+//! assert_eq!(found[0], Difference { what: What::Triangle, side: Side::Left, number: 1 });
+//! assert_eq!(found[1], Difference { what: What::Triangle, side: Side::Right, number: 1 });
+//! assert_eq!(compare_meshes(left, left, &mut []), Comparison::Differences { count: 0 });
+//! ```
+
+extern "C" {
+    fn yoktvarim_compare_meshes(
+        left_points: *const u32,
+        left_point_words: usize,
+        left_indices: *const u16,
+        left_index_words: usize,
+        right_points: *const u32,
+        right_point_words: usize,
+        right_indices: *const u16,
+        right_index_words: usize,
+        differences: *mut u64,
+        difference_words: usize,
+        count: &mut [u64; 1],
+    ) -> u32;
+}
+
+/// Why a mesh is refused. Where several apply, the one that stands first here is given.
+#[derive(Clone, Copy, Debug, PartialEq, Eq)]
+pub enum MeshFault {
+    /// The point words or the indices are no multiple of three.
+    NotThrees,
+    /// An index is past the points.
+    UnknownIndex,
+    /// Two points are equal.
+    EqualPoints,
+}
+
+/// What comparing answers. The left mesh is looked at first, then the right one, then the room.
+#[must_use = "only `Differences` means that the list holds what is different"]
+#[derive(Clone, Copy, Debug, PartialEq, Eq)]
+pub enum Comparison {
+    /// So many differences of three words stand at the front of the list. None: both hold the same points and triangles.
+    Differences { count: u64 },
+    /// So many there are, and the list has under three words for each; nothing was written.
+    NoRoom { count: u64 },
+    /// The left mesh cannot be compared; nothing was written.
+    LeftRefused(MeshFault),
+    /// The right mesh cannot be compared; nothing was written.
+    RightRefused(MeshFault),
+}
+
+/// What is different.
+#[derive(Clone, Copy, Debug, PartialEq, Eq)]
+pub enum What {
+    Point,
+    Triangle,
+}
+
+/// The mesh that has it; the other has not.
+#[derive(Clone, Copy, Debug, PartialEq, Eq)]
+pub enum Side {
+    Left,
+    Right,
+}
+
+/// A point or a triangle that only one side has, by its number there; the lowest one, if a triangle is repeated.
+#[derive(Clone, Copy, Debug, PartialEq, Eq)]
+pub struct Difference {
+    pub what: What,
+    pub side: Side,
+    pub number: u64,
+}
+
+/// A mesh as it is lent: point words, three a point, and indices, three a triangle.
+pub type MeshWords<'a> = (&'a [u32], &'a [u16]);
+
+/// Writes what only one side has to the front of the list, three words each: the left side's points, the right side's, the left
+/// side's triangles, the right side's, each in the order of its own list and each once. Words past those stay as they were, and
+/// every answer but `Differences` leaves the whole list as it was. An empty list counts them.
+pub fn compare_meshes(left: MeshWords, right: MeshWords, differences: &mut [u64]) -> Comparison {
+    let (left_points, left_indices) = left;
+    let (right_points, right_indices) = right;
+    // Overwritten whatever the answer is.
+    let mut count = [u64::MAX];
+    // SAFETY: the function is proved for every value of its arguments; each list goes as a pointer and its own length, and what
+    // is written overlaps nothing, since it is borrowed as `&mut`.
+    let number = unsafe {
+        yoktvarim_compare_meshes(
+            left_points.as_ptr(),
+            left_points.len(),
+            left_indices.as_ptr(),
+            left_indices.len(),
+            right_points.as_ptr(),
+            right_points.len(),
+            right_indices.as_ptr(),
+            right_indices.len(),
+            differences.as_mut_ptr(),
+            differences.len(),
+            &mut count,
+        )
+    };
+    let [count] = count;
+    match number {
+        0 => Comparison::Differences { count },
+        40 => Comparison::NoRoom { count },
+        41..=43 => Comparison::LeftRefused(fault(number - 41)),
+        44..=46 => Comparison::RightRefused(fault(number - 44)),
+        _ => unreachable!("the answer is 0 or 40 to 46 and not {number}"),
+    }
+}
+
+fn fault(place: u32) -> MeshFault {
+    match place {
+        0 => MeshFault::NotThrees,
+        1 => MeshFault::UnknownIndex,
+        _ => MeshFault::EqualPoints,
+    }
+}
+
+/// The differences that the written words stand for; give it three words for each that the answer counts.
+///
+/// # Panics
+///
+/// Where the first word of a difference, or the second, is neither 0 nor 1, which no comparison writes.
+pub fn differences(words: &[u64]) -> impl Iterator<Item = Difference> + '_ {
+    words.chunks_exact(3).map(|words| Difference {
+        what: match words[0] {
+            0 => What::Point,
+            1 => What::Triangle,
+            other => panic!("{other} is neither a point nor a triangle"),
+        },
+        side: match words[1] {
+            0 => Side::Left,
+            1 => Side::Right,
+            other => panic!("{other} is neither left nor right"),
+        },
+        number: words[2],
+    })
+}
