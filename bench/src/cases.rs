@@ -8,8 +8,8 @@ pub struct Case {
     pub levels: [f32; 6],
     /// Instructions of Mesa 22.3.6's tessellator (O3) for the same patch, where they were measured.
     pub mesa: Option<u64>,
-    /// The goal: this fraction of Mesa's instructions.
-    pub part: u64,
+    /// The goal for ours, where there is one.
+    pub goal: Option<u64>,
 }
 
 const TRIANGLES: u8 = 0;
@@ -26,26 +26,33 @@ const fn case(
     spacing: u8,
     levels: [f32; 6],
     mesa: Option<u64>,
-    part: u64,
+    goal: Option<u64>,
 ) -> Case {
     Case {
         name,
         settings: [kind, spacing, 1, 1, 0, TOP],
         levels,
         mesa,
-        part,
+        goal,
     }
 }
 
 pub const CASES: [Case; 8] = [
-    case("quads 64", QUADS, EQUAL, [64.0; 6], Some(540_890), 5),
+    case(
+        "quads 64",
+        QUADS,
+        EQUAL,
+        [64.0; 6],
+        Some(540_890),
+        Some(45_000),
+    ),
     case(
         "triangles 64",
         TRIANGLES,
         EQUAL,
         [64.0; 6],
         Some(419_558),
-        4,
+        Some(60_000),
     ),
     case(
         "quads odd, mixed",
@@ -53,11 +60,25 @@ pub const CASES: [Case; 8] = [
         ODD,
         [12.3, 37.7, 5.1, 55.5, 41.2, 23.9],
         Some(151_589),
-        4,
+        Some(26_000),
     ),
-    case("quads 4", QUADS, EQUAL, [4.0; 6], Some(4_962), 3),
-    case("triangles 4", TRIANGLES, EQUAL, [4.0; 6], Some(3_640), 3),
-    case("triangles odd 4.3", TRIANGLES, ODD, [4.3; 6], None, 3),
-    case("quads odd 3.7", QUADS, ODD, [3.7; 6], None, 3),
-    case("isolines 64 x 64", ISOLINES, EQUAL, [64.0; 6], None, 4),
+    case("quads 4", QUADS, EQUAL, [4.0; 6], Some(4_962), Some(1_400)),
+    case(
+        "triangles 4",
+        TRIANGLES,
+        EQUAL,
+        [4.0; 6],
+        Some(3_640),
+        Some(1_150),
+    ),
+    case("triangles odd 4.3", TRIANGLES, ODD, [4.3; 6], None, None),
+    case("quads odd 3.7", QUADS, ODD, [3.7; 6], None, None),
+    case(
+        "isolines 64 x 64",
+        ISOLINES,
+        EQUAL,
+        [64.0; 6],
+        None,
+        Some(25_000),
+    ),
 ];

@@ -42,13 +42,14 @@ fn settings_of(case: &Case) -> Settings {
     }
 }
 
-/// Nanoseconds of one call: the least of several rounds, each long enough to be measured.
+/// Nanoseconds of one call: the least of many rounds, each long enough to be measured and short enough to run undisturbed on a
+/// busy machine.
 fn nanoseconds(mut call: impl FnMut()) -> f64 {
     let mut times = 1u32;
     loop {
         let start = Instant::now();
         (0..times).for_each(|_| call());
-        if start.elapsed().as_millis() >= 20 {
+        if start.elapsed().as_micros() >= 500 {
             break;
         }
         times *= 2;
@@ -58,7 +59,7 @@ fn nanoseconds(mut call: impl FnMut()) -> f64 {
         (0..times).for_each(|_| call());
         start.elapsed().as_nanos() as f64 / f64::from(times)
     };
-    (0..7)
+    (0..301)
         .map(|_| round(&mut call))
         .fold(f64::INFINITY, f64::min)
 }
@@ -108,12 +109,15 @@ fn repeat(call: impl Fn(&Case, &mut Lists) -> (usize, usize), case: &str, times:
 fn list() {
     let mut lists = Lists::new();
     for (number, case) in CASES.iter().enumerate() {
-        let goal = case
-            .mesa
-            .map_or("-".to_string(), |mesa| (mesa / case.part).to_string());
-        let mesa = case.mesa.map_or("-".to_string(), |mesa| mesa.to_string());
+        let text = |count: Option<u64>| count.map_or("-".to_string(), |count| count.to_string());
         let (points, _) = proved::draw(case, &mut lists);
-        println!("{number};{};{mesa};{goal};{}", case.name, 3 * points);
+        println!(
+            "{number};{};{};{};{}",
+            case.name,
+            text(case.mesa),
+            text(case.goal),
+            3 * points
+        );
     }
 }
 

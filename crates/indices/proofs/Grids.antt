@@ -1,10 +1,10 @@
 -- The lines around a grid, and the words of its cells.
 -- Assumes nothing.
-use Prim.Native.Nat.{ℕ, zero, suc, _+_, _-_, _*_, _≤_}
+use Prim.Native.Nat.{ℕ, zero, suc, _+_, _-_, _*_, _%_, _≤_, _<_}
 use mathlib.Core.Path.{_≡_, refl, sym, ap, _∙_}
-use mathlib.Core.Bool.{Bool}
+use mathlib.Core.Bool.{Bool, true, false}
 use mathlib.Core.List.{List, [], _∷_, _++_}
-use native.Mathlib.Nat.{add-mul, suc-mul, mul-assoc, mul-comm, mul-le-mul-right, zero-add}
+use native.Mathlib.Nat.{add-mul, suc-mul, mul-assoc, mul-comm, mul-le-mul-right, zero-add, zero-mul}
 use native.Mathlib.Omega.{arith}
 use lib.ListN.{length}
 use Rattle.buffer.specs.Over.{flat}
@@ -16,7 +16,9 @@ use Rattle.strip.proofs.Strips.{indices-length, indices-append}
 use Rattle.cover.specs.Quad.{gridAt, cell, joined, cells}
 use Rattle.indices.specs.declared.grid.Grid.{Grid}
 use Rattle.indices.specs.Grids.{GridFits, cellWords, rowWords}
+use Rattle.indices.specs.Copies.{shifted}
 use Rattle.indices.proofs.Rings.{follows-line}
+use Rattle.indices.proofs.Shifts.{flat-shifted, flat-below}
 
 module _ (g : Grid) (fits : GridFits g) where
   -- down the first column, by a step that counts down modulo 65536
@@ -91,3 +93,31 @@ module _ (positive : Bool) (start width b : ℕ) where
       ∙ flat-same (λ r. indices positive (joined (cell (gridAt start width) r) b)) gridRow 0 a
       (λ r. joined-words positive (cell (gridAt start width) r) b
       ∙ flat-same (λ c. indices positive (cell (gridAt start width) r c)) (λ c. cellWords positive (start + r * width + c) (start + r * width + c + width)) 0 b (cell-numbers r))
+
+-- where there are cells, there are rows
+pub some-rows : (a b : ℕ) → 10 ≤ a * b → 1 ≤ a
+some-rows zero b h = absurd (omega (arith, zero-mul b))
+some-rows (suc a) b h = omega arith
+
+-- ---- a row further on is the same row, shifted
+cell-shifted : (positive : Bool) (p q p′ q′ d : ℕ) → p + d ≡ p′ → q + d ≡ q′ → p′ < 65535 → q′ < 65535 → shifted d (cellWords positive p q) ≡ cellWords positive p′ q′
+unfolding indices shifted
+cell-shifted true p q p′ q′ d e f h k =
+    let a : (p + d) % 65536 ≡ p′ = omega arith in
+    let b : (p + 1 + d) % 65536 ≡ p′ + 1 = omega arith in
+    let c : (q + 1 + d) % 65536 ≡ q′ + 1 = omega arith in
+    let u : (q + d) % 65536 ≡ q′ = omega arith in
+    rw (a, b, c, u)
+cell-shifted false p q p′ q′ d e f h k =
+    let a : (p + d) % 65536 ≡ p′ = omega arith in
+    let b : (p + 1 + d) % 65536 ≡ p′ + 1 = omega arith in
+    let c : (q + 1 + d) % 65536 ≡ q′ + 1 = omega arith in
+    let u : (q + d) % 65536 ≡ q′ = omega arith in
+    rw (a, b, c, u)
+
+pub row-shifted : (positive : Bool) (first width b d : ℕ) → first + d + width + b < 65535 → shifted d (rowWords positive first width b) ≡ rowWords positive (first + d) width b
+unfolding rowWords
+row-shifted positive first width b d h =
+    flat-shifted d (λ c. cellWords positive (first + c) (first + c + width)) 0 b
+    ∙ flat-below (λ c. shifted d (cellWords positive (first + c) (first + c + width))) (λ c. cellWords positive (first + d + c) (first + d + c + width)) 0 b
+    (λ c l. cell-shifted positive (first + c) (first + c + width) (first + d + c) (first + d + c + width) d (omega arith) (omega arith) (omega arith) (omega arith))

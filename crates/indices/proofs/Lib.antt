@@ -1,4 +1,5 @@
 mod Rings
+mod Shifts
 mod Bands
 mod Nests
 mod Grids

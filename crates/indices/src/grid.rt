@@ -109,7 +109,7 @@ fn write_row(out: &mut [u16], at: usize, first: u32, width: u32, b: u32, positiv
 }
 
 // All cells, row by row.
-pub fn write_cells(out: &mut [u16], at: usize, grid: Grid, positive: bool) -> usize
+fn write_each(out: &mut [u16], at: usize, grid: Grid, positive: bool) -> usize
     requires { ⌜ GridFits grid ⌝ ∗ ⌜ at + 6 * (grid .a * grid .b) ≤ length (now out) ⌝ }
     ensures { λ w. ⌜ Wrote (now (out .entry)) at (indices positive (cells (gridAt (grid .start) (grid .width)) (grid .a) (grid .b))) (now (out .exit)) w ⌝ }
 {
@@ -125,4 +125,22 @@ pub fn write_cells(out: &mut [u16], at: usize, grid: Grid, positive: bool) -> us
         r += 1;
     }
     to
+}
+
+// All cells. Every row has the words of the first one, greater by the row's number times the width; fewer than ten cells do
+// not pay for copying.
+pub fn write_cells(out: &mut [u16], at: usize, grid: Grid, positive: bool) -> usize
+    requires { ⌜ GridFits grid ⌝ ∗ ⌜ at + 6 * (grid .a * grid .b) ≤ length (now out) ⌝ }
+    ensures { λ w. ⌜ Wrote (now (out .entry)) at (indices positive (cells (gridAt (grid .start) (grid .width)) (grid .a) (grid .b))) (now (out .exit)) w ⌝ }
+{
+    let start = grid.start;
+    let width = grid.width;
+    let a = grid.a;
+    let b = grid.b;
+    if a * b < 10 {
+        return write_each(out, at, grid, positive);
+    }
+    write_row(out, at, start, width, b, positive);
+    let n = 6 * (b as usize);
+    crate::copies::write_copies(out, at, n, a as usize, width as usize)
 }

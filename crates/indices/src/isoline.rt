@@ -20,18 +20,15 @@ fn write_line(out: &mut [u16], at: usize, first: u32, n: u32) -> usize
     to
 }
 
-// m lines of n segments each.
+// m lines of n segments each. Every line has the words of the first one, greater by the numbers of the vertices before it.
 pub fn write_isolines(out: &mut [u16], at: usize, m: u32, n: u32) -> usize
     requires { ⌜ (m ≤ 64) × (n ≤ 64) ⌝ ∗ ⌜ at + 2 * (m * n) ≤ length (now out) ⌝ }
     ensures { λ w. ⌜ Wrote (now (out .entry)) at (isolines m n) (now (out .exit)) w ⌝ }
 {
-    let mut first = 0u32;
-    let mut to = at;
-    let mut r = 0u32;
-    while r < m {
-        to = write_line(out, to, first, n);
-        first += n + 1;
-        r += 1;
+    if m == 0 {
+        return at;
     }
-    to
+    write_line(out, at, 0, n);
+    let words = 2 * (n as usize);
+    crate::copies::write_copies(out, at, words, m as usize, (n + 1) as usize)
 }

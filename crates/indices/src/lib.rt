@@ -1,4 +1,5 @@
 // The indices of every patch: which vertices make up each triangle, line and dot.
+mod copies;
 pub mod dot;
 pub mod grid;
 pub mod isoline;

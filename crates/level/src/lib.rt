@@ -4,7 +4,7 @@ ghost use mathlib.Core.Path.{_≡_};
 ghost use lib.Ieee.{binary32, ofBits};
 ghost use Rattle.level.specs.Discard.{discarded};
 ghost use Rattle.level.specs.Top.{Top, isTop};
-ghost use Rattle.level.specs.Clamp.{lowest, highest, clampedLevel, clampOf, From1To64};
+ghost use Rattle.level.specs.Clamp.{lowest, highest, clamped, sideOf, clampOf, From1To64};
 ghost use Rattle.level.specs.Scale.{parts, InRange};
 ghost use Rattle.level.specs.Segments.{segmentsAt, segmentsOf, raised, asInner};
 
@@ -59,12 +59,12 @@ pub fn is_top(top: u32) -> bool
 }
 
 // The least and the greatest level of a spacing.
-struct Range {
-    lowest: f32,
-    highest: f32,
+pub struct Range {
+    pub lowest: f32,
+    pub highest: f32,
 }
 
-fn range_of(spacing: Spacing, top: u32) -> Range
+pub fn range_of(spacing: Spacing, top: u32) -> Range
     requires { ⌜ Top top ⌝ }
     ensures { λ r. ⌜ r ≡ record { lowest = lowest spacing; highest = highest spacing top } ⌝ }
 {
@@ -91,11 +91,9 @@ struct LevelInRange {
 }
 
 // The level clamped; a NaN takes the low end.
-fn clamp_level(level: f32, spacing: Spacing, top: u32) -> LevelInRange
-    requires { ⌜ Top top ⌝ }
-    ensures { λ r. ⌜ r ≡ record { value = clampedLevel spacing top level; clamp = clampOf spacing top level } ⌝ }
+fn clamp_level(level: f32, range: Range) -> LevelInRange
+    ensures { λ r. ⌜ r ≡ record { value = clamped (range .lowest) (range .highest) level; clamp = sideOf (range .lowest) (range .highest) level } ⌝ }
 {
-    let range = range_of(spacing, top);
     if range.lowest <= level {
         if range.highest < level {
             LevelInRange {
@@ -150,16 +148,26 @@ fn segments_at(scaled: u32, spacing: Spacing) -> Segments
     }
 }
 
-// The segments of a level, and whether it was clamped. The range goes up to `top`, for odd spacing one less.
+// The segments of a level, and whether it was clamped. The range is the spacing's, which need not be made for each level anew.
+pub fn segments_in(level: f32, spacing: Spacing, top: u32, range: Range) -> Clamped
+    requires { ⌜ Top top ⌝ ∗ ⌜ range ≡ record { lowest = lowest spacing; highest = highest spacing top } ⌝ }
+    ensures segments { λ r. ⌜ r .segments ≡ segmentsOf spacing top level ⌝ }
+    ensures clamp { λ r. ⌜ r .clamp ≡ clampOf spacing top level ⌝ }
+{
+    let clamped = clamp_level(level, range);
+    let segments = segments_at(parts_of(clamped.value), spacing);
+    let clamp = clamped.clamp;
+    Clamped { segments, clamp }
+}
+
+// The same for one level. The range goes up to `top`, for odd spacing one less.
 pub fn segments_of(level: f32, spacing: Spacing, top: u32) -> Clamped
     requires { ⌜ Top top ⌝ }
     ensures segments { λ r. ⌜ r .segments ≡ segmentsOf spacing top level ⌝ }
     ensures clamp { λ r. ⌜ r .clamp ≡ clampOf spacing top level ⌝ }
 {
-    let clamped = clamp_level(level, spacing, top);
-    let segments = segments_at(parts_of(clamped.value), spacing);
-    let clamp = clamped.clamp;
-    Clamped { segments, clamp }
+    let range = range_of(spacing, top);
+    segments_in(level, spacing, top, range)
 }
 
 // The segments of an inner level that would have one segment only.

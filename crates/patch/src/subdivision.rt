@@ -1,12 +1,14 @@
 // From a patch's levels to the segments of each of its edges, outside and inside.
 ghost use mathlib.Core.Path.{_≡_};
 ghost use mathlib.Core.List.{[], _∷_};
+ghost use Rattle.level.specs.Clamp.{lowest, highest};
 ghost use Rattle.level.specs.Discard.{discarded};
 ghost use Rattle.level.specs.Top.{Top};
 ghost use Rattle.patch.specs.Every.{some};
 ghost use Rattle.patch.specs.Counted.{Counted};
 ghost use Rattle.patch.specs.Subdivide.{isDiscarded, subdivision};
 use crate::kinds::Patch;
+use level::Range;
 use level::Segments;
 use level::Spacing;
 
@@ -115,13 +117,35 @@ fn discards4(a: f32, b: f32, c: f32, d: f32) -> bool
     }
 }
 
-// The segments of a level, clamped or not.
-fn segments_of(level: f32, spacing: Spacing, top: u32) -> Segments
-    requires { ⌜ Top top ⌝ }
+// The segments of a level, clamped or not, whose spacing has the given range.
+fn segments_in(level: f32, spacing: Spacing, top: u32, range: Range) -> Segments
+    requires { ⌜ Top top ⌝ ∗ ⌜ range ≡ record { lowest = lowest spacing; highest = highest spacing top } ⌝ }
     ensures { λ r. ⌜ Counted spacing top level r ⌝ }
 {
-    let clamped = level::segments_of(level, spacing, top);
+    let clamped = level::segments_in(level, spacing, top, range);
     clamped.segments
+}
+
+// The same, where another level of the patch has the segments `own`: levels are often alike, and then nothing is worked out again.
+fn segments_beside(
+    level: f32,
+    other: f32,
+    own: Segments,
+    spacing: Spacing,
+    top: u32,
+    range: Range,
+) -> Segments
+    requires { ⌜ Top top ⌝ ∗ ⌜ range ≡ record { lowest = lowest spacing; highest = highest spacing top } ⌝ ∗ ⌜ Counted spacing top other own ⌝ }
+    ensures { λ r. ⌜ Counted spacing top level r ⌝ }
+{
+    if level > 0.0 {
+        if other > 0.0 {
+            if f32::to_bits(level) == f32::to_bits(other) {
+                return own;
+            }
+        }
+    }
+    segments_in(level, spacing, top, range)
 }
 
 // A count is at least 1, so all of them are 1 where they add up to their number.
@@ -139,10 +163,11 @@ fn triangle(
     if discards3(outer0, outer1, outer2) {
         return Subdivision::Discarded;
     }
-    let edge0 = segments_of(outer0, spacing, top);
-    let edge1 = segments_of(outer1, spacing, top);
-    let edge2 = segments_of(outer2, spacing, top);
-    let inner = segments_of(inner0, spacing, top);
+    let range = level::range_of(spacing, top);
+    let edge0 = segments_in(outer0, spacing, top, range);
+    let edge1 = segments_beside(outer1, outer0, edge0, spacing, top, range);
+    let edge2 = segments_beside(outer2, outer0, edge0, spacing, top, range);
+    let inner = segments_beside(inner0, outer0, edge0, spacing, top, range);
     if edge0.count + edge1.count + edge2.count + inner.count == 4 {
         return Subdivision::PlainTriangle;
     }
@@ -171,12 +196,13 @@ fn quad(
     if discards4(outer0, outer1, outer2, outer3) {
         return Subdivision::Discarded;
     }
-    let edge0 = segments_of(outer0, spacing, top);
-    let edge1 = segments_of(outer1, spacing, top);
-    let edge2 = segments_of(outer2, spacing, top);
-    let edge3 = segments_of(outer3, spacing, top);
-    let inner_rows = segments_of(inner0, spacing, top);
-    let inner_columns = segments_of(inner1, spacing, top);
+    let range = level::range_of(spacing, top);
+    let edge0 = segments_in(outer0, spacing, top, range);
+    let edge1 = segments_beside(outer1, outer0, edge0, spacing, top, range);
+    let edge2 = segments_beside(outer2, outer0, edge0, spacing, top, range);
+    let edge3 = segments_beside(outer3, outer0, edge0, spacing, top, range);
+    let inner_rows = segments_beside(inner0, outer0, edge0, spacing, top, range);
+    let inner_columns = segments_beside(inner1, outer0, edge0, spacing, top, range);
     let outline = edge0.count + edge1.count + edge2.count + edge3.count;
     if outline + inner_rows.count + inner_columns.count == 6 {
         return Subdivision::PlainQuad;
@@ -200,7 +226,9 @@ fn isolines(spacing: Spacing, top: u32, outer0: f32, outer1: f32) -> Subdivision
     if discards2(outer0, outer1) {
         return Subdivision::Discarded;
     }
-    let lines = segments_of(outer0, Spacing::Equal, top);
-    let along = segments_of(outer1, spacing, top);
+    let whole = level::range_of(Spacing::Equal, top);
+    let range = level::range_of(spacing, top);
+    let lines = segments_in(outer0, Spacing::Equal, top, whole);
+    let along = segments_in(outer1, spacing, top, range);
     Subdivision::Lines { lines, along }
 }

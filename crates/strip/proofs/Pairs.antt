@@ -2,7 +2,7 @@
 -- one, pairs again, and a last step of the outer line.
 -- Assumes nothing.
 use Prim.Native.Nat.{ℕ, zero, suc, _+_, _-_, _*_, _/_, _<_}
-use mathlib.Core.Path.{_≡_, refl}
+use mathlib.Core.Path.{_≡_, refl, _∙_}
 use mathlib.Core.Bool.{Bool, true, false}
 use mathlib.Core.List.{[], _∷_, _++_, append-assoc}
 use native.Mathlib.Omega.{arith}
@@ -26,7 +26,7 @@ module _ (A B : ℕ → ℕ) (positive : Bool) where
   pairs-length a b n = flat-length (λ i. indices positive (pair A B (a + i) (b + i))) 6 0 n (λ i. pair-length (a + i) (b + i))
 
   -- no pair, one more, and the last of several
-  pub pairs-none : (a b n : ℕ) → n ≡ 0 → pairWords A B positive a b n ≡ []
+  pairs-none : (a b n : ℕ) → n ≡ 0 → pairWords A B positive a b n ≡ []
   unfolding pairWords flat
   pairs-none a b n e = rw e
 
@@ -36,15 +36,11 @@ module _ (A B : ℕ → ℕ) (positive : Bool) where
       let z : 0 + n ≡ n = omega arith in
       rw z at (flat-last (λ i. indices positive (pair A B (a + i) (b + i))) 0 n)
 
-  pub pairs-last : (a b n : ℕ) → (n ≡ 0 → ⊥) → pairWords A B positive a b n ≡ pairWords A B positive a b (n - 1) ++ indices positive (pair A B (a + (n - 1)) (b + (n - 1)))
+  pairs-last : (a b n : ℕ) → (n ≡ 0 → ⊥) → pairWords A B positive a b n ≡ pairWords A B positive a b (n - 1) ++ indices positive (pair A B (a + (n - 1)) (b + (n - 1)))
   pairs-last a b zero h = absurd (h refl)
   pairs-last a b (suc n) h =
       let e : suc n - 1 ≡ n = omega arith in
       rw e (pairs-more a b n)
-
-  -- three words of one step
-  pub outer-length : (a b : ℕ) → length (indices positive (stepTriangle A B true a b ∷ [])) ≡ 3
-  outer-length a b = indices-length positive (stepTriangle A B true a b ∷ [])
 
   module _ (next : ℕ → ℕ → Bool) where
     -- one pair of several steps
@@ -78,7 +74,7 @@ module _ (A B : ℕ → ℕ) (positive : Bool) where
     last-outer a b u = rw u
 
   -- the strip of an outer line with two segments more than the inner one
-  pub alternates : (p r : ℕ) → p ≡ r + 2
+  alternates : (p r : ℕ) → p ≡ r + 2
       → indices positive (strip A B p r) ≡ pairWords A B positive 0 0 (r / 2) ++ indices positive (stepTriangle A B true (r / 2) (r / 2) ∷ [])
       ++ pairWords A B positive (r / 2 + 1) (r / 2) (r - r / 2) ++ indices positive (stepTriangle A B true (r + 1) r ∷ [])
   alternates p r e =
@@ -95,3 +91,18 @@ module _ (A B : ℕ → ℕ) (positive : Bool) where
       let second =
       pairs next (h + 1) h m 1 (2 * m + 1) refl (λ j k. rw (on j) (ahead-outer r (h + j) (omega arith))) (λ j k. rw (on j) (two-ahead-inner r (h + j) (omega arith))) in
       rw (e, first, x, middle, y, second, z, w, last-outer next (r + 1) r (inner-ended (r + 2) r (r + 1) (omega arith))) (simp append-assoc)
+
+  -- the same with the last pair and the last step together
+  pub halves : (p r : ℕ) → p ≡ r + 2 → (r ≡ 0 → ⊥)
+      → indices positive (strip A B p r) ≡ pairWords A B positive 0 0 (r / 2) ++ indices positive (stepTriangle A B true (r / 2) (r / 2) ∷ [])
+      ++ pairWords A B positive (r / 2 + 1) (r / 2) (r - r / 2 - 1) ++ (indices positive (pair A B r (r - 1)) ++ indices positive (stepTriangle A B true (r + 1) r ∷ []))
+  halves p r e some =
+      let h = r / 2 in
+      let x : h + 1 + (r - h - 1) ≡ r = omega arith in
+      let y : h + (r - h - 1) ≡ r - 1 = omega arith in
+      alternates p r e ∙ rw (pairs-last (h + 1) h (r - h) (λ z. some (omega arith)), x, y) (simp append-assoc)
+
+  -- an inner line of no segment
+  pub fan : (p r : ℕ) → p ≡ r + 2 → r ≡ 0 → indices positive (strip A B p r) ≡ indices positive (stepTriangle A B true 0 0 ∷ stepTriangle A B true 1 0 ∷ [])
+  unfolding indices pairWords flat
+  fan p r e none = alternates p r e ∙ rw none

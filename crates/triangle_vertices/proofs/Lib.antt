@@ -1,2 +1,3 @@
 -- The laws of rings.
 mod Rings
+mod Rounds

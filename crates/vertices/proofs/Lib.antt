@@ -6,3 +6,4 @@ pub mod Edges
 pub mod Rows
 pub mod Grids
 pub mod Laid
+pub mod Raised

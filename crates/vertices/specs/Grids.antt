@@ -1,7 +1,7 @@
 -- The points of a grid whose places stand in two lists of numbers.
 -- Assumes nothing.
 use Prim.Native.Nat.{ℕ}
-use mathlib.Core.List.{List}
+use mathlib.Core.List.{List, [], _∷_}
 use lib.ListN.{length}
 use Rattle.edge.specs.Table.{table}
 use Rattle.mesh.specs.declared.Point.{Point}
@@ -19,3 +19,10 @@ rowPoints columns v = table (λ c. record { u = places columns c; v = v; w = 0 }
 -- such points for each row
 abbrev pub gridPoints : List ℕ → List ℕ → List Point
 gridPoints rows columns = grid (crossing rows columns) (length rows) (length columns)
+
+-- points as words, each at the height v
+unfoldable pub raised : ℕ → List ℕ → List ℕ
+raised v [] = []
+raised v (a ∷ []) = a ∷ []
+raised v (a ∷ b ∷ []) = a ∷ b ∷ []
+raised v (a ∷ b ∷ c ∷ ws) = a ∷ v ∷ c ∷ raised v ws

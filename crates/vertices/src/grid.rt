@@ -1,9 +1,11 @@
 // Points in rows: the inner points of a quad patch, and those of isolines.
+ghost use mathlib.Core.Path.{_≡_};
+ghost use mathlib.Core.List.{_++_};
 ghost use Prim.Native.Nat.{_+_, _*_, _≤_};
-ghost use lib.ListN.{length};
+ghost use lib.ListN.{length, take, drop};
 ghost use Rattle.buffer.specs.Over.{Wrote};
 ghost use Rattle.mesh.specs.Words.{vertexWords};
-ghost use Rattle.vertices.specs.Grids.{rowPoints, gridPoints};
+ghost use Rattle.vertices.specs.Grids.{rowPoints, gridPoints, raised};
 
 // A point at the height v for each place along u.
 fn write_row(out: &mut [u32], at: usize, columns: &[u32], v: u32) -> usize
@@ -19,8 +21,33 @@ fn write_row(out: &mut [u32], at: usize, columns: &[u32], v: u32) -> usize
     to
 }
 
-// Such a row for each place along v.
-pub fn write_grid(out: &mut [u32], at: usize, rows: &[u32], columns: &[u32]) -> usize
+// The first n points of a row, at the height v.
+fn raise(row: &mut [u32], n: usize, v: u32)
+    requires { ⌜ 3 * n ≤ length (now row) ⌝ }
+    ensures { λ r. ⌜ now (row .exit) ≡ raised v (take (3 * n) (now (row .entry))) ++ drop (3 * n) (now (row .entry)) ⌝ }
+{
+    let mut i = 0usize;
+    while i < n {
+        row[3 * i + 1] = v;
+        i += 1;
+    }
+}
+
+// A row that stands elsewhere.
+fn copy_row(out: &mut [u32], at: usize, row: &[u32]) -> usize
+    requires { ⌜ at + length (now row) ≤ length (now out) ⌝ }
+    ensures { λ w. ⌜ Wrote (now (out .entry)) at (now (row .entry)) (now (out .exit)) w ⌝ }
+{
+    let mut i = 0usize;
+    while i < row.len() {
+        out[at + i] = row[i];
+        i += 1;
+    }
+    at + row.len()
+}
+
+// Such a row for each place along v, point by point.
+fn write_each(out: &mut [u32], at: usize, rows: &[u32], columns: &[u32]) -> usize
     requires { ⌜ at + 3 * (length (now rows) * length (now columns)) ≤ length (now out) ⌝ }
     ensures { λ w. ⌜ Wrote (now (out .entry)) at (vertexWords (gridPoints (now (rows .entry)) (now (columns .entry)))) (now (out .exit)) w ⌝ }
 {
@@ -31,4 +58,41 @@ pub fn write_grid(out: &mut [u32], at: usize, rows: &[u32], columns: &[u32]) -> 
         r += 1;
     }
     to
+}
+
+// The same from one row, of which only the heights change.
+fn write_raised(out: &mut [u32], at: usize, rows: &[u32], columns: &[u32]) -> usize
+    requires { ⌜ length (now columns) ≤ 65 ⌝ ∗ ⌜ at + 3 * (length (now rows) * length (now columns)) ≤ length (now out) ⌝ }
+    ensures { λ w. ⌜ Wrote (now (out .entry)) at (vertexWords (gridPoints (now (rows .entry)) (now (columns .entry)))) (now (out .exit)) w ⌝ }
+{
+    let n = columns.len();
+    let words = 3 * n;
+    let mut row = [0u32; 195];
+    write_row(&mut row, 0, columns, 0);
+    let mut to = at;
+    let mut r = 0usize;
+    while r < rows.len() {
+        raise(&mut row, n, rows[r]);
+        to = copy_row(out, to, &row[0..words]);
+        r += 1;
+    }
+    to
+}
+
+// The same in the way that is quicker: few or short rows do not pay for laying one out.
+pub fn write_grid(out: &mut [u32], at: usize, rows: &[u32], columns: &[u32]) -> usize
+    requires { ⌜ at + 3 * (length (now rows) * length (now columns)) ≤ length (now out) ⌝ }
+    ensures { λ w. ⌜ Wrote (now (out .entry)) at (vertexWords (gridPoints (now (rows .entry)) (now (columns .entry)))) (now (out .exit)) w ⌝ }
+{
+    let n = columns.len();
+    if n < 16 {
+        return write_each(out, at, rows, columns);
+    }
+    if 65 < n {
+        return write_each(out, at, rows, columns);
+    }
+    if rows.len() < 8 {
+        return write_each(out, at, rows, columns);
+    }
+    write_raised(out, at, rows, columns)
 }

@@ -1,80 +1,85 @@
 -- Meets its contract. Assumes nothing.
 use borrow.Author.Needs.{needs}
 use native.Mathlib.Omega.{arith}
-use native.Mathlib.Nat.{add-mul, mul-le-mul-right}
-use Prim.Native.Nat.{ℕ, _+_, _-_, _*_, _≤_}
-use mathlib.Core.Path.{_≡_, subst}
-use Rattle.buffer.specs.Over.{Wrote}
-use Rattle.buffer.proofs.Laws.{Counting, count-start, count-fits, count-step, count-done}
+use native.Mathlib.Nat.{add-mul, mul-le-mul, mul-le-mul-right}
+use Prim.Native.Nat.{ℕ, _+_, _*_, _≤_}
+use mathlib.Core.Path.{_≡_, ap}
+use Rattle.indices.specs.Copies.{copy}
 use Rattle.indices.specs.Grids.{rowWords}
-use Rattle.indices.proofs.Grids.{gridRow, row-length, grid-length, cells-words}
+use Rattle.indices.proofs.Grids.{gridRow, some-rows, row-length, cells-words, row-shifted}
+use Rattle.indices.proofs.Shifts.{copies-wrote}
 use Rattle.indices.proofs.grid.write_cells.Statement.{statement}
 use Rattle.indices.proofs.grid.write_cells.Tie as tie
 
-abbrev Inv-loop : tie.InvT-loop
-Inv-loop out₀ at positive width a b first₀ to₀ r₀ out first to r = (first ≡ first₀ + r * width) × Counting (gridRow positive first₀ width b) r a out to out₀ at
+mul-if1 : tie.Need-mul-if1
+mul-if1 c =
+    let fits = c .before .pre .0 in
+    omega (arith, mul-le-mul (fits .rows) (fits .columns))
 
-abbrev μ-loop : tie.MeasureT-loop
-μ-loop out₀ at positive width a b first₀ to₀ r₀ out first to r = a - r
+write-each-requires : tie.Need-write-each-requires
+write-each-requires c κs = search needs
 
-loop-holds : tie.Need-loop-holds Inv-loop μ-loop
-loop-holds c =
-    let a = c .before .args in
-    let g = a .grid in
-    (omega arith, count-start (omega (arith, grid-length (a .positive) (g .start) (g .width) (g .b) (g .a))))
-
-write-row-requires : tie.Need-write-row-requires Inv-loop μ-loop
-write-row-requires c κs =
-    let a = c .before .before .before .before .args in
-    let g = a .grid in
-    let l = c .before .before .loop in
-    let below : l .r + 1 ≤ g .a = omega arith in (
-      omega (arith, mul-le-mul-right (g .width) below, add-mul (l .r) 1 (g .width)),
-      omega (arith, count-fits (omega arith) (l .inv .1), row-length (a .positive) (g .start + l .r * g .width) (g .width) (g .b)),
-    )
-
-add-first : tie.Need-add-first Inv-loop μ-loop
-add-first c =
-    let g = c .before .before .before .before .before .before .before .args .grid in
-    let l = c .before .before .before .before .before .loop in
-    let below : l .r ≤ g .a = omega arith in
-    omega (arith, mul-le-mul-right (g .width) below)
-
-add-r : tie.Need-add-r Inv-loop μ-loop
-add-r c = search needs
-
-loop-less : tie.Need-loop-less Inv-loop μ-loop
-loop-less c = search needs
-
-loop-again : tie.Need-loop-again Inv-loop μ-loop
-loop-again c =
-    let a = c .before .before .before .before .before .before .before .args in
-    let g = a .grid in
-    let l = c .before .before .before .before .before .loop in (
-      omega (arith, add-mul (l .r) 1 (g .width)),
-      count-step (omega arith) (subst (λ (k : ℕ). Wrote (l .out) (l .to) (rowWords (a .positive) k (g .width) (g .b)) (c .before .before .write-row .last .0) (c .before .before .write-row .result)) (l .inv .0) (c .before .before .write-row .ensures)) (l .inv .1),
-    )
-
-same-length : tie.Need-same-length Inv-loop μ-loop
+same-length : tie.Need-same-length
 same-length c = search needs
 
-returns : tie.Need-returns Inv-loop μ-loop
-returns c =
+returns : tie.Need-returns
+returns c = search needs
+
+write-row-requires : tie.Need-write-row-requires
+write-row-requires c κs =
     let a = c .before .before .before .args in
     let g = a .grid in
-    rw (cells-words (a .positive) (g .start) (g .width) (g .b) (g .a)) (count-done (c .loop-test .left) (c .before .loop .inv .1))
+    let some = some-rows (g .a) (g .b) (omega arith) in
+    (omega (arith, mul-le-mul-right (g .width) some), omega (arith, mul-le-mul-right (g .b) some))
+
+cast-n : tie.Need-cast-n
+cast-n c = search needs
+
+mul-n : tie.Need-mul-n
+mul-n c = search needs
+
+cast-write-copies : tie.Need-cast-write-copies
+cast-write-copies c = search needs
+
+cast-write-copies-2 : tie.Need-cast-write-copies-2
+cast-write-copies-2 c = search needs
+
+write-copies-requires : tie.Need-write-copies-requires
+write-copies-requires c κs =
+    let a = c .before .before .before .before .before .before .before .args in
+    let g = a .grid in
+    let some = some-rows (g .a) (g .b) (omega arith) in
+    search needs
+
+same-length-2 : tie.Need-same-length-2
+same-length-2 c = search needs
+
+returns-2 : tie.Need-returns-2
+unfolding copy
+returns-2 c =
+    let a = c .before .before .before .before .before .before .before .before .before .before .args in
+    let g = a .grid in
+    let row0 = c .before .before .before .before .before .before .write-row in
+    let some = some-rows (g .a) (g .b) (omega arith) in
+    rw (cells-words (a .positive) (g .start) (g .width) (g .b) (g .a))
+    (copies-wrote (6 * g .b) (g .a) (g .width) (gridRow (a .positive) (g .start) (g .width) (g .b)) (omega arith) (row-length (a .positive) (g .start) (g .width) (g .b)) some
+    (let e : g .start ≡ g .start + 0 * g .width = omega arith in ap (λ (x : ℕ). rowWords (a .positive) x (g .width) (g .b)) e)
+    (λ r l. row-shifted (a .positive) (g .start) (g .width) (g .b) (r * g .width) (let below : r + 1 ≤ g .a = omega arith in omega (arith, mul-le-mul-right (g .width) below, add-mul r 1 (g .width))))
+    (row0 .ensures) (c .before .before .write-copies .ensures))
 
 pub write-cells-spec : {M : Type 1} → statement M
 write-cells-spec =
     tie.close
     (tie.spec
-    Inv-loop
-    μ-loop
-    loop-holds
-    write-row-requires
-    add-first
-    add-r
-    loop-less
-    loop-again
+    mul-if1
+    write-each-requires
     same-length
-    returns)
+    returns
+    write-row-requires
+    cast-n
+    mul-n
+    cast-write-copies
+    cast-write-copies-2
+    write-copies-requires
+    same-length-2
+    returns-2)

@@ -1,80 +1,65 @@
 -- Meets its contract. Assumes nothing.
 use borrow.Author.Needs.{needs}
-use native.Mathlib.Nat.{add-mul}
 use native.Mathlib.Omega.{arith}
-use Prim.Native.Nat.{ℕ, suc, _-_, _*_}
-use mathlib.Core.Path.{_≡_, ap, subst}
-use lib.ListN.{length}
-use Rattle.buffer.specs.Over.{Wrote}
-use Rattle.buffer.proofs.Laws.{Counting, count-start, count-fits, count-step, count-done}
-use Rattle.cover.proofs.Length.{isolines-length}
+use native.Mathlib.Nat.{mul-le-mul-right}
+use Prim.Native.Nat.{ℕ, suc, _+_, _*_, _≤_}
+use mathlib.Core.Path.{_≡_, ap}
+use Rattle.buffer.specs.Over.{flat}
+use Rattle.buffer.proofs.Laws.{wrote-none, wrote-as}
+use Rattle.cover.specs.Lines.{isolines}
 use Rattle.indices.specs.Isolines.{lineWords}
-use Rattle.indices.proofs.Isolines.{line, line-length, isolines-are, first-small}
+use Rattle.indices.proofs.Isolines.{line, line-length, line-copied, isolines-are}
+use Rattle.indices.proofs.Shifts.{copies-wrote}
 use Rattle.indices.proofs.isoline.write_isolines.Statement.{statement}
 use Rattle.indices.proofs.isoline.write_isolines.Tie as tie
 
-abbrev Inv-loop : tie.InvT-loop
-Inv-loop out₀ at m n first₀ to₀ r₀ out first to r = (first ≡ r * suc n) × Counting (line n) r m out to out₀ at
+returns : tie.Need-returns
+unfolding isolines flat
+returns c =
+    let a = c .before .before .args in
+    let none : a .m ≡ 0 = omega arith in
+    wrote-as (λ (m : ℕ). isolines m (a .n)) none (wrote-none (a .out .now) (a .at))
 
-abbrev μ-loop : tie.MeasureT-loop
-μ-loop out₀ at m n first₀ to₀ r₀ out first to r = m - r
-
-loop-holds : tie.Need-loop-holds Inv-loop μ-loop
-loop-holds c = let a = c .before .args in (omega arith, count-start (omega (arith, isolines-length (a .m) (a .n), ap length (isolines-are (a .m) (a .n)))))
-
-write-line-requires : tie.Need-write-line-requires Inv-loop μ-loop
+write-line-requires : tie.Need-write-line-requires
 write-line-requires c κs =
-    let a = c .before .before .before .before .args in
-    let l = c .before .before .loop in
-    (omega (arith, first-small (l .r) (a .n) (omega arith) (omega arith)), omega (arith, count-fits (omega arith) (l .inv .1), line-length (l .r * suc (a .n)) (a .n)))
+    let a = c .before .before .before .args in
+    let some : 1 ≤ a .m = omega arith in
+    (omega arith, omega (arith, mul-le-mul-right (a .n) some))
 
-add-first : tie.Need-add-first Inv-loop μ-loop
-add-first c =
-    let a = c .before .before .before .before .before .before .before .args in
-    let l = c .before .before .before .before .before .loop in
-    omega (arith, first-small (l .r) (a .n) (omega arith) (omega arith))
+mul-words : tie.Need-mul-words
+mul-words c = search needs
 
-add-first-2 : tie.Need-add-first-2 Inv-loop μ-loop
-add-first-2 c =
-    let a = c .before .before .before .before .before .before .before .args in
-    let l = c .before .before .before .before .before .loop in
-    omega (arith, first-small (l .r) (a .n) (omega arith) (omega arith))
+add-write-copies : tie.Need-add-write-copies
+add-write-copies c = search needs
 
-add-r : tie.Need-add-r Inv-loop μ-loop
-add-r c = search needs
+cast-write-copies : tie.Need-cast-write-copies
+cast-write-copies c = search needs
 
-loop-less : tie.Need-loop-less Inv-loop μ-loop
-loop-less c = search needs
+write-copies-requires : tie.Need-write-copies-requires
+write-copies-requires c κs = search needs
 
-loop-again : tie.Need-loop-again Inv-loop μ-loop
-loop-again c =
-    let a = c .before .before .before .before .before .before .before .args in
-    let l = c .before .before .before .before .before .loop in
-    let call = c .before .before .write-line in (
-      omega (arith, add-mul (l .r) 1 (suc (a .n))),
-      count-step (omega arith) (subst (λ (k : ℕ). Wrote (l .out) (l .to) (lineWords k (a .n)) (call .last .0) (call .result)) (l .inv .0) (call .ensures)) (l .inv .1),
-    )
-
-same-length : tie.Need-same-length Inv-loop μ-loop
+same-length : tie.Need-same-length
 same-length c = search needs
 
-returns : tie.Need-returns Inv-loop μ-loop
-returns c =
-    let a = c .before .before .before .args in
-    rw (isolines-are (a .m) (a .n)) (count-done (c .loop-test .left) (c .before .loop .inv .1))
+returns-2 : tie.Need-returns-2
+returns-2 c =
+    let a = c .before .before .before .before .before .before .before .before .before .before .args in
+    let line0 = c .before .before .before .before .before .before .write-line in
+    let some : 1 ≤ a .m = omega arith in
+    let start : 0 ≡ 0 * suc (a .n) = omega arith in
+    rw (isolines-are (a .m) (a .n))
+    (copies-wrote (2 * a .n) (a .m) (a .n + 1) (line (a .n)) (omega arith) (line-length 0 (a .n)) some (ap (λ (x : ℕ). lineWords x (a .n)) start)
+    (λ r l. line-copied (a .n) r (omega arith) (omega arith)) (line0 .ensures) (c .before .before .write-copies .ensures))
 
 pub write-isolines-spec : {M : Type 1} → statement M
 write-isolines-spec =
     tie.close
     (tie.spec
-    Inv-loop
-    μ-loop
-    loop-holds
+    returns
     write-line-requires
-    add-first
-    add-first-2
-    add-r
-    loop-less
-    loop-again
+    mul-words
+    add-write-copies
+    cast-write-copies
+    write-copies-requires
     same-length
-    returns)
+    returns-2)

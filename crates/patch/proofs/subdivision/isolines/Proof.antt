@@ -11,17 +11,30 @@ returns : tie.Need-returns
 unfolding subdivision
 returns c = rw (← c .before .discards2 .ensures, c .if1 .taken)
 
-segments-of-requires : tie.Need-segments-of-requires
-segments-of-requires c κs = search needs
+range-of-requires : tie.Need-range-of-requires
+range-of-requires c κs = search needs
 
-segments-of-requires-2 : tie.Need-segments-of-requires-2
-segments-of-requires-2 c κs = search needs
+range-of-requires-2 : tie.Need-range-of-requires-2
+range-of-requires-2 c κs = search needs
+
+segments-in-requires : tie.Need-segments-in-requires
+segments-in-requires c κs = search needs
+
+segments-in-requires-2 : tie.Need-segments-in-requires-2
+segments-in-requires-2 c κs = search needs
 
 returns-2 : tie.Need-returns-2
 unfolding subdivision
-returns-2 c = rw (← c .before .before .before .discards2 .ensures, c .before .before .if1 .left, ← c .before .segments-of .ensures .all, ← c .segments-of2 .ensures .all)
+returns-2 c = rw (← c .before .before .before .before .before .discards2 .ensures, c .before .before .before .before .if1 .left, ← c .before .segments-in .ensures .all, ← c .segments-in2 .ensures .all)
 
 pub isolines-spec : {M : Type 1} → statement M
 isolines-spec =
     tie.close
-    (tie.spec discards2-requires returns segments-of-requires segments-of-requires-2 returns-2)
+    (tie.spec
+    discards2-requires
+    returns
+    range-of-requires
+    range-of-requires-2
+    segments-in-requires
+    segments-in-requires-2
+    returns-2)

@@ -27,23 +27,26 @@ returns : tie.Need-returns
 unfolding subdivision
 returns c = rw (← c .before .discards4 .ensures, c .if1 .taken)
 
-segments-of-requires : tie.Need-segments-of-requires
-segments-of-requires c κs = search needs
+range-of-requires : tie.Need-range-of-requires
+range-of-requires c κs = search needs
 
-segments-of-requires-2 : tie.Need-segments-of-requires-2
-segments-of-requires-2 c κs = search needs
+segments-in-requires : tie.Need-segments-in-requires
+segments-in-requires c κs = search needs
 
-segments-of-requires-3 : tie.Need-segments-of-requires-3
-segments-of-requires-3 c κs = search needs
+segments-beside-requires : tie.Need-segments-beside-requires
+segments-beside-requires c κs = search needs
 
-segments-of-requires-4 : tie.Need-segments-of-requires-4
-segments-of-requires-4 c κs = search needs
+segments-beside-requires-2 : tie.Need-segments-beside-requires-2
+segments-beside-requires-2 c κs = search needs
 
-segments-of-requires-5 : tie.Need-segments-of-requires-5
-segments-of-requires-5 c κs = search needs
+segments-beside-requires-3 : tie.Need-segments-beside-requires-3
+segments-beside-requires-3 c κs = search needs
 
-segments-of-requires-6 : tie.Need-segments-of-requires-6
-segments-of-requires-6 c κs = search needs
+segments-beside-requires-4 : tie.Need-segments-beside-requires-4
+segments-beside-requires-4 c κs = search needs
+
+segments-beside-requires-5 : tie.Need-segments-beside-requires-5
+segments-beside-requires-5 c κs = search needs
 
 add-outline : tie.Need-add-outline
 add-outline c = search needs
@@ -69,9 +72,9 @@ returns-2 c =
     let e3 = e4 .before in
     let e2 = e3 .before in
     let e1 = e2 .before in
-    let a = e1 .before .before .before .args in
-    let sum = summed (e1 .segments-of .ensures) (e2 .segments-of2 .ensures) (e3 .segments-of3 .ensures) (e4 .segments-of4 .ensures) (e5 .segments-of5 .ensures) (e6 .segments-of6 .ensures) in
-    rw (← e1 .before .before .discards4 .ensures, e1 .before .if1 .left, every-one (count (a .spacing) (a .top)) (least (a .spacing) (a .top) (e1 .before .before .before .pre)) (a .outer0 ∷ a .outer1 ∷ a .outer2 ∷ a .outer3 ∷ a .inner0 ∷ a .inner1 ∷ []) (sum ∙ c .if2 .taken))
+    let a = e1 .before .before .before .before .args in
+    let sum = summed (e1 .segments-in .ensures) (e2 .segments-beside .ensures) (e3 .segments-beside2 .ensures) (e4 .segments-beside3 .ensures) (e5 .segments-beside4 .ensures) (e6 .segments-beside5 .ensures) in
+    rw (← e1 .before .before .before .discards4 .ensures, e1 .before .before .if1 .left, every-one (count (a .spacing) (a .top)) (least (a .spacing) (a .top) (e1 .before .before .before .before .pre)) (a .outer0 ∷ a .outer1 ∷ a .outer2 ∷ a .outer3 ∷ a .inner0 ∷ a .inner1 ∷ []) (sum ∙ c .if2 .taken))
 
 as-inner-requires : tie.Need-as-inner-requires
 as-inner-requires c κs = search needs
@@ -88,18 +91,18 @@ returns-3 c =
     let e3 = e4 .before in
     let e2 = e3 .before in
     let e1 = e2 .before in
-    let a = e1 .before .before .before .args in
-    let sum = summed (e1 .segments-of .ensures) (e2 .segments-of2 .ensures) (e3 .segments-of3 .ensures) (e4 .segments-of4 .ensures) (e5 .segments-of5 .ensures) (e6 .segments-of6 .ensures) in
+    let a = e1 .before .before .before .before .args in
+    let sum = summed (e1 .segments-in .ensures) (e2 .segments-beside .ensures) (e3 .segments-beside2 .ensures) (e4 .segments-beside3 .ensures) (e5 .segments-beside4 .ensures) (e6 .segments-beside5 .ensures) in
     rw (
-      ← e1 .before .before .discards4 .ensures,
-      e1 .before .if1 .left,
-      not-every-one (count (a .spacing) (a .top)) (least (a .spacing) (a .top) (e1 .before .before .before .pre)) (a .outer0 ∷ a .outer1 ∷ a .outer2 ∷ a .outer3 ∷ a .inner0 ∷ a .inner1 ∷ []) (λ e. c .before .before .if2 .left (sym sum ∙ e)),
-      ← e1 .segments-of .ensures .all,
-      ← e2 .segments-of2 .ensures .all,
-      ← e3 .segments-of3 .ensures .all,
-      ← e4 .segments-of4 .ensures .all,
-      ← e5 .segments-of5 .ensures .all,
-      ← e6 .segments-of6 .ensures .all,
+      ← e1 .before .before .before .discards4 .ensures,
+      e1 .before .before .if1 .left,
+      not-every-one (count (a .spacing) (a .top)) (least (a .spacing) (a .top) (e1 .before .before .before .before .pre)) (a .outer0 ∷ a .outer1 ∷ a .outer2 ∷ a .outer3 ∷ a .inner0 ∷ a .inner1 ∷ []) (λ e. c .before .before .if2 .left (sym sum ∙ e)),
+      ← e1 .segments-in .ensures .all,
+      ← e2 .segments-beside .ensures .all,
+      ← e3 .segments-beside2 .ensures .all,
+      ← e4 .segments-beside3 .ensures .all,
+      ← e5 .segments-beside4 .ensures .all,
+      ← e6 .segments-beside5 .ensures .all,
       ← c .before .as-inner .ensures,
       ← c .as-inner2 .ensures,
     )
@@ -110,12 +113,13 @@ quad-spec =
     (tie.spec
     discards4-requires
     returns
-    segments-of-requires
-    segments-of-requires-2
-    segments-of-requires-3
-    segments-of-requires-4
-    segments-of-requires-5
-    segments-of-requires-6
+    range-of-requires
+    segments-in-requires
+    segments-beside-requires
+    segments-beside-requires-2
+    segments-beside-requires-3
+    segments-beside-requires-4
+    segments-beside-requires-5
     add-outline
     add-outline-2
     add-outline-3

@@ -1,7 +1,7 @@
 -- Meets its contract. Assumes nothing.
 use borrow.Author.Needs.{needs}
 use native.Mathlib.Omega.{arith}
-use Prim.Native.Nat.{_+_, _-_}
+use Prim.Native.Nat.{ℕ, _+_, _-_}
 use mathlib.Core.Path.{_≡_, ap, _∙_}
 use Rattle.buffer.proofs.Laws.{Counting, count-start, count-fits, count-step, count-done}
 use Rattle.strip.specs.Triangles.{indices}
@@ -12,24 +12,20 @@ use Rattle.strip.proofs.alternate.write_pairs.Statement.{statement}
 use Rattle.strip.proofs.alternate.write_pairs.Tie as tie
 
 abbrev Inv-loop : tie.InvT-loop
-Inv-loop out₀ at outer inner a b n positive x₀ y₀ to₀ i₀ out x y to i =
+Inv-loop out₀ at outer inner a b n first second positive x₀ y₀ to₀ i₀ out x y to i =
     (x ≡ vertex outer (a + i)) × (y ≡ vertex inner (b + i)) × Counting (λ k. indices positive (pair (vertex outer) (vertex inner) (a + k) (b + k))) i n out to out₀ at
 
 abbrev μ-loop : tie.MeasureT-loop
-μ-loop out₀ at outer inner a b n positive x₀ y₀ to₀ i₀ out x y to i = n - i
-
-vertex-at-requires : tie.Need-vertex-at-requires Inv-loop μ-loop
-vertex-at-requires c κs = search needs
-
-vertex-at-requires-2 : tie.Need-vertex-at-requires-2 Inv-loop μ-loop
-vertex-at-requires-2 c κs = search needs
+μ-loop out₀ at outer inner a b n first second positive x₀ y₀ to₀ i₀ out x y to i = n - i
 
 loop-holds : tie.Need-loop-holds Inv-loop μ-loop
 unfolding pairWords
 loop-holds c =
-    let a = c .before .before .before .args in (
-      c .before .vertex-at .ensures ∙ ap (vertex (a .outer)) (omega arith),
-      c .vertex-at2 .ensures ∙ ap (vertex (a .inner)) (omega arith),
+    let a = c .before .args in
+    let x : a .a ≡ a .a + 0 = omega arith in
+    let y : a .b ≡ a .b + 0 = omega arith in (
+      c .before .pre .1 .1 .1 .0 .0 ∙ ap (vertex (a .outer)) x,
+      c .before .pre .1 .1 .1 .0 .1 ∙ ap (vertex (a .inner)) y,
       count-start (omega (arith, pairs-length (vertex (a .outer)) (vertex (a .inner)) (a .positive) (a .a) (a .b) (a .n))),
     )
 
@@ -47,7 +43,7 @@ next-requires-2 c κs = (omega arith, c .before .before .loop .inv .1)
 
 put-two-requires : tie.Need-put-two-requires Inv-loop μ-loop
 put-two-requires c κs =
-    let a = c .before .before .before .before .before .before .before .before .args in
+    let a = c .before .before .before .before .before .before .args in
     let l = c .before .before .before .before .loop in
     omega (arith, count-fits (omega arith) (l .inv .2), pair-length (vertex (a .outer)) (vertex (a .inner)) (a .positive) (a .a + l .i) (a .b + l .i))
 
@@ -59,7 +55,7 @@ loop-less c = search needs
 
 loop-again : tie.Need-loop-again Inv-loop μ-loop
 loop-again c =
-    let a = c .before .before .before .before .before .before .before .before .before .before .before .args in
+    let a = c .before .before .before .before .before .before .before .before .before .args in
     let l = c .before .before .before .before .before .before .before .loop in
     let u = c .before .before .before .before .before .next .ensures in
     let v = c .before .before .before .before .next2 .ensures in (
@@ -73,7 +69,15 @@ same-length c = search needs
 
 returns : tie.Need-returns Inv-loop μ-loop
 unfolding pairWords
-returns c = count-done (c .loop-test .left) (c .before .loop .inv .2)
+returns c =
+    let a = c .before .before .before .args in
+    let l = c .before .loop in
+    let e : l .i ≡ a .n = omega (arith, l .inv .2 .within) in
+    record {
+      wrote = count-done (c .loop-test .left) (l .inv .2);
+      outer = l .inv .0 ∙ ap (λ (k : ℕ). vertex (a .outer) (a .a + k)) e;
+      inner = l .inv .1 ∙ ap (λ (k : ℕ). vertex (a .inner) (a .b + k)) e;
+    }
 
 pub write-pairs-spec : {M : Type 1} → statement M
 write-pairs-spec =
@@ -81,8 +85,6 @@ write-pairs-spec =
     (tie.spec
     Inv-loop
     μ-loop
-    vertex-at-requires
-    vertex-at-requires-2
     loop-holds
     add-next
     next-requires

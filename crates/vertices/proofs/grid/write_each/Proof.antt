@@ -6,8 +6,8 @@ use lib.ListN.{length}
 use Rattle.buffer.proofs.Laws.{count-step}
 use Rattle.vertices.specs.Grids.{crossing}
 use Rattle.vertices.proofs.Loops.{Rows, rows-start, rows-fits, rows-done}
-use Rattle.vertices.proofs.grid.write_grid.Statement.{statement}
-use Rattle.vertices.proofs.grid.write_grid.Tie as tie
+use Rattle.vertices.proofs.grid.write_each.Statement.{statement}
+use Rattle.vertices.proofs.grid.write_each.Tie as tie
 
 abbrev Inv-loop : tie.InvT-loop
 Inv-loop out₀ at rows columns to₀ r₀ out to r = Rows (crossing rows columns) (length columns) r (length rows) out to out₀ at
@@ -48,8 +48,8 @@ returns c =
     let a = c .before .before .before .before .before .args in
     rows-done (crossing (a .rows .now) (a .columns .now)) (length (a .columns .now)) (c .loop-test .left) (c .before .loop .inv)
 
-pub write-grid-spec : {M : Type 1} → statement M
-write-grid-spec =
+pub write-each-spec : {M : Type 1} → statement M
+write-each-spec =
     tie.close
     (tie.spec
     Inv-loop

@@ -1,0 +1,91 @@
+-- Points as words, of which only the heights change.
+-- Assumes nothing.
+use Prim.Native.Nat.{ℕ, zero, suc, _+_, _*_, _≤_, _<_}
+use mathlib.Core.Path.{_≡_, refl, sym, ap, _∙_}
+use mathlib.Core.List.{List, [], _∷_, _++_, append-assoc}
+use native.Mathlib.Numerals.{add-one}
+use native.Mathlib.Omega.{arith}
+use lib.ListN.{length, take, drop, getD, set, length-append, length-take, length-drop}
+use lib.Seq.{drop-cons, take-add, take-at, take-length, set-at, paste, paste-zero, paste-suc}
+use Rattle.buffer.specs.Over.{over, Wrote}
+use Rattle.edge.specs.Table.{table}
+use Rattle.mesh.specs.declared.Point.{Point}
+use Rattle.mesh.specs.Words.{pointWords, vertexWords}
+use Rattle.vertices.specs.Rows.{places}
+use Rattle.vertices.specs.Grids.{rowPoints, raised}
+
+pub raised-length : (v : ℕ) (ws : List ℕ) → length (raised v ws) ≡ length ws
+unfolding raised
+raised-length v [] = refl
+raised-length v (a ∷ []) = refl
+raised-length v (a ∷ b ∷ []) = refl
+raised-length v (a ∷ b ∷ c ∷ ws) = ap (λ (n : ℕ). suc (suc (suc n))) (raised-length v ws)
+
+-- whole points, and more after them
+raised-append : (v i : ℕ) (ws zs : List ℕ) → length ws ≡ 3 * i → raised v (ws ++ zs) ≡ raised v ws ++ raised v zs
+unfolding raised
+raised-append v zero [] zs h = refl
+raised-append v zero (a ∷ ws) zs h = absurd (omega arith)
+raised-append v (suc i) [] zs h = absurd (omega arith)
+raised-append v (suc i) (a ∷ []) zs h = absurd (omega arith)
+raised-append v (suc i) (a ∷ b ∷ []) zs h = absurd (omega arith)
+raised-append v (suc i) (a ∷ b ∷ c ∷ ws) zs h = ap (λ (l : List ℕ). a ∷ v ∷ c ∷ l) (raised-append v i ws zs (omega arith))
+
+-- one point more
+pub raised-more : (v i : ℕ) (ws : List ℕ) → 3 * (i + 1) ≤ length ws
+    → set (raised v (take (3 * i) ws) ++ drop (3 * i) ws) (3 * i + 1) v ≡ raised v (take (3 * (i + 1)) ws) ++ drop (3 * (i + 1)) ws
+unfolding raised
+raised-more v i ws h =
+    let A = raised v (take (3 * i) ws) in
+    let a = getD ws (3 * i) 0 in
+    let b = getD ws (suc (3 * i)) 0 in
+    let c = getD ws (suc (suc (3 * i))) 0 in
+    let D = drop (suc (suc (suc (3 * i)))) ws in
+    let t : length (take (3 * i) ws) ≡ 3 * i = length-take (3 * i) ws ∙ omega arith in
+    let n : length (A ++ (a ∷ [])) ≡ 3 * i + 1 = length-append A (a ∷ []) ∙ omega (arith, raised-length v (take (3 * i) ws)) in
+    let next : drop (3 * i) ws ≡ a ∷ b ∷ c ∷ D =
+    rw (drop-cons ws (3 * i) 0 (omega arith), drop-cons ws (suc (3 * i)) 0 (omega arith), drop-cons ws (suc (suc (3 * i))) 0 (omega arith)) in
+    let here : set (A ++ drop (3 * i) ws) (3 * i + 1) v ≡ A ++ (a ∷ v ∷ c ∷ D) =
+    ap (λ (l : List ℕ). set l (3 * i + 1) v) (ap (λ (l : List ℕ). A ++ l) next ∙ sym (append-assoc A (a ∷ []) (b ∷ c ∷ D)))
+    ∙ set-at (A ++ (a ∷ [])) b (c ∷ D) v (3 * i + 1) n ∙ append-assoc A (a ∷ []) (v ∷ c ∷ D) in
+    let size : 3 * (i + 1) ≡ 3 * i + 3 = omega arith in
+    let three : take 3 (drop (3 * i) ws) ≡ a ∷ b ∷ c ∷ [] = ap (take 3) next in
+    let front : raised v (take (3 * (i + 1)) ws) ≡ A ++ (a ∷ v ∷ c ∷ []) =
+    ap (λ (k : ℕ). raised v (take k ws)) size ∙ ap (raised v) (take-add (3 * i) 3 ws ∙ ap (λ (l : List ℕ). take (3 * i) ws ++ l) three) ∙ raised-append v i (take (3 * i) ws) (a ∷ b ∷ c ∷ []) t in
+    let past : 3 * (i + 1) ≡ suc (suc (suc (3 * i))) = omega arith in
+    let back : drop (3 * (i + 1)) ws ≡ D = ap (λ (k : ℕ). drop k ws) past in
+    here ∙ sym (rw (front, back) (append-assoc A (a ∷ v ∷ c ∷ []) D))
+
+-- the words of points at one height, raised to another
+points-raised : (u : ℕ → ℕ) (x v n : ℕ) → raised v (vertexWords (table (λ c. record { u = u c; v = x; w = 0 }) n)) ≡ vertexWords (table (λ c. record { u = u c; v = v; w = 0 }) n)
+unfolding raised vertexWords table
+points-raised u x v zero = refl
+points-raised u x v (suc n) = ap (λ (l : List ℕ). u 0 ∷ v ∷ 0 ∷ l) (points-raised (λ c. u (suc c)) x v n)
+
+pub row-raised : (columns : List ℕ) (x v : ℕ) → raised v (vertexWords (rowPoints columns x)) ≡ vertexWords (rowPoints columns v)
+row-raised columns x v = points-raised (places columns) x v (length columns)
+
+-- ---- a row copied into a list
+pub copy-start : (xs : List ℕ) (at : ℕ) (row : List ℕ) → xs ≡ paste xs at row 0
+copy-start xs at row = paste-zero xs at row
+
+pub copy-more : (xs : List ℕ) (at : ℕ) (row : List ℕ) (i : ℕ) → at + length row ≤ length xs → i < length row → set (paste xs at row i) (at + i) (getD row i 0) ≡ paste xs at row (i + 1)
+copy-more xs at row i h l = paste-suc xs at row i 0 (omega arith) l ∙ ap (paste xs at row) (sym (add-one i))
+
+pub copy-done : {xs out row : List ℕ} {at i : ℕ} → length row ≤ i → i ≤ length row → out ≡ paste xs at row i → Wrote xs at row out (at + length row)
+unfolding over
+copy-done {xs} {out} {row} {at} {i} h l e =
+    let n : i ≡ length row = omega arith in
+    record {
+      is = e ∙ ap (paste xs at row) n ∙ ap (λ (m : List ℕ). take at xs ++ m ++ drop (at + length row) xs) (take-length row) ∙ append-assoc (take at xs) row (drop (at + length row) xs);
+      next = refl;
+    }
+
+-- ---- the front of a row that was raised
+pub raised-front : (v n : ℕ) (row : List ℕ) {row′ : List ℕ} → n ≤ length row → row′ ≡ raised v (take n row) ++ drop n row → take n row′ ≡ raised v (take n row)
+raised-front v n row h e =
+    let size : length (raised v (take n row)) ≡ n = raised-length v (take n row) ∙ length-take n row ∙ omega arith in
+    ap (take n) e ∙ take-at (raised v (take n row)) (drop n row) n size
+
+pub raised-size : (v n : ℕ) (row : List ℕ) {row′ : List ℕ} → n ≤ length row → row′ ≡ raised v (take n row) ++ drop n row → length row′ ≡ length row
+raised-size v n row h e = ap length e ∙ length-append (raised v (take n row)) (drop n row) ∙ omega (arith, raised-length v (take n row), length-take n row, length-drop n row)
