@@ -1,5 +1,5 @@
 // From standard input to standard output. Input is read some records at a time, and output is written many lines at a time.
-// A read that fails counts as the end of the input; after a write that fails nothing more is written.
+// A read that fails is no end of the job: it and a write that fails are told on standard error, and nothing more is written.
 ghost use mathlib.Core.Path.{_≡_};
 ghost use Prim.Native.Nat.{_*_, _≤_};
 ghost use lib.ListN.{length};
@@ -13,21 +13,42 @@ use crate::records::put_records;
 use job::header::read_header;
 use job::version::Version;
 use job::version::record_size;
-use libc::STDIN_FILENO;
-use libc::STDOUT_FILENO;
+use streams::Input;
+use streams::read_front;
 
 // The most bytes that are read at a time: 256 records of the longest version.
 const CHUNK: usize = 7680;
 
-// Answers the header, and says what is to be read after it.
+// Reads up to `size` bytes to the front of `bytes`, and tells a read that fails.
+fn read_or_tell(bytes: &mut [u8], size: usize) -> Input
+    requires { ⌜ size ≤ length (now bytes) ⌝ }
+    ensures { λ r. ⌜ Counts (r .count) (now (bytes .exit)) ⌝ }
+{
+    let input = read_front(&mut bytes[..size]);
+    if input.failed {
+        streams::tell(b"tsj: standard input could not be read\n");
+    }
+    input
+}
+
+// Writes all of `bytes`, or tells that it could not.
+fn write_or_tell(bytes: &[u8]) -> bool {
+    streams::write_or_tell(bytes, b"tsj: standard output could not be written\n")
+}
+
+// Answers the header, and says what is to be read after it: nothing, where reading or writing failed.
 fn answer_header(out: &mut [u8]) -> Rest
     requires { ⌜ room ≤ length (now out) ⌝ }
 {
     let mut bytes = [0u8; 5];
-    let n = io::read_full(STDIN_FILENO, &mut bytes);
+    let input = read_or_tell(&mut bytes, 5);
+    if input.failed {
+        return Rest::Nothing;
+    }
+    let n = input.count;
     let header = read_header(&bytes[..n]);
     let written = put_header(out, header);
-    if io::write_all(STDOUT_FILENO, &out[..written]) {
+    if write_or_tell(&out[..written]) {
         rest_of(header)
     } else {
         Rest::Nothing
@@ -48,7 +69,7 @@ fn answer_records(
     while at < bytes.len() {
         let progress = put_records(out, bytes, version, at, vertices, indices);
         let written = progress.written;
-        if !io::write_all(STDOUT_FILENO, &out[..written]) {
+        if !write_or_tell(&out[..written]) {
             return false;
         }
         at = progress.next;
@@ -63,21 +84,17 @@ fn chunk_size(version: Version) -> usize
     record_size(version) * 256
 }
 
-// Reads up to `size` bytes to the front of `bytes`, and says how many there were.
-fn read_front(bytes: &mut [u8], size: usize) -> usize
-    requires { ⌜ size ≤ length (now bytes) ⌝ }
-    ensures { λ r. ⌜ Counts r (now (bytes .exit)) ⌝ }
-{
-    io::read_full(STDIN_FILENO, &mut bytes[..size])
-}
-
 // Reads records and answers them, and says whether to go on: fewer bytes than asked for are the last.
 fn answer_chunk(out: &mut [u8], version: Version, vertices: &mut [u32], indices: &mut [u16]) -> bool
     requires { ⌜ FullSize (length (now vertices)) (length (now indices)) ⌝ ∗ ⌜ room ≤ length (now out) ⌝ }
 {
     let mut bytes = [0u8; CHUNK];
     let size = chunk_size(version);
-    let n = read_front(&mut bytes, size);
+    let input = read_or_tell(&mut bytes, size);
+    if input.failed {
+        return false;
+    }
+    let n = input.count;
     if answer_records(out, &bytes[..n], version, vertices, indices) {
         n == size
     } else {

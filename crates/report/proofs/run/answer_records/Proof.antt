@@ -20,14 +20,14 @@ loop-holds c = search needs
 put-records-requires : tie.Need-put-records-requires Inv-loop μ-loop
 put-records-requires c κs = search needs
 
-slice-reshare-prefix-write-all : tie.Need-slice-reshare-prefix-write-all Inv-loop μ-loop
-slice-reshare-prefix-write-all c = search needs
+slice-reshare-prefix-write-or-tell : tie.Need-slice-reshare-prefix-write-or-tell Inv-loop μ-loop
+slice-reshare-prefix-write-or-tell c = search needs
 
-slice-aggregate-write-all : tie.Need-slice-aggregate-write-all Inv-loop μ-loop
-slice-aggregate-write-all c = front _ _ (c .before .before .before .before .before .before .before .put-records .ensures .fits)
+slice-aggregate-write-or-tell : tie.Need-slice-aggregate-write-or-tell Inv-loop μ-loop
+slice-aggregate-write-or-tell c = front _ _ (c .before .before .before .before .before .before .before .put-records .ensures .fits)
 
-write-all-requires : tie.Need-write-all-requires Inv-loop μ-loop
-write-all-requires c κs = search needs
+write-or-tell-requires : tie.Need-write-or-tell-requires Inv-loop μ-loop
+write-or-tell-requires c κs = search needs
 
 same-length : tie.Need-same-length Inv-loop μ-loop
 same-length c = search needs
@@ -67,9 +67,9 @@ answer-records-spec =
     μ-loop
     loop-holds
     put-records-requires
-    slice-reshare-prefix-write-all
-    slice-aggregate-write-all
-    write-all-requires
+    slice-reshare-prefix-write-or-tell
+    slice-aggregate-write-or-tell
+    write-or-tell-requires
     same-length
     same-length-2
     same-length-3
