@@ -31,7 +31,11 @@ from .answers import (
     NoRoomForVertices,
     PointsDrawn,
 )
+from .check import Accepted, Fault, check_mesh
+from .compare import Compared, Difference, LeftRefused, MeshFault, RightRefused, Side, What, compare_meshes
 from .draw import INDEX_WORDS, VERTEX_WORDS, draw_indices, draw_points, measure, mesh
+from .floats import FloatsDrawn, NoRoomForFloats, draw_with_floats
+from .job import BadTopInRecord, CutRecord, Job, JobWritten, NotAJob, Record, UnknownSetting, UnknownVersion, Version, read_job, write_job
 from .library import LibraryMismatch, LibraryNotFound
 from .patch import (
     GREATEST_TOP,
@@ -45,3 +49,5 @@ from .patch import (
     Triangles,
     VertexOrder,
 )
+from .recording import AllAgree, CutEntry, Differs, NotARecording, Outcome, replay
+from .shared import BadState, Cleared, Designer, PartDrawn, Quota, QuotasTooLarge, Shared, TooManyPoints
