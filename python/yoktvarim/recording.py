@@ -35,7 +35,7 @@ class Outcome:
 class Differs(Answer):
     """The first entry that differs, counted from 0, with both sides."""
 
-    number = 40
+    number = 60
     entry: int
     recorded: Outcome
     replayed: Outcome
