@@ -1,3 +1,2 @@
 -- The laws of rings.
 mod Rings
-mod Rounds

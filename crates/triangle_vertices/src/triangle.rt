@@ -3,12 +3,12 @@ ghost use Prim.Native.Nat.{_+_, _*_, _≤_, _<_};
 ghost use mathlib.Core.Path.{_≡_};
 ghost use mathlib.Core.List.{[], _∷_};
 ghost use lib.ListN.{length};
-ghost use Rattle.buffer.specs.Over.{over, Wrote};
+ghost use Rattle.buffer.specs.Over.{Wrote};
 ghost use Rattle.level.specs.Segments.{Valid};
 ghost use Rattle.mesh.specs.Edge.{ring};
 ghost use Rattle.mesh.specs.TrianglePoints.{trianglePlace, trianglePatch, triangleCorners};
 ghost use Rattle.mesh.specs.Segmented.{run};
-ghost use Rattle.mesh.specs.Words.{pointWords, vertexWords};
+ghost use Rattle.mesh.specs.Words.{vertexWords};
 ghost use Rattle.vertices.specs.Rows.{places, listed, whole, Clear, GoodRow, AllValid, AllStored};
 ghost use Rattle.vertices.specs.Edges.{edgePoints};
 ghost use Rattle.triangle_vertices.specs.Rings.{ringPoints, ringsOf, Inward};
@@ -43,34 +43,16 @@ fn write_outline(out: &mut [u32], at: usize, e0: &[u32], e1: &[u32], e2: &[u32])
     write_edge(out, w, e2, 0, 196608, 2)
 }
 
-// The points at the place x of all three edges of the ring `depth` units in, n words apart.
-fn write_round(out: &mut [u32], at: usize, n: usize, x: u32, depth: u32, high: u32)
-    requires { ⌜ (depth ≤ x) × (x + depth ≤ 65536) × (high + depth ≡ 196608) ⌝ ∗ ⌜ 3 ≤ n ⌝ ∗ ⌜ at + n + n + 3 ≤ length (now out) ⌝ }
-    ensures { λ r. ⌜ now (out .exit) ≡ over (over (over (now (out .entry)) at (pointWords (trianglePlace 0 x depth))) (at + n) (pointWords (trianglePlace 1 x depth))) (at + n + n) (pointWords (trianglePlace 2 x depth)) ⌝ }
-{
-    let p = triangle_place(0, x, depth, high);
-    let q = triangle_place(1, x, depth, high);
-    let r = triangle_place(2, x, depth, high);
-    buffer::put3_u32(out, at, p.u, p.v, p.w);
-    buffer::put3_u32(out, at + n, q.u, q.v, q.w);
-    buffer::put3_u32(out, at + n + n, r.u, r.v, r.w);
-}
-
-// A ring of the inside, each edge without its end; the first place is its depth. Its edges have the same places, and are
-// written together.
+// A ring of the inside, each edge without its end; the first place is its depth.
 fn write_ring(out: &mut [u32], at: usize, row: &[u32]) -> usize
     requires { ⌜ 0 < length (now row) ⌝ ∗ ⌜ Clear (places (now row) 0) (listed (now row)) ⌝ ∗ ⌜ at + 3 * length (ringPoints (now row)) ≤ length (now out) ⌝ }
     ensures { λ w. ⌜ Wrote (now (out .entry)) at (vertexWords (ringPoints (now (row .entry)))) (now (out .exit)) w ⌝ }
 {
     let depth = row[0];
     let high = 196608 - depth;
-    let n = 3 * row.len();
-    let mut i = 0usize;
-    while i < row.len() {
-        write_round(out, at + 3 * i, n, row[i], depth, high);
-        i += 1;
-    }
-    at + n + n + n
+    let w = write_edge(out, at, row, depth, high, 0);
+    let w = write_edge(out, w, row, depth, high, 1);
+    write_edge(out, w, row, depth, high, 2)
 }
 
 // A ring and all rings inside it. The next ring has the places but for the first and the last; the last ring is one of three
