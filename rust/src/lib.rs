@@ -20,13 +20,13 @@
 //! The top of the settings says how finely a patch can be cut at most: an even number from 2 to 64. Any other number is
 //! answered with `BadTop`, before everything else.
 
-pub mod check;
 pub mod answers;
+pub mod check;
 mod clamps;
 pub mod compare;
 mod draw;
-pub mod job;
 pub mod floats;
+pub mod job;
 mod measure;
 mod mesh;
 mod patch;
