@@ -1,5 +1,6 @@
 //! Speed of drawing: `bench` prints times as ratios, `bench draw CASE TIMES` draws one case for an instruction counter. A draw
 //! is both calls, that for points and that for indices; `bench floats CASE TIMES` draws by the one call with floats.
+//! `bench check CASE TIMES` draws once and checks that mesh, and `bench shuffled CASE TIMES` the same with its triangles shuffled.
 
 mod cases;
 mod proved;
@@ -105,6 +106,31 @@ fn repeat(call: impl Fn(&Case, &mut Lists) -> (usize, usize), case: &str, times:
     }
 }
 
+/// Puts the triangles into another order, the same in every run.
+fn shuffle(indices: &mut [u16]) {
+    let mut state = 1u64;
+    for last in (1..indices.len() / 3).rev() {
+        state = state
+            .wrapping_mul(6_364_136_223_846_793_005)
+            .wrapping_add(1);
+        let other = (state >> 33) as usize % (last + 1);
+        (0..3).for_each(|corner| indices.swap(3 * last + corner, 3 * other + corner));
+    }
+}
+
+/// Draws case number `case` once and checks the mesh so many times.
+fn repeat_check(case: &str, times: &str, shuffled: bool) {
+    let case = &CASES[case.parse::<usize>().expect("a case")];
+    let mut lists = Lists::new();
+    let (points, indices) = proved::draw(case, &mut lists);
+    if shuffled {
+        shuffle(&mut lists.indices[..indices]);
+    }
+    for _ in 0..times.parse().expect("a number") {
+        proved::check(case, black_box(&lists), points, indices);
+    }
+}
+
 /// The cases' names with the instructions that are the goal and the floats of a draw, for the script that counts.
 fn list() {
     let mut lists = Lists::new();
@@ -128,6 +154,8 @@ fn main() {
         ["list"] => list(),
         ["draw", case, times] => repeat(proved::draw, case, times),
         ["floats", case, times] => repeat(proved::draw_with_floats, case, times),
-        _ => panic!("usage: bench | bench list | bench draw CASE TIMES | bench floats CASE TIMES"),
+        ["check", case, times] => repeat_check(case, times, false),
+        ["shuffled", case, times] => repeat_check(case, times, true),
+        _ => panic!("usage: bench | bench list | bench draw|floats|check|shuffled CASE TIMES"),
     }
 }

@@ -30,6 +30,16 @@ extern "C" {
         floats_length: usize,
         counts: *mut u32,
     ) -> u32;
+
+    fn yoktvarim_check_mesh(
+        settings: *const u8,
+        levels: *const f32,
+        points: *const u32,
+        points_length: usize,
+        indices: *const u16,
+        indices_length: usize,
+        places: *mut u64,
+    ) -> u32;
 }
 
 /// Full-size lists, cleared once.
@@ -103,4 +113,21 @@ pub fn draw_with_floats(case: &Case, lists: &mut Lists) -> (usize, usize) {
     };
     assert_eq!(answer, 0, "{} is drawn with floats", case.name);
     (counts[0] as usize, counts[1] as usize)
+}
+
+/// Checks the first points and indices of the lists as a mesh of a case; it is accepted.
+pub fn check(case: &Case, lists: &Lists, points: usize, indices: usize) {
+    let mut places = [0; 2];
+    let answer = unsafe {
+        yoktvarim_check_mesh(
+            case.settings.as_ptr(),
+            case.levels.as_ptr(),
+            lists.vertices.as_ptr(),
+            3 * points,
+            lists.indices.as_ptr(),
+            indices,
+            places.as_mut_ptr(),
+        )
+    };
+    assert_eq!(answer, 0, "the mesh of {} is accepted", case.name);
 }

@@ -143,6 +143,72 @@ fn the_largest_mesh_is_accepted() {
     );
 }
 
+/// The mesh of a quad patch with one level, with so many triangles split in three by a point inside, and unused points up to `points`.
+fn refined(level: f32, splits: usize, points: usize) -> DamagedMesh {
+    let patch = reference::Patch::Quads {
+        outer: [level; 4],
+        inner: [level; 2],
+    };
+    let settings = reference::Settings {
+        spacing: reference::Spacing::Equal,
+        vertex_order: reference::VertexOrder::CounterClockwise,
+        domain_origin: reference::DomainOrigin::LowerLeft,
+        point_mode: false,
+        top: 64,
+    };
+    let drawn = mesh(&patch_here(&patch), &settings_here(&settings))
+        .expect("a good top")
+        .expect("not discarded");
+    let (mut corners, mut indices) = (drawn.points, drawn.indices);
+    for triangle in 0..splits {
+        let [a, b, c] = [0, 1, 2].map(|corner| indices[3 * triangle + corner]);
+        let [p, q, r] = [a, b, c].map(|index| corners[usize::from(index)]);
+        let middle = corners.len() as u16;
+        corners.push([0, 1, 2].map(|axis| (p[axis] + q[axis] + r[axis]) / 3));
+        indices[3 * triangle + 2] = middle;
+        indices.extend([b, c, middle, c, a, middle]);
+    }
+    for number in corners.len()..points {
+        corners.push([2 * number as u32 + 1, 3, 0]);
+    }
+    DamagedMesh {
+        patch,
+        settings,
+        points: corners.concat(),
+        indices,
+    }
+}
+
+/// Meshes as large as the tables of sides are made for, and larger ones: whole, with a triangle missing and with one repeated.
+#[test]
+fn meshes_around_the_sizes_of_the_tables() {
+    for (level, splits, points) in [
+        (4.0, 15, 0),
+        (4.0, 16, 64),
+        (4.0, 16, 65),
+        (4.0, 17, 0),
+        (64.0, 0, 8_192),
+        (64.0, 0, 8_193),
+        (64.0, 1, 0),
+    ] {
+        let mesh = refined(level, splits, points);
+        assert_eq!(
+            compare(&mesh),
+            Verdict::Accepted,
+            "{level} {splits} {points}"
+        );
+        for triangle in [0, mesh.indices.len() / 6, mesh.indices.len() / 3 - 1] {
+            let (start, end) = (3 * triangle, 3 * triangle + 3);
+            let mut open = mesh.clone();
+            open.indices.drain(start..end);
+            assert_ne!(compare(&open), Verdict::Accepted);
+            let mut twice = mesh.clone();
+            twice.indices.extend_from_within(start..end);
+            assert_eq!(name(compare(&twice)), "SideTwice");
+        }
+    }
+}
+
 /// Lists of every short length, with words around every limit, and long ones of a single word.
 #[test]
 fn lists_of_any_length_and_content() {

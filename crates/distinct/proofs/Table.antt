@@ -29,22 +29,22 @@ test-false : (b : Bool) → (b ≡ true → ⊥) → b ≡ false
 test-false true h = absurd (h refl)
 test-false false h = refl
 
-pub clear-new : (ps : List Point) (j mark : ℕ) (p : Point) → p ≡ at ps j → Names ps j (slotOf p) mark → Clear ps mark p → repeats ps j ≡ false
-clear-new ps j mark p e n c = rw (← e) (some-none (λ i. samePoint (at ps i) p) j
-    (λ i l. test-false (samePoint (at ps i) p) (λ h. named-no ps mark i p c (n .each i l (ap slotOf (same-is (at ps i) p h))) h)))
+pub clear-new : (ps : List Point) (n j mark : ℕ) (p : Point) → p ≡ at ps j → Names ps n j (slotOf n p) mark → Clear ps mark p → repeats ps j ≡ false
+clear-new ps n j mark p e h c = rw (← e) (some-none (λ i. samePoint (at ps i) p) j
+    (λ i l. test-false (samePoint (at ps i) p) (λ t. named-no ps mark i p c (h .each i l (ap (slotOf n) (same-is (at ps i) p t))) t)))
 
 -- the mark of a slot in the table
-pub marks-name : (ps : List Point) (j s : ℕ) (ms : List ℕ) → Marks ps j ms → Names ps j s (getD ms s 0)
-marks-name ps j s ms h = record {
+pub marks-name : (ps : List Point) (n j s : ℕ) (ms : List ℕ) → Marks ps n j ms → Names ps n j s (getD ms s 0)
+marks-name ps n j s ms h = record {
   each = λ i l e. ap-slot i (h .each i l) e;
 }
   where
-    ap-slot : (i : ℕ) → (getD ms (slotOf (at ps i)) 0 ≡ i + 1) ⊎ (getD ms (slotOf (at ps i)) 0 ≡ 65535) → slotOf (at ps i) ≡ s
+    ap-slot : (i : ℕ) → (getD ms (slotOf n (at ps i)) 0 ≡ i + 1) ⊎ (getD ms (slotOf n (at ps i)) 0 ≡ 65535) → slotOf n (at ps i) ≡ s
         → (getD ms s 0 ≡ i + 1) ⊎ (getD ms s 0 ≡ 65535)
     ap-slot i h e = rw (← e) h
 
-pub marks-none : (ps : List Point) (ms : List ℕ) → Marks ps 0 ms
-marks-none ps ms = record { each = λ i l. absurd (omega arith) }
+pub marks-none : (ps : List Point) (n : ℕ) (ms : List ℕ) → Marks ps n 0 ms
+marks-none ps n ms = record { each = λ i l. absurd (omega arith) }
 
 equal-or : (x y : ℕ) → (x ≡ y) ⊎ (x ≡ y → ⊥)
 equal-or x y = elim (decLe x y) [
@@ -53,7 +53,7 @@ equal-or x y = elim (decLe x y) [
 ]
 
 -- the table after one point more
-module _ (ps : List Point) (j s r : ℕ) (ms : List ℕ) (h : Marks ps j ms) (m : Marked (getD ms s 0) j r) (e : s ≡ slotOf (at ps j)) (l : s < length ms) where
+module _ (ps : List Point) (n j s r : ℕ) (ms : List ℕ) (h : Marks ps n j ms) (m : Marked (getD ms s 0) j r) (e : s ≡ slotOf n (at ps j)) (l : s < length ms) where
   last : (r ≡ 65535) ⊎ ((getD ms s 0 ≡ 0) × (r ≡ j + 1)) → (r ≡ j + 1) ⊎ (r ≡ 65535)
   last (inl k) = inr k
   last (inr k) = inl (k .1)
@@ -63,15 +63,15 @@ module _ (ps : List Point) (j s r : ℕ) (ms : List ℕ) (h : Marks ps j ms) (m 
   kept i (inr k) (inl o) = absurd (omega (arith, k .0))
   kept i (inr k) (inr o) = absurd (omega (arith, k .0))
 
-  one : (i : ℕ) → i < j + 1 → (slotOf (at ps i) ≡ s) ⊎ (slotOf (at ps i) ≡ s → ⊥) → (getD (set ms s r) (slotOf (at ps i)) 0 ≡ i + 1) ⊎ (getD (set ms s r) (slotOf (at ps i)) 0 ≡ 65535)
-  one i n (inl q) = rw (q, getD-set-same ms s r 0 l) (elim (decLe j i) [
+  one : (i : ℕ) → i < j + 1 → (slotOf n (at ps i) ≡ s) ⊎ (slotOf n (at ps i) ≡ s → ⊥) → (getD (set ms s r) (slotOf n (at ps i)) 0 ≡ i + 1) ⊎ (getD (set ms s r) (slotOf n (at ps i)) 0 ≡ 65535)
+  one i b (inl q) = rw (q, getD-set-same ms s r 0 l) (elim (decLe j i) [
     | yes p ↦ (let d : i ≡ j = omega arith in rw d (last m))
     | no p ↦ kept i m (rw q at (h .each i (omega arith)))
   ])
-  one i n (inr q) = rw (getD-set-other ms s (slotOf (at ps i)) r 0 q) (elim (decLe j i) [
-    | yes p ↦ (let d : i ≡ j = omega arith in absurd (q (ap (λ (k : ℕ). slotOf (at ps k)) d ∙ sym e)))
+  one i b (inr q) = rw (getD-set-other ms s (slotOf n (at ps i)) r 0 q) (elim (decLe j i) [
+    | yes p ↦ (let d : i ≡ j = omega arith in absurd (q (ap (λ (k : ℕ). slotOf n (at ps k)) d ∙ sym e)))
     | no p ↦ h .each i (omega arith)
   ])
 
-  pub marks-more : Marks ps (j + 1) (set ms s r)
-  marks-more = record { each = λ i n. one i n (equal-or (slotOf (at ps i)) s) }
+  pub marks-more : Marks ps n (j + 1) (set ms s r)
+  marks-more = record { each = λ i b. one i b (equal-or (slotOf n (at ps i)) s) }

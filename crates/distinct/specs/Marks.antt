@@ -10,17 +10,17 @@ use Rattle.mesh.specs.declared.Point.{Point}
 use Rattle.mesh.specs.Faces.{at}
 use Rattle.searches.specs.Points.{samePoint}
 
--- the slot of a point: few points of a tessellated patch have the same one
-unfoldable pub slotOf : Point → ℕ
-slotOf p = (p .u + 65 * p .v + 4225 * p .w) % 16381
+-- the slot of a point, of n: few points of a tessellated patch have the same one
+unfoldable pub slotOf : ℕ → Point → ℕ
+slotOf n p = (p .u + 65 * p .v + 4225 * p .w) % n
 
--- the mark of slot s after the first j points: every point that has the slot is the one named, or there are several
-pub record Names (ps : List Point) (j s mark : ℕ) : Type 0 where
-  pub each : (i : ℕ) → i < j → slotOf (at ps i) ≡ s → (mark ≡ i + 1) ⊎ (mark ≡ 65535)
+-- the mark of slot s, of n, after the first j points: every point that has the slot is the one named, or there are several
+pub record Names (ps : List Point) (n j s mark : ℕ) : Type 0 where
+  pub each : (i : ℕ) → i < j → slotOf n (at ps i) ≡ s → (mark ≡ i + 1) ⊎ (mark ≡ 65535)
 
--- the marks after the first j points
-pub record Marks (ps : List Point) (j : ℕ) (ms : List ℕ) : Type 0 where
-  pub each : (i : ℕ) → i < j → (getD ms (slotOf (at ps i)) 0 ≡ i + 1) ⊎ (getD ms (slotOf (at ps i)) 0 ≡ 65535)
+-- the marks of n slots after the first j points
+pub record Marks (ps : List Point) (n j : ℕ) (ms : List ℕ) : Type 0 where
+  pub each : (i : ℕ) → i < j → (getD ms (slotOf n (at ps i)) 0 ≡ i + 1) ⊎ (getD ms (slotOf n (at ps i)) 0 ≡ 65535)
 
 -- a mark that names no point at p
 abbrev pub Clear : List Point → ℕ → Point → Type 0

@@ -9,10 +9,12 @@ use mesh::Point;
 use searches::point::point_at;
 use searches::point::same_point;
 
-pub(crate) fn slot_of(p: Point) -> usize
-    ensures { λ r. ⌜ r ≡ slotOf p ⌝ ∗ ⌜ r < 16381 ⌝ }
+// The slot of a point, of so many.
+pub(crate) fn slot_of(p: Point, slots: usize) -> usize
+    requires { ⌜ 0 < slots ⌝ }
+    ensures { λ r. ⌜ r ≡ slotOf slots p ⌝ ∗ ⌜ r < slots ⌝ }
 {
-    ((p.u as u64 + 65 * (p.v as u64) + 4225 * (p.w as u64)) % 16381) as usize
+    ((p.u as u64 + 65 * (p.v as u64) + 4225 * (p.w as u64)) % (slots as u64)) as usize
 }
 
 // Whether a mark tells that no earlier point lies at p. It may be false where none does.

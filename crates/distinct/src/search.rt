@@ -13,9 +13,9 @@ use mesh::Point;
 use searches::point::first_equal;
 use searches::point::point_at;
 
-// Whether point number j, which lies at p, lies where an earlier one lies; the mark is that of its slot.
-fn repeats_earlier(points: &[u32], j: usize, p: Point, mark: u16) -> bool
-    requires { ⌜ j < length (now points) / 3 ⌝ ∗ ⌜ p ≡ at (readPoints (now points)) j ⌝ ∗ ⌜ Names (readPoints (now points)) j (slotOf p) mark ⌝ }
+// Whether point number j, which lies at p, lies where an earlier one lies; the mark is that of its slot, of so many.
+fn repeats_earlier(points: &[u32], j: usize, p: Point, slots: usize, mark: u16) -> bool
+    requires { ⌜ j < length (now points) / 3 ⌝ ∗ ⌜ p ≡ at (readPoints (now points)) j ⌝ ∗ ⌜ Names (readPoints (now points)) slots j (slotOf slots p) mark ⌝ }
     ensures { λ r. ⌜ r ≡ repeats (readPoints (now (points .entry))) j ⌝ }
 {
     if is_clear(points, mark, p) {
@@ -24,18 +24,19 @@ fn repeats_earlier(points: &[u32], j: usize, p: Point, mark: u16) -> bool
     first_equal(points, p, j) < j
 }
 
-// The first point that lies where an earlier one lies, or the number of points.
-fn by_table(points: &[u32]) -> usize
+// The first point that lies where an earlier one lies, or the number of points, with a table that is lent for it.
+fn by_table(points: &[u32], marks: &mut [u16]) -> usize
+    requires { ⌜ 0 < length (now marks) ⌝ }
     ensures { λ r. ⌜ r ≡ firstRepeated (readPoints (now (points .entry))) ⌝ }
 {
     let count = points.len() / 3;
-    let mut marks = [0u16; 16381];
+    let slots = marks.len();
     let mut j = 0;
     while j < count {
         let p = point_at(points, j);
-        let s = slot_of(p);
+        let s = slot_of(p, slots);
         let mark = marks[s];
-        if repeats_earlier(points, j, p, mark) {
+        if repeats_earlier(points, j, p, slots, mark) {
             return j;
         }
         marks[s] = mark_after(mark, j);
@@ -44,12 +45,31 @@ fn by_table(points: &[u32]) -> usize
     j
 }
 
+// With a table for up to 64 points.
+fn by_small_table(points: &[u32]) -> usize
+    ensures { λ r. ⌜ r ≡ firstRepeated (readPoints (now (points .entry))) ⌝ }
+{
+    let mut marks = [0u16; 251];
+    by_table(points, &mut marks)
+}
+
+// With a table for some thousands.
+fn by_large_table(points: &[u32]) -> usize
+    ensures { λ r. ⌜ r ≡ firstRepeated (readPoints (now (points .entry))) ⌝ }
+{
+    let mut marks = [0u16; 16381];
+    by_table(points, &mut marks)
+}
+
 // The same; a table for few points would cost more than it saves.
 pub fn first_repeated(points: &[u32]) -> usize
     ensures { λ r. ⌜ r ≡ firstRepeated (readPoints (now (points .entry))) ⌝ }
 {
-    if points.len() < 100 {
+    if points.len() < 36 {
         return searches::point::first_repeated(points);
     }
-    by_table(points)
+    if points.len() <= 192 {
+        return by_small_table(points);
+    }
+    by_large_table(points)
 }

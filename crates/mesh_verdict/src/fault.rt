@@ -25,7 +25,8 @@ fn outline_fault(outline: &[u32], points: &[u32], indices: &[u16], positive: boo
     Verdict::Accepted
 }
 
-// The faults of triangles before those.
+// The faults of triangles before those. A mesh without any is known by its table of sides; only another one is searched for its first
+// fault.
 fn side_fault(outline: &[u32], points: &[u32], indices: &[u16], positive: bool) -> Verdict
     requires { ⌜ AllNumbered (length (readPoints (now points))) (now indices) ⌝ ∗ ⌜ AllSmall (readPoints (now points)) ⌝ }
     ensures { λ r. ⌜ r ≡ sideFault positive (readPoints (now (outline .entry))) (readPoints (now (points .entry))) (readTriangles (now (indices .entry))) ⌝ }
@@ -34,6 +35,9 @@ fn side_fault(outline: &[u32], points: &[u32], indices: &[u16], positive: bool) 
     let triangle = mesh_faults::area::first_turned(points, indices, positive);
     if triangle < count {
         return Verdict::Turned { triangle };
+    }
+    if closed::closing::is_closed(outline, points, indices, positive) {
+        return Verdict::Accepted;
     }
     let reused = searches::pair::first_reused(indices);
     if reused < count {
@@ -62,7 +66,7 @@ fn point_fault(
     if point < count {
         return Verdict::Outside { point };
     }
-    let repeated = searches::point::first_repeated(points);
+    let repeated = distinct::search::first_repeated(points);
     if repeated < count {
         let q = searches::point::point_at(points, repeated);
         return Verdict::EqualPoints {

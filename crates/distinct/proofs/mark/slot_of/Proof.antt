@@ -1,5 +1,5 @@
 -- Meets its contract. Assumes nothing.
-use native.Mathlib.Omega.{arith}
+use native.Mathlib.Nat.{mod-lt}
 use mathlib.Core.Path.{refl}
 use Rattle.distinct.specs.Marks.{slotOf}
 use borrow.Author.Needs.{needs}
@@ -29,9 +29,12 @@ mul-result-2 c = search needs
 add-result-2 : tie.Need-add-result-2
 add-result-2 c = search needs
 
+rem-result : tie.Need-rem-result
+rem-result c = search needs
+
 returns : tie.Need-returns
 unfolding slotOf
-returns c = (refl, omega arith)
+returns c = (refl, mod-lt _ (c .before .before .before .pre))
 
 pub slot-of-spec : {M : Type 1} → statement M
 slot-of-spec =
@@ -44,4 +47,5 @@ slot-of-spec =
     cast-result-3
     mul-result-2
     add-result-2
+    rem-result
     returns)

@@ -20,13 +20,13 @@ use Rattle.distinct.proofs.search.repeats_earlier.Reads as repeats-earl
 use Rattle.searches.proofs.point.point_at.Reads as point-at-reads
 
 abbrev Inv-loop : tie.InvT-loop
-Inv-loop points count marks₀ j₀ marks j = (j ≤ count) × Below (repeats (readPoints points)) j × Marks (readPoints points) j marks × (length marks ≡ 16381)
+Inv-loop points marks₀ count slots j₀ marks j = (j ≤ count) × Below (repeats (readPoints points)) j × Marks (readPoints points) slots j marks × (length marks ≡ slots)
 
 abbrev μ-loop : tie.MeasureT-loop
-μ-loop points count marks₀ j₀ marks j = count - j
+μ-loop points marks₀ count slots j₀ marks j = count - j
 
 loop-holds : tie.Need-loop-holds Inv-loop μ-loop
-loop-holds c = (omega arith, below-zero _, marks-none _ _, refl)
+loop-holds c = (omega arith, below-zero _, marks-none _ _ _, refl)
 
 point-at-requires : tie.Need-point-at-requires Inv-loop μ-loop
 point-at-requires c κs = search needs
@@ -37,20 +37,24 @@ slot-of-requires c κs = search needs
 mul-mark : tie.Need-mul-mark Inv-loop μ-loop
 mul-mark c = search needs
 
-array-read-mark : tie.Need-array-read-mark Inv-loop μ-loop
-array-read-mark c = search needs
+slice-read-mark : tie.Need-slice-read-mark Inv-loop μ-loop
+slice-read-mark c = search needs
 
 repeats-earlier-requires : tie.Need-repeats-earlier-requires Inv-loop μ-loop
 repeats-earlier-requires c κs =
-    let l = c .before .before .before .loop in
-    let ps = readPoints (c .before .before .before .before .before .args .points .now) in
-    (omega arith, (c .before .point-at .ensures, rw (← c .slot-of .ensures .0) (marks-name ps (l .j) (c .slot-of .result) (l .marks) (l .inv .2))))
+    let l = c .before .before .before .before .loop in
+    let x = c .before .before .before .before .before .before .before .args in
+    let ps = readPoints (x .points .now) in
+    (omega arith, (c .before .before .point-at .ensures, rw (← c .before .slot-of .ensures .0) (marks-name ps _ (l .j) (c .before .slot-of .result) (l .marks) (l .inv .2))))
+
+same-length : tie.Need-same-length Inv-loop μ-loop
+same-length c = search needs
 
 returns : tie.Need-returns Inv-loop μ-loop
 unfolding firstRepeated
 returns c =
-    let l = c .before .before .before .before .before .loop in
-    let xs = c .before .before .before .before .before .before .before .args .points .now in
+    let l = c .before .before .before .before .before .before .loop in
+    let xs = c .before .before .before .before .before .before .before .before .before .args .points .now in
     sym (first-at _ _ (l .j) (omega (arith, points-count xs)) (l .inv .1) (sym (c .before .repeats-earlier .ensures) ∙ c .if1 .taken))
 
 mark-after-requires : tie.Need-mark-after-requires Inv-loop μ-loop
@@ -59,8 +63,8 @@ mark-after-requires c κs = search needs
 mul-marks : tie.Need-mul-marks Inv-loop μ-loop
 mul-marks c = search needs
 
-array-write-marks : tie.Need-array-write-marks Inv-loop μ-loop
-array-write-marks c = search needs
+slice-write-marks : tie.Need-slice-write-marks Inv-loop μ-loop
+slice-write-marks c = search needs
 
 add-j : tie.Need-add-j Inv-loop μ-loop
 add-j c = search needs
@@ -70,21 +74,25 @@ loop-less c = search needs
 
 loop-again : tie.Need-loop-again Inv-loop μ-loop
 loop-again c =
-    let l = c .before .before .before .before .before .before .loop in
-    let ps = readPoints (c .before .before .before .before .before .before .before .before .args .points .now) in
-    let s = c .before .before .before .slot-of in (
+    let l = c .before .before .before .before .before .before .before .loop in
+    let x = c .before .before .before .before .before .before .before .before .before .before .args in
+    let ps = readPoints (x .points .now) in
+    let s = c .before .before .before .before .slot-of in (
       omega arith,
       below-more _ (l .j) (l .inv .1) (sym (c .before .before .repeats-earlier .ensures) ∙ c .before .if1 .left),
-      marks-more ps (l .j) (s .result) (c .mark-after .result) (l .marks) (l .inv .2) (c .mark-after .ensures)
-          (s .ensures .0 ∙ ap slotOf (c .before .before .before .before .point-at .ensures)) (omega (arith, s .ensures .1, l .inv .3)),
+      marks-more ps _ (l .j) (s .result) (c .mark-after .result) (l .marks) (l .inv .2) (c .mark-after .ensures) (s .ensures .0 ∙ ap (slotOf _) (c .before .before .before .before .before .point-at .ensures))
+          (omega (arith, s .ensures .1, l .inv .3)),
       length-set (l .marks) (s .result) (c .mark-after .result) ∙ l .inv .3,
     )
+
+same-length-2 : tie.Need-same-length-2 Inv-loop μ-loop
+same-length-2 c = search needs
 
 returns-2 : tie.Need-returns-2 Inv-loop μ-loop
 unfolding firstRepeated
 returns-2 c =
     let l = c .before .loop in
-    let xs = c .before .before .before .args .points .now in
+    let xs = c .before .before .before .before .args .points .now in
     let e : l .j ≡ length (readPoints xs) = omega (arith, points-count xs) in
     e ∙ sym (first-none _ _ (rw e at (l .inv .1)))
 
@@ -98,13 +106,15 @@ by-table-spec =
     point-at-requires
     slot-of-requires
     mul-mark
-    array-read-mark
+    slice-read-mark
     repeats-earlier-requires
+    same-length
     returns
     mark-after-requires
     mul-marks
-    array-write-marks
+    slice-write-marks
     add-j
     loop-less
     loop-again
+    same-length-2
     returns-2)

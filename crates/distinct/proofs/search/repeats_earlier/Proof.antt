@@ -15,7 +15,7 @@ is-clear-requires c κs = search needs
 returns : tie.Need-returns
 returns c =
     let x = c .before .before .before in
-    sym (clear-new _ _ _ _ (x .pre .1 .0) (x .pre .1 .1) (c .before .is-clear .ensures (c .if1 .taken)))
+    sym (clear-new _ _ _ _ _ (x .pre .1 .0) (x .pre .1 .1) (c .before .is-clear .ensures (c .if1 .taken)))
 
 first-equal-requires : tie.Need-first-equal-requires
 first-equal-requires c κs = search needs

@@ -14,7 +14,7 @@ use Rattle.mesh_verdict.proofs.fault.point_fault.Lts as lts
 use Rattle.mesh_faults.proofs.inside.first_outside.Reads as first-outside-reads
 use Rattle.mesh_verdict.proofs.fault.side_fault.Reads as side-fault-reads
 use Rattle.searches.proofs.point.first_equal.Reads as first-equal-reads
-use Rattle.searches.proofs.point.first_repeated.Reads as first-repeated-reads
+use Rattle.distinct.proofs.search.first_repeated.Reads as first-repeated-reads
 use Rattle.searches.proofs.point.point_at.Reads as point-at-reads
 
 first-outside-requires : tie.Need-first-outside-requires

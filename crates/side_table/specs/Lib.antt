@@ -1,0 +1,3 @@
+-- The definitions of the table of sides.
+pub mod Sides
+pub mod Links
