@@ -2,7 +2,7 @@
 -- Assumes nothing.
 use Prim.Native.Nat.{ℕ, zero, suc, _*_, _/_, _%_, _≤_, _<_}
 use mathlib.Core.Path.{_≡_, refl, sym, ap, _∙_}
-use mathlib.Core.Bool.{Bool, true, false, not, _||_, _&&_, true≢false}
+use mathlib.Core.Bool.{Bool, true, false, not, _||_, true≢false}
 use mathlib.Core.List.{List, [], _∷_}
 use mathlib.Core.Logic.{inl, inr}
 use native.Mathlib.Omega.{arith}
@@ -11,14 +11,14 @@ use lib.ListN.{length, getD, set, length-set}
 use lib.Seq.{getD-set-other}
 use Rattle.strip.specs.declared.triangle.Triangle.{Triangle}
 use Rattle.mesh.specs.declared.Point.{Point}
-use Rattle.mesh.specs.Cover.{Side, Face, piece}
+use Rattle.mesh.specs.Cover.{Side, piece}
 use Rattle.mesh.specs.Faces.{at, faceOf}
 use Rattle.searches.specs.First.{some}
 use Rattle.searches.specs.Points.{samePoint}
 use Rattle.searches.specs.Triangles.{triangleAt, hasSide, someSide}
 use Rattle.searches.proofs.First.{some-here, some-which, first-none}
 use Rattle.searches.proofs.Equal.{same-is, is-same}
-use Rattle.mesh_faults.specs.Outline.{sameEnds, onOutline, sideBetween, startOf, endOf, closes, bounds, isDrawn, firstOpen, firstMissing}
+use Rattle.mesh_faults.specs.Outline.{sameEnds, sideBetween, startOf, endOf, closes, bounds, isDrawn, firstOpen, firstMissing}
 use Rattle.closed.specs.declared.joint.Joint.{Joint}
 use Rattle.closed.specs.declared.joint.Joint.the-variants.{Reverse, Piece, Open}
 use Rattle.side_table.specs.Sides.{sideStart, sideEnd, isSide, Once}

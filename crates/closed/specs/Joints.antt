@@ -1,6 +1,6 @@
 -- What a side meets: its reverse or a piece of the outline; and a mesh whose sides all meet, with its outline whole.
 -- Assumes nothing.
-use Prim.Native.Nat.{ℕ, suc, _*_, _<_}
+use Prim.Native.Nat.{ℕ, _*_, _<_}
 use mathlib.Core.Path.{_≡_}
 use mathlib.Core.Bool.{Bool, true, false}
 use mathlib.Core.List.{List}

@@ -6,10 +6,9 @@ use mathlib.Core.Bool.{Bool, true, false, _&&_, _||_, true≢false}
 use mathlib.Core.List.{List}
 use mathlib.Core.Logic.{_⊎_, inl, inr}
 use native.Mathlib.Omega.{arith}
-use native.Mathlib.Decide.{decLe}
 use lib.Dec.{eqb}
 use lib.ListN.{length, getD}
-use borrow.Author.Tests.{eq-eqb, ne-eqb, eqb-true, eqb-false}
+use borrow.Author.Tests.{eq-eqb, eqb-true}
 use Rattle.strip.specs.declared.triangle.Triangle.{Triangle}
 use Rattle.drawing.specs.Words.{readTriangles}
 use Rattle.searches.specs.Triangles.{triangleAt, hasSide, shareSide}
@@ -18,7 +17,7 @@ use Rattle.mesh_faults.specs.Outline.{startOf, endOf}
 use Rattle.mesh_faults.specs.Turns.{AllNumbered}
 use Rattle.mesh_faults.proofs.Turns.{numbered}
 use Rattle.mesh_faults.proofs.Corners.{start-known as corner-known, end-known as corner-end-known}
-use Rattle.side_table.specs.Sides.{sideStart, sideEnd, isSide}
+use Rattle.side_table.specs.Sides.{sideStart, sideEnd}
 
 -- a corner of triangle k by its number among the indices
 corner-word : (ws : List ℕ) (k e m : ℕ) → k < length ws / 3 → m ≡ k * 3 + e → e < 3 → getD ws m 0 ≡ startOf (triangleAt (readTriangles ws) k) e

@@ -11,11 +11,6 @@ use Rattle.closed.proofs.Pieces.{marked-none, all-closed}
 use borrow.Author.Needs.{needs}
 use Rattle.closed.proofs.closing.closes_by.Statement.{statement}
 use Rattle.closed.proofs.closing.closes_by.Tie as tie
-use Rattle.closed.proofs.closing.closes_by.Reads as reads
-use Rattle.closed.proofs.closing.closes_by.Lts as lts
-use Rattle.side_table.proofs.filling.fill.Reads as fill-reads
-use Rattle.closed.proofs.joint.all_joined.Reads as all-joined-reads
-use Rattle.closed.proofs.joint.all_marked.Reads as all-marked-reads
 
 fill-requires : tie.Need-fill-requires
 fill-requires c κs =

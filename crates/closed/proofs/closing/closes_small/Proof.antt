@@ -5,9 +5,6 @@ use Rattle.side_table.proofs.Table.{zeros-all}
 use borrow.Author.Needs.{needs}
 use Rattle.closed.proofs.closing.closes_small.Statement.{statement}
 use Rattle.closed.proofs.closing.closes_small.Tie as tie
-use Rattle.closed.proofs.closing.closes_small.Reads as reads
-use Rattle.closed.proofs.closing.closes_small.Lts as lts
-use Rattle.closed.proofs.closing.closes_by.Reads as closes-by-reads
 
 slice-aggregate-closes-by : tie.Need-slice-aggregate-closes-by
 slice-aggregate-closes-by c = search needs

@@ -1,6 +1,6 @@
 -- Meets its contract: the sides before m are joined, and the pieces among them marked. Assumes nothing.
 use native.Mathlib.Omega.{arith}
-use Prim.Native.Nat.{_-_, _≤_, _*_}
+use Prim.Native.Nat.{_-_, _≤_, _*_, _/_}
 use borrow.Author.Needs.{needs}
 use Rattle.drawing.specs.Words.{readPoints, readTriangles}
 use Rattle.closed.specs.Joints.{Joined, Marked}
@@ -9,15 +9,9 @@ use Rattle.searches.proofs.Read.{triangles-count}
 use mathlib.Core.Path.{_≡_, refl, sym, ap, _∙_}
 use mathlib.Core.Bool.{true≢false}
 use native.Mathlib.Numerals.{add-one}
-use Prim.Native.Nat.{_/_}
 use lib.ListN.{length}
 use Rattle.closed.proofs.joint.all_joined.Statement.{statement}
 use Rattle.closed.proofs.joint.all_joined.Tie as tie
-use Rattle.closed.proofs.joint.all_joined.Reads as reads
-use Rattle.closed.proofs.joint.all_joined.Lts as lts
-use Rattle.closed.proofs.joint.is_open.Reads as is-open-reads
-use Rattle.closed.proofs.joint.joint_of.Reads as joint-of-reads
-use Rattle.closed.proofs.joint.mark.Reads as mark-reads
 
 abbrev Inv-loop : tie.InvT-loop
 Inv-loop outline points indices heads links marks₀ positive sides near₀ m₀ marks near m =

@@ -9,8 +9,6 @@ use Rattle.closed.specs.Joints.{AllMarked}
 use borrow.Author.Needs.{needs}
 use Rattle.closed.proofs.joint.all_marked.Statement.{statement}
 use Rattle.closed.proofs.joint.all_marked.Tie as tie
-use Rattle.closed.proofs.joint.all_marked.Reads as reads
-use Rattle.closed.proofs.joint.all_marked.Lts as lts
 
 abbrev Inv-loop : tie.InvT-loop
 Inv-loop marks count k₀ k = (k ≤ count) × AllMarked marks k

@@ -6,9 +6,6 @@ use Prim.Native.Nat.{_-_, _≤_}
 use borrow.Author.Needs.{needs}
 use Rattle.closed.proofs.joint.find_piece.Statement.{statement}
 use Rattle.closed.proofs.joint.find_piece.Tie as tie
-use Rattle.closed.proofs.joint.find_piece.Reads as reads
-use Rattle.closed.proofs.joint.find_piece.Lts as lts
-use Rattle.mesh_faults.proofs.outline.is_piece_at.Reads as is-piece-at-reads
 
 abbrev Inv-loop : tie.InvT-loop
 Inv-loop outline near positive p q count k₀ k = k ≤ count

@@ -11,12 +11,6 @@ use native.Mathlib.Omega.{arith}
 use borrow.Author.Needs.{needs}
 use Rattle.closed.proofs.joint.joint_of.Statement.{statement}
 use Rattle.closed.proofs.joint.joint_of.Tie as tie
-use Rattle.closed.proofs.joint.joint_of.Reads as reads
-use Rattle.closed.proofs.joint.joint_of.Lts as lts
-use Rattle.closed.proofs.joint.find_piece.Reads as find-piece-reads
-use Rattle.side_table.proofs.side.end_in.Reads as end-in-reads
-use Rattle.side_table.proofs.side.has_side.Reads as has-side-reads
-use Rattle.searches.proofs.point.point_at.Reads as point-at-reads
 
 mul-x : tie.Need-mul-x
 mul-x c = search needs

@@ -2,9 +2,6 @@
 use borrow.Author.Needs.{needs}
 use Rattle.closed.proofs.joint.mark.Statement.{statement}
 use Rattle.closed.proofs.joint.mark.Tie as tie
-use Rattle.closed.proofs.joint.mark.Reads as reads
-use Rattle.closed.proofs.joint.mark.Lts as lts
-use Rattle.closed.proofs.joint.set_mark.Reads as set-mark-reads
 
 enum-told : tie.Need-enum-told
 enum-told c = search needs

@@ -3,8 +3,6 @@ use Rattle.closed.proofs.Pieces.{set-past}
 use borrow.Author.Needs.{needs}
 use Rattle.closed.proofs.joint.set_mark.Statement.{statement}
 use Rattle.closed.proofs.joint.set_mark.Tie as tie
-use Rattle.closed.proofs.joint.set_mark.Reads as reads
-use Rattle.closed.proofs.joint.set_mark.Lts as lts
 
 returns : tie.Need-returns
 returns c = set-past _ _ _ (c .if1 .taken)

@@ -7,10 +7,6 @@ use borrow.Author.Tests.{not-true}
 use borrow.Author.Needs.{needs}
 use Rattle.distinct.proofs.mark.is_clear.Statement.{statement}
 use Rattle.distinct.proofs.mark.is_clear.Tie as tie
-use Rattle.distinct.proofs.mark.is_clear.Reads as reads
-use Rattle.distinct.proofs.mark.is_clear.Lts as lts
-use Rattle.searches.proofs.point.point_at.Reads as point-at-reads
-use Rattle.searches.proofs.point.same_point.Reads as same-point-reads
 
 returns : tie.Need-returns
 returns c = λ h. inl (c .if1 .taken)

@@ -5,8 +5,6 @@ use Rattle.distinct.specs.Marks.{slotOf}
 use borrow.Author.Needs.{needs}
 use Rattle.distinct.proofs.mark.slot_of.Statement.{statement}
 use Rattle.distinct.proofs.mark.slot_of.Tie as tie
-use Rattle.distinct.proofs.mark.slot_of.Reads as reads
-use Rattle.distinct.proofs.mark.slot_of.Lts as lts
 
 cast-result : tie.Need-cast-result
 cast-result c = search needs

@@ -12,12 +12,6 @@ use Rattle.distinct.proofs.Table.{marks-none, marks-name, marks-more}
 use borrow.Author.Needs.{needs}
 use Rattle.distinct.proofs.search.by_table.Statement.{statement}
 use Rattle.distinct.proofs.search.by_table.Tie as tie
-use Rattle.distinct.proofs.search.by_table.Reads as reads
-use Rattle.distinct.proofs.search.by_table.Lts as lts
-use Rattle.distinct.proofs.mark.mark_after.Reads as mark-after-reads
-use Rattle.distinct.proofs.mark.slot_of.Reads as slot-of-reads
-use Rattle.distinct.proofs.search.repeats_earlier.Reads as repeats-earlier-reads
-use Rattle.searches.proofs.point.point_at.Reads as point-at-reads
 
 abbrev Inv-loop : tie.InvT-loop
 Inv-loop points marks₀ count slots j₀ marks j = (j ≤ count) × Below (repeats (readPoints points)) j × Marks (readPoints points) slots j marks × (length marks ≡ slots)

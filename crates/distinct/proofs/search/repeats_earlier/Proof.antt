@@ -4,10 +4,6 @@ use Rattle.distinct.proofs.Table.{clear-new}
 use borrow.Author.Needs.{needs}
 use Rattle.distinct.proofs.search.repeats_earlier.Statement.{statement}
 use Rattle.distinct.proofs.search.repeats_earlier.Tie as tie
-use Rattle.distinct.proofs.search.repeats_earlier.Reads as reads
-use Rattle.distinct.proofs.search.repeats_earlier.Lts as lts
-use Rattle.distinct.proofs.mark.is_clear.Reads as is-clear-reads
-use Rattle.searches.proofs.point.first_equal.Reads as first-equal-reads
 
 is-clear-requires : tie.Need-is-clear-requires
 is-clear-requires c κs = search needs

@@ -12,10 +12,6 @@ use Rattle.mesh_faults.proofs.Known.{all-numbered}
 use borrow.Author.Needs.{needs}
 use Rattle.mesh_verdict.proofs.fault.mesh_fault.Statement.{statement}
 use Rattle.mesh_verdict.proofs.fault.mesh_fault.Tie as tie
-use Rattle.mesh_verdict.proofs.fault.mesh_fault.Reads as reads
-use Rattle.mesh_verdict.proofs.fault.mesh_fault.Lts as lts
-use Rattle.mesh_verdict.proofs.fault.point_fault.Reads as point-fault-reads
-use Rattle.searches.proofs.index.first_unknown.Reads as first-unknown-reads
 
 returns : tie.Need-returns
 unfolding meshFault

@@ -8,10 +8,6 @@ use Rattle.mesh_verdict.proofs.Chain.{found, next}
 use borrow.Author.Needs.{needs}
 use Rattle.mesh_verdict.proofs.fault.outline_fault.Statement.{statement}
 use Rattle.mesh_verdict.proofs.fault.outline_fault.Tie as tie
-use Rattle.mesh_verdict.proofs.fault.outline_fault.Reads as reads
-use Rattle.mesh_verdict.proofs.fault.outline_fault.Lts as lts
-use Rattle.mesh_faults.proofs.outline.first_missing.Reads as first-missing-reads
-use Rattle.mesh_faults.proofs.side.first_open.Reads as first-open-reads
 
 first-open-requires : tie.Need-first-open-requires
 first-open-requires c κs = search needs

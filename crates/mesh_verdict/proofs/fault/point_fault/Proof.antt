@@ -9,13 +9,6 @@ use Rattle.mesh_faults.proofs.Known.{all-small}
 use borrow.Author.Needs.{needs}
 use Rattle.mesh_verdict.proofs.fault.point_fault.Statement.{statement}
 use Rattle.mesh_verdict.proofs.fault.point_fault.Tie as tie
-use Rattle.mesh_verdict.proofs.fault.point_fault.Reads as reads
-use Rattle.mesh_verdict.proofs.fault.point_fault.Lts as lts
-use Rattle.mesh_faults.proofs.inside.first_outside.Reads as first-outside-reads
-use Rattle.mesh_verdict.proofs.fault.side_fault.Reads as side-fault-reads
-use Rattle.searches.proofs.point.first_equal.Reads as first-equal-reads
-use Rattle.distinct.proofs.search.first_repeated.Reads as first-repeated-reads
-use Rattle.searches.proofs.point.point_at.Reads as point-at-reads
 
 first-outside-requires : tie.Need-first-outside-requires
 first-outside-requires c κs = search needs

@@ -7,14 +7,6 @@ use Rattle.mesh_verdict.proofs.Chain.{found, next, closed-accepted}
 use borrow.Author.Needs.{needs}
 use Rattle.mesh_verdict.proofs.fault.side_fault.Statement.{statement}
 use Rattle.mesh_verdict.proofs.fault.side_fault.Tie as tie
-use Rattle.mesh_verdict.proofs.fault.side_fault.Reads as reads
-use Rattle.mesh_verdict.proofs.fault.side_fault.Lts as lts
-use Rattle.closed.proofs.closing.is_closed.Reads as is-closed-reads
-use Rattle.mesh_faults.proofs.area.first_turned.Reads as first-turned-reads
-use Rattle.mesh_verdict.proofs.fault.outline_fault.Reads as outline-fault-reads
-use Rattle.searches.proofs.pair.first_reused.Reads as first-reused-reads
-use Rattle.searches.proofs.pair.first_sharing.Reads as first-sharing-reads
-use Rattle.searches.proofs.triangle.triangle_at.Reads as triangle-at-reads
 
 first-turned-requires : tie.Need-first-turned-requires
 first-turned-requires c κs = search needs

@@ -6,11 +6,6 @@ use native.Mathlib.Omega.{arith}
 use borrow.Author.Needs.{needs}
 use Rattle.side_table.proofs.filling.add_new.Statement.{statement}
 use Rattle.side_table.proofs.filling.add_new.Tie as tie
-use Rattle.side_table.proofs.filling.add_new.Reads as reads
-use Rattle.side_table.proofs.filling.add_new.Lts as lts
-use Rattle.side_table.proofs.side.add_side.Reads as add-side-reads
-use Rattle.side_table.proofs.side.end_at.Reads as end-at-reads
-use Rattle.side_table.proofs.side.has_side.Reads as has-side-reads
 
 mul-x : tie.Need-mul-x
 mul-x c = search needs

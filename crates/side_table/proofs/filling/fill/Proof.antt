@@ -15,9 +15,6 @@ use mathlib.Core.Bool.{true≢false}
 use native.Mathlib.Numerals.{add-one}
 use Rattle.side_table.proofs.filling.fill.Statement.{statement}
 use Rattle.side_table.proofs.filling.fill.Tie as tie
-use Rattle.side_table.proofs.filling.fill.Reads as reads
-use Rattle.side_table.proofs.filling.fill.Lts as lts
-use Rattle.side_table.proofs.filling.add_new.Reads as add-new-reads
 
 abbrev Inv-loop : tie.InvT-loop
 Inv-loop indices heads₀ links₀ sides m₀ heads links m = (m ≤ sides) × Linked (readTriangles indices) m heads links × Once (readTriangles indices) m × (length heads ≡ length heads₀) × (length links ≡ length links₀)

@@ -4,8 +4,6 @@ use Rattle.side_table.proofs.Table.{added}
 use borrow.Author.Needs.{needs}
 use Rattle.side_table.proofs.side.add_side.Statement.{statement}
 use Rattle.side_table.proofs.side.add_side.Tie as tie
-use Rattle.side_table.proofs.side.add_side.Reads as reads
-use Rattle.side_table.proofs.side.add_side.Lts as lts
 
 mul-before : tie.Need-mul-before
 mul-before c = search needs

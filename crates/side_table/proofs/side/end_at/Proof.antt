@@ -3,8 +3,6 @@ use Rattle.side_table.proofs.Numbers.{end-word, end-word-last}
 use borrow.Author.Needs.{needs}
 use Rattle.side_table.proofs.side.end_at.Statement.{statement}
 use Rattle.side_table.proofs.side.end_at.Tie as tie
-use Rattle.side_table.proofs.side.end_at.Reads as reads
-use Rattle.side_table.proofs.side.end_at.Lts as lts
 
 sub-result : tie.Need-sub-result
 sub-result c = search needs

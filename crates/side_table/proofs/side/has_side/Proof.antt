@@ -8,10 +8,6 @@ use Rattle.side_table.proofs.Table.{walk-begins, walk-goes-on, walk-les
 use borrow.Author.Needs.{needs}
 use Rattle.side_table.proofs.side.has_side.Statement.{statement}
 use Rattle.side_table.proofs.side.has_side.Tie as tie
-use Rattle.side_table.proofs.side.has_side.Reads as reads
-use Rattle.side_table.proofs.side.has_side.Lts as lts
-use Rattle.side_table.proofs.side.before_in.Reads as before-in-reads
-use Rattle.side_table.proofs.side.end_in.Reads as end-in-reads
 
 abbrev Inv-loop : tie.InvT-loop
 Inv-loop indices sides heads links x y k₀ k = Walked (readTriangles indices) sides x y k
