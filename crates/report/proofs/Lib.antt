@@ -5,4 +5,3 @@ pub mod Answering
 pub mod Same
 pub mod Pieces
 pub mod Never
-pub mod Example

@@ -3,8 +3,8 @@ use borrow.Author.Needs.{needs}
 use native.Mathlib.Omega.{arith}
 use mathlib.Core.List.{[], _∷_}
 use Rattle.text.proofs.Lines.{none, more, line-length}
-use Rattle.text_samples.proofs.put_one.Statement.{statement}
-use Rattle.text_samples.proofs.put_one.Tie as tie
+use Rattle.text_test.proofs.put_one.Statement.{statement}
+use Rattle.text_test.proofs.put_one.Tie as tie
 
 put-line1-requires : tie.Need-put-line1-requires
 put-line1-requires c κs = omega (arith, line-length 9 (c .before .before .args .x ∷ []) (more (omega arith) none))

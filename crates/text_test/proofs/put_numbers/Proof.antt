@@ -3,8 +3,8 @@ use borrow.Author.Needs.{needs}
 use Prim.Native.Nat.{_+_, _-_, _*_, _≤_}
 use mathlib.Core.Path.{_≡_}
 use lib.ListN.{length}
-use Rattle.text_samples.proofs.put_numbers.Statement.{statement}
-use Rattle.text_samples.proofs.put_numbers.Tie as tie
+use Rattle.text_test.proofs.put_numbers.Statement.{statement}
+use Rattle.text_test.proofs.put_numbers.Tie as tie
 
 abbrev Inv-loop : tie.InvT-loop
 Inv-loop out₀ at numbers w₀ i₀ out w i = (i ≤ 12) × (w ≤ at + 11 * i) × (length out ≡ length out₀)

@@ -1,4 +1,4 @@
--- `job_samples::read::walk` ends: each record that is read or passed over brings the cursor nearer to the end.
+-- `job_test::read::walk` ends: each record that is read or passed over brings the cursor nearer to the end.
 -- Assumes nothing.
 use borrow.Author.Needs.{needs}
 use Prim.Native.Nat.{_-_}
@@ -7,8 +7,8 @@ use mathlib.Core.Path.{sym, ap, _∙_}
 use lib.ListN.{length}
 use Rattle.job.specs.declared.cursor.Cursor.{Cursor}
 use Rattle.job.proofs.Records.{record-exactly}
-use Rattle.job_samples.proofs.read.walk.Statement.{statement}
-use Rattle.job_samples.proofs.read.walk.Tie as tie
+use Rattle.job_test.proofs.read.walk.Statement.{statement}
+use Rattle.job_test.proofs.read.walk.Tie as tie
 
 abbrev Inv-loop : tie.InvT-loop
 Inv-loop bytes version from at₀ t7 at = Unit

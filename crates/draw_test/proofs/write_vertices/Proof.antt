@@ -1,8 +1,8 @@
 -- Meets its contract. Assumes nothing.
 use borrow.Author.Needs.{needs}
 use Prim.Native.Nat.{_≤_, _-_}
-use Rattle.draw_samples.proofs.write_vertices.Statement.{statement}
-use Rattle.draw_samples.proofs.write_vertices.Tie as tie
+use Rattle.draw_test.proofs.write_vertices.Statement.{statement}
+use Rattle.draw_test.proofs.write_vertices.Tie as tie
 
 abbrev Inv-loop : tie.InvT-loop
 Inv-loop words k₀ t3 k = k ≤ 32
