@@ -3,7 +3,7 @@ use crate::show::write_answer;
 use job::cursor::Cursor;
 use job::next::NextRecord;
 use job::next::read_record;
-use job::version::Version;
+use job_fields::version::Version;
 
 // The record at a place.
 pub fn sample(name: &[u8], bytes: &[u8], version: Version, at: usize) {

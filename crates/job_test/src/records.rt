@@ -1,7 +1,7 @@
 // Records of version 1: refused, whole, and one after the other.
 use crate::read::sample;
 use crate::read::walk;
-use job::version::Version;
+use job_fields::version::Version;
 
 fn record(name: &[u8], bytes: &[u8], at: usize) {
     sample(name, bytes, Version::One, at);

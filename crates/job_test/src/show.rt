@@ -1,11 +1,11 @@
 // Answers in words.
 use job::header::Header;
-use job::levels::LevelBits;
 use job::next::NextRecord;
 use job::record::Record;
 use job::record::patch_of;
 use job::record::settings_of;
-use job::version::version_number;
+use job_fields::levels::LevelBits;
+use job_fields::version::version_number;
 use level::Spacing;
 use level::segments_of;
 use patch::kinds::Patch;

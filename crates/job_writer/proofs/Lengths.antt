@@ -6,11 +6,11 @@ use mathlib.Core.Bool.{true}
 use lib.ListN.{length}
 use Rattle.level.specs.Top.{isTop}
 use Rattle.level.proofs.Top.{top-of}
-use Rattle.job.specs.declared.version.Version.{Version}
-use Rattle.job.specs.declared.version.Version.the-variants.{One, Two}
+use Rattle.job_fields.specs.declared.version.Version.{Version}
+use Rattle.job_fields.specs.declared.version.Version.the-variants.{One, Two}
 use Rattle.job.specs.declared.record.Record.{Record}
-use Rattle.job.specs.Version.{versionNumber, settingBytes, recordSize}
-use Rattle.job.specs.Bytes.{lowBytes}
+use Rattle.job_fields.specs.Version.{versionNumber, settingBytes, recordSize}
+use Rattle.job_fields.specs.Bytes.{lowBytes}
 use Rattle.job_writer.specs.Written.{headerBytes, topBytes, levelBytes, recordBytes}
 
 -- a version's number is small

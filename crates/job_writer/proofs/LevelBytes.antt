@@ -5,9 +5,9 @@ use native.Mathlib.Omega.{arith}
 use mathlib.Core.Path.{_≡_, refl}
 use mathlib.Core.List.{List, _++_}
 use lib.ListN.{length}
-use Rattle.job.specs.declared.levels.LevelBits.{LevelBits}
-use Rattle.job.specs.Bytes.{word, lowBytes}
-use Rattle.job.specs.Levels.{bitsAt}
+use Rattle.job_fields.specs.declared.levels.LevelBits.{LevelBits}
+use Rattle.job_fields.specs.Bytes.{word, lowBytes}
+use Rattle.job_fields.specs.Levels.{bitsAt}
 use Rattle.job_writer.specs.Written.{levelBytes}
 use Rattle.job_writer.specs.Patterns.{Patterns}
 use Rattle.job_writer.specs.Whole.{Bytes}

@@ -4,7 +4,7 @@ use native.Mathlib.Omega.{arith}
 use mathlib.Core.Path.{_≡_, refl, ap}
 use mathlib.Core.List.{[], _∷_}
 use lib.ListN.{length}
-use Rattle.job.specs.Bytes.{lowBytes}
+use Rattle.job_fields.specs.Bytes.{lowBytes}
 
 -- so many low bytes are so many
 pub low-length : (k x : ℕ) → length (lowBytes k x) ≡ k

@@ -10,12 +10,12 @@ use lib.ListN.{length, take, drop, getD}
 use Rattle.buffer.proofs.Laws.{over-front}
 use Rattle.tessellate.specs.Answers.{Told, refused}
 use Rattle.tessellate.specs.Draws.{Drew}
-use Rattle.job.specs.declared.version.Version.{Version}
+use Rattle.job_fields.specs.declared.version.Version.{Version}
 use Rattle.job.specs.declared.cursor.Cursor.{Cursor}
 use Rattle.job.specs.declared.record.Record.{Record}
 use Rattle.job.specs.declared.header.Header.the-variants as read-header
 use Rattle.job.specs.declared.next.NextRecord.the-variants.{Read}
-use Rattle.job.specs.Version.{recordSize}
+use Rattle.job_fields.specs.Version.{recordSize}
 use Rattle.job.specs.Header.{headerOf}
 use Rattle.job.specs.Records.{recordAt}
 use Rattle.job_writer.specs.declared.answer.HeaderWritten.{HeaderWritten}

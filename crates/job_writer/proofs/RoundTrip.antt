@@ -4,13 +4,13 @@ use native.Mathlib.Omega.{arith}
 use mathlib.Core.Path.{_≡_, refl, ap}
 use mathlib.Core.List.{List, _++_}
 use lib.ListN.{length, take, drop}
-use Rattle.job.specs.declared.version.Version.{Version}
+use Rattle.job_fields.specs.declared.version.Version.{Version}
 use Rattle.job.specs.declared.cursor.Cursor.{Cursor}
 use Rattle.job.specs.declared.record.Record.{Record}
 use Rattle.job.specs.declared.next.NextRecord.the-variants.{Read}
-use Rattle.job.specs.Version.{settingBytes, recordSize}
-use Rattle.job.specs.Levels.{levelsOf}
-use Rattle.job.specs.Tops.{topAt, AllKnown}
+use Rattle.job_fields.specs.Version.{settingBytes, recordSize}
+use Rattle.job_fields.specs.Levels.{levelsOf}
+use Rattle.job_fields.specs.Tops.{topAt, AllKnown}
 use Rattle.job.specs.Records.{recordOf, recordAt, after}
 use Rattle.job.proofs.Records.{record-exactly, levels-are}
 use Rattle.job_writer.specs.Written.{fiveBytes, topBytes, levelBytes, recordBytes}

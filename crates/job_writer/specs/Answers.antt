@@ -7,11 +7,11 @@ use lib.Dec.{ltb}
 use lib.ListN.{length}
 use Rattle.tessellate.specs.Answers.{Told, refused, drew}
 use Rattle.tessellate.specs.Draws.{Drew}
-use Rattle.job.specs.declared.version.Version.{Version}
+use Rattle.job_fields.specs.declared.version.Version.{Version}
 use Rattle.job.specs.declared.record.Record.{Record}
 use Rattle.job.specs.declared.header.Header.the-variants as read-header
 use Rattle.job.specs.declared.next.NextRecord.the-variants.{Read}
-use Rattle.job.specs.Version.{recordSize}
+use Rattle.job_fields.specs.Version.{recordSize}
 use Rattle.job.specs.Header.{start, headerOf}
 use Rattle.job.specs.Records.{recordAt, after}
 use Rattle.job_writer.specs.declared.answer.HeaderWritten.{HeaderWritten}

@@ -4,11 +4,11 @@ use mathlib.Core.Path.{_≡_}
 use mathlib.Core.Bool.{cond}
 use lib.Ieee.{Float, binary32, isNan, toBits}
 use Rattle.patch.specs.declared.settings.Settings.{Settings}
-use Rattle.job.specs.declared.setting.Kind.{Kind}
-use Rattle.job.specs.declared.levels.LevelBits.{LevelBits}
-use Rattle.job.specs.declared.levels.Levels.{Levels}
+use Rattle.job_fields.specs.declared.setting.Kind.{Kind}
+use Rattle.job_fields.specs.declared.levels.LevelBits.{LevelBits}
+use Rattle.job_fields.specs.declared.levels.Levels.{Levels}
 use Rattle.job.specs.declared.record.Record.{Record}
-use Rattle.job.specs.Levels.{levelsOf}
+use Rattle.job_fields.specs.Levels.{levelsOf}
 
 -- the pattern of a level: its own, and 0x7fc00000 for a NaN
 abbrev pub patternOf : Float → ℕ

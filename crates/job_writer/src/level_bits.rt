@@ -1,11 +1,11 @@
 // Records whose bit patterns and f32 levels agree, made from either.
 ghost use mathlib.Core.Path.{_≡_};
 ghost use Rattle.job_writer.specs.Patterns.{patternOf, bitsOf, MadeRecord, recordOfBits};
-use job::levels::LevelBits;
-use job::levels::Levels;
-use job::levels::levels_of;
 use job::record::Record;
-use job::setting::Kind;
+use job_fields::levels::LevelBits;
+use job_fields::levels::Levels;
+use job_fields::levels::levels_of;
+use job_fields::setting::Kind;
 use patch::settings::Settings;
 
 // The pattern of a level; `to_bits` itself takes no NaN, which gets the pattern 0x7fc00000.

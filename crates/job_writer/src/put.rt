@@ -2,7 +2,7 @@
 ghost use Prim.Native.Nat.{_+_, _≤_};
 ghost use lib.ListN.{length};
 ghost use Rattle.buffer.specs.Over.{Wrote};
-ghost use Rattle.job.specs.Bytes.{lowBytes};
+ghost use Rattle.job_fields.specs.Bytes.{lowBytes};
 use text::put_bytes;
 
 pub(crate) fn put_u16(out: &mut [u8], at: usize, x: u16) -> usize

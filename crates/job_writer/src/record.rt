@@ -4,7 +4,7 @@ ghost use mathlib.Core.Bool.{true};
 ghost use Prim.Native.Nat.{_+_, _≤_};
 ghost use lib.ListN.{length};
 ghost use Rattle.buffer.specs.Over.{Wrote};
-ghost use Rattle.job.specs.Version.{recordSize};
+ghost use Rattle.job_fields.specs.Version.{recordSize};
 ghost use Rattle.job_writer.specs.Written.{takesTop, levelBytes, recordBytes};
 ghost use Rattle.job_writer.specs.Answers.{WroteRecord};
 use crate::answer::RecordWritten;
@@ -12,10 +12,10 @@ use crate::put::put_u32;
 use crate::setting_bytes::put_settings;
 use crate::top_byte::put_top;
 use crate::top_byte::takes_top;
-use job::levels::LevelBits;
 use job::record::Record;
-use job::version::Version;
-use job::version::record_size;
+use job_fields::levels::LevelBits;
+use job_fields::version::Version;
+use job_fields::version::record_size;
 
 fn put_levels(out: &mut [u8], at: usize, bits: LevelBits) -> usize
     requires { ⌜ at + 24 ≤ length (now out) ⌝ }

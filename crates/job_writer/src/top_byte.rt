@@ -5,7 +5,7 @@ ghost use Prim.Native.Nat.{_+_, _≤_};
 ghost use lib.ListN.{length};
 ghost use Rattle.buffer.specs.Over.{Wrote};
 ghost use Rattle.job_writer.specs.Written.{takesTop, topBytes};
-use job::version::Version;
+use job_fields::version::Version;
 use level::is_top;
 use text::put_bytes;
 

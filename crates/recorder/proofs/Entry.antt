@@ -13,9 +13,9 @@ use Rattle.patch.specs.Subdivide.{discards}
 use Rattle.tessellate.specs.Answers.{pointsOf, indicesOf}
 use Rattle.tessellate.proofs.Tops.{top-as}
 use Rattle.patch_text.proofs.Sizes.{points-fit, indices-fit}
-use Rattle.job.specs.declared.version.Version.the-variants.{One}
+use Rattle.job_fields.specs.declared.version.Version.the-variants.{One}
 use Rattle.job.specs.declared.next.NextRecord.the-variants.{Read}
-use Rattle.job.specs.Bytes.{lowBytes}
+use Rattle.job_fields.specs.Bytes.{lowBytes}
 use Rattle.job.specs.Patches.{patchOf}
 use Rattle.job.specs.Records.{recordAt, after}
 use Rattle.job_writer.specs.Written.{recordBytes}

@@ -8,9 +8,9 @@ use Rattle.tessellate.specs.declared.answer.IndicesAnswer.{IndicesAnswer}
 use Rattle.tessellate.specs.Answers.{toldPoints, toldIndices}
 use Rattle.tessellate.specs.Draws.{DrewPoints, DrewIndices}
 use Rattle.patch_text.specs.Room.{FullSize}
-use Rattle.job.specs.declared.version.Version.the-variants.{One}
+use Rattle.job_fields.specs.declared.version.Version.the-variants.{One}
 use Rattle.job.specs.declared.record.Record.{Record}
-use Rattle.job.specs.Bytes.{lowBytes}
+use Rattle.job_fields.specs.Bytes.{lowBytes}
 use Rattle.job.specs.Patches.{patchOf}
 use Rattle.job_writer.specs.Written.{recordBytes}
 use Rattle.job_writer.specs.Patterns.{Agrees}

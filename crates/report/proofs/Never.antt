@@ -3,7 +3,7 @@ use Prim.Native.Nat.{ℕ}
 use mathlib.Core.Path.{_≡_, refl}
 use mathlib.Core.Bool.{cond}
 use mathlib.Core.List.{List}
-use Rattle.job.specs.declared.version.Version.{Version}
+use Rattle.job_fields.specs.declared.version.Version.{Version}
 use Rattle.job.specs.declared.cursor.Cursor.{Cursor}
 use Rattle.job.specs.declared.record.Record.{Record}
 use Rattle.job.specs.declared.next.NextRecord.the-variants.{Read}

@@ -9,11 +9,11 @@ use native.Mathlib.Omega.{arith}
 use borrow.Author.Tests.{lt-leb, lt-ltb, le-ltb}
 use lib.Dec.{eqb}
 use lib.ListN.{length, length-append}
-use Rattle.job.specs.declared.version.Version.{Version}
+use Rattle.job_fields.specs.declared.version.Version.{Version}
 use Rattle.job.specs.declared.cursor.Cursor.{Cursor}
 use Rattle.job.specs.declared.header.Header.{Header}
 use Rattle.job.specs.declared.header.Header.the-variants.{Read, NotAJob, UnknownVersion}
-use Rattle.job.specs.Version.{recordSize}
+use Rattle.job_fields.specs.Version.{recordSize}
 use Rattle.job.specs.Header.{mark, startsWith, headerOf, HeaderMeans}
 use Rattle.job.specs.Records.{recordAt}
 use Rattle.job.proofs.Headers.{header-exactly}

@@ -7,16 +7,16 @@ use native.Mathlib.Nat.{add-assoc, add-zero}
 use native.Mathlib.Omega.{arith}
 use lib.ListN.{length, List·getD-append}
 use lib.Seq.{getD-append-add}
-use Rattle.job.specs.declared.version.Version.{Version}
-use Rattle.job.specs.declared.version.Version.the-variants.{One, Two}
-use Rattle.job.specs.declared.levels.LevelBits.{LevelBits}
+use Rattle.job_fields.specs.declared.version.Version.{Version}
+use Rattle.job_fields.specs.declared.version.Version.the-variants.{One, Two}
+use Rattle.job_fields.specs.declared.levels.LevelBits.{LevelBits}
 use Rattle.job.specs.declared.record.Record.{Record}
 use Rattle.job.specs.declared.next.NextRecord.the-variants.{Read, End, CutRecord, UnknownSetting}
-use Rattle.job.specs.Version.{settingBytes, recordSize}
-use Rattle.job.specs.Bytes.{byteAt, word}
-use Rattle.job.specs.Settings.{choices, firstOver, kindOf, settingsAt}
-use Rattle.job.specs.Tops.{topAt, unknownPlace}
-use Rattle.job.specs.Levels.{bitsAt, levelsOf}
+use Rattle.job_fields.specs.Version.{settingBytes, recordSize}
+use Rattle.job_fields.specs.Bytes.{byteAt, word}
+use Rattle.job_fields.specs.Settings.{choices, firstOver, kindOf, settingsAt}
+use Rattle.job_fields.specs.Tops.{topAt, unknownPlace}
+use Rattle.job_fields.specs.Levels.{bitsAt, levelsOf}
 use Rattle.job.specs.Records.{recordOf, after, atEnd, cut, unknown, recordAt}
 use Rattle.patch.specs.declared.settings.Settings.{Settings}
 use Rattle.report.specs.Replies.{reply}

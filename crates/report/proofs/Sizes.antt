@@ -1,9 +1,9 @@
 -- The sizes of a record, in each version. Assumes nothing.
 use Prim.Native.Nat.{_≤_}
 use native.Mathlib.Omega.{arith}
-use Rattle.job.specs.declared.version.Version.{Version}
-use Rattle.job.specs.declared.version.Version.the-variants.{One, Two}
-use Rattle.job.specs.Version.{settingBytes, recordSize}
+use Rattle.job_fields.specs.declared.version.Version.{Version}
+use Rattle.job_fields.specs.declared.version.Version.the-variants.{One, Two}
+use Rattle.job_fields.specs.Version.{settingBytes, recordSize}
 
 -- there are at least five setting bytes
 pub settings-least : (v : Version) → 5 ≤ settingBytes v

@@ -7,10 +7,10 @@ use native.Mathlib.Decide.{decLe}
 use native.Mathlib.Omega.{arith}
 use borrow.Author.Tests.{ltb-true, ltb-false, le-leb, lt-leb}
 use lib.ListN.{length}
-use Rattle.job.specs.declared.version.Version.{Version}
+use Rattle.job_fields.specs.declared.version.Version.{Version}
 use Rattle.job.specs.declared.next.NextRecord.the-variants.{Read, CutRecord, UnknownSetting}
-use Rattle.job.specs.Version.{recordSize}
-use Rattle.job.specs.Tops.{unknownPlace}
+use Rattle.job_fields.specs.Version.{recordSize}
+use Rattle.job_fields.specs.Tops.{unknownPlace}
 use Rattle.job.specs.Records.{recordOf, after, cut, unknown, recordAt}
 use Rattle.report.specs.Replies.{reply, goesOn}
 use Rattle.report.specs.Jobs.{answers, answersFrom}

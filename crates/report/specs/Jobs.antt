@@ -2,10 +2,10 @@
 use Prim.Native.Nat.{ℕ, zero, suc}
 use mathlib.Core.List.{List, [], _++_}
 use lib.ListN.{length}
-use Rattle.job.specs.declared.version.Version.{Version}
+use Rattle.job_fields.specs.declared.version.Version.{Version}
 use Rattle.job.specs.declared.header.Header.{Header}
 use Rattle.job.specs.declared.header.Header.the-variants.{Read, NotAJob, UnknownVersion}
-use Rattle.job.specs.Version.{versionNumber}
+use Rattle.job_fields.specs.Version.{versionNumber}
 use Rattle.job.specs.Header.{headerOf}
 use Rattle.job.specs.Records.{recordAt}
 use Rattle.text.specs.Heads.{titleLine, refusedLine}

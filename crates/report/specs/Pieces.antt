@@ -3,8 +3,8 @@ use Prim.Native.Nat.{ℕ, _*_}
 use mathlib.Core.Path.{_≡_}
 use mathlib.Core.List.{List, [], _∷_, _++_}
 use lib.ListN.{length}
-use Rattle.job.specs.declared.version.Version.{Version}
-use Rattle.job.specs.Version.{recordSize}
+use Rattle.job_fields.specs.declared.version.Version.{Version}
+use Rattle.job_fields.specs.Version.{recordSize}
 use Rattle.job.specs.Header.{headerOf}
 use Rattle.report.specs.declared.header.Rest.{Rest}
 use Rattle.report.specs.declared.header.Rest.the-variants.{Records, Nothing}

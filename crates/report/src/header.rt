@@ -5,8 +5,8 @@ ghost use lib.ListN.{length};
 ghost use Rattle.buffer.specs.Over.{Wrote};
 ghost use Rattle.report.specs.Jobs.{startText, restOf};
 use job::header::Header;
-use job::version::Version;
-use job::version::version_number;
+use job_fields::version::Version;
+use job_fields::version::version_number;
 
 // What follows a header: records of a version, or nothing that is read.
 pub enum Rest {

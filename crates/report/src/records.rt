@@ -7,7 +7,7 @@ use crate::reply::next_place;
 use crate::reply::put_reply;
 use job::cursor::Cursor;
 use job::next::read_record;
-use job::version::Version;
+use job_fields::version::Version;
 
 // No record is answered by more bytes than this.
 const ROOM: usize = 286909;

@@ -4,15 +4,15 @@ ghost use mathlib.Core.Path.{_≡_};
 ghost use Prim.Native.Nat.{_*_, _≤_};
 ghost use lib.ListN.{length};
 ghost use Rattle.io.specs.Counts.{Counts};
-ghost use Rattle.job.specs.Version.{recordSize};
+ghost use Rattle.job_fields.specs.Version.{recordSize};
 ghost use Rattle.patch_text.specs.Room.{room, FullSize};
 use crate::header::Rest;
 use crate::header::put_header;
 use crate::header::rest_of;
 use crate::records::put_records;
 use job::header::read_header;
-use job::version::Version;
-use job::version::record_size;
+use job_fields::version::Version;
+use job_fields::version::record_size;
 use streams::Input;
 use streams::read_front;
 

@@ -11,7 +11,7 @@ use lib.ListN.{length}
 use Rattle.level.specs.Top.{isTop}
 use Rattle.patch.specs.declared.kinds.Patch.{Patch}
 use Rattle.patch.specs.declared.settings.Settings.{Settings}
-use Rattle.job.specs.Settings.{firstUnknown}
+use Rattle.job_fields.specs.Settings.{firstUnknown}
 use Rattle.tessellate.specs.Answers.{Told, refused}
 use Rattle.exports.specs.declared.reply.Reply.{Reply}
 use Rattle.exports.specs.Inputs.{topIn, patchIn, settingsIn}

@@ -32,7 +32,7 @@ fn objection(state: State, designer: u32, settings: &[u8; 6], v: usize, i: usize
     if 1 < designer {
         return refusal(15);
     }
-    let place = job::setting::first_unknown(settings, 0);
+    let place = job_fields::setting::first_unknown(settings, 0);
     if place < 5 {
         return unknown_setting(place);
     }
@@ -83,7 +83,7 @@ pub extern "C" fn yoktvarim_share_draw(
         shared,
         designer_of(designer),
         exports::input::patch_in(settings, levels),
-        job::setting::read_settings(settings, 0, top),
+        job_fields::setting::read_settings(settings, 0, top),
         vertices,
         indices,
         counts,

@@ -21,10 +21,10 @@ use Rattle.mesh.specs.TrianglePoints.{rings}
 use Rattle.mesh.specs.Words.{vertexWords}
 use Rattle.drawing.specs.Points.{points}
 use Rattle.drawing.specs.Primitives.{triangles, indexWords}
-use Rattle.job.specs.Bytes.{word}
+use Rattle.job_fields.specs.Bytes.{word}
 use Rattle.job.specs.Header.{startsWith, headerOf}
-use Rattle.job.specs.Settings.{firstOver}
-use Rattle.job.specs.Tops.{unknownPlace}
+use Rattle.job_fields.specs.Settings.{firstOver}
+use Rattle.job_fields.specs.Tops.{unknownPlace}
 use Rattle.job.specs.Records.{recordOf, recordAt}
 use Rattle.text.specs.Digits.{digitsIn, digits}
 use Rattle.text.specs.Lines.{line, rows}
