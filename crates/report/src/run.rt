@@ -6,13 +6,13 @@ ghost use lib.ListN.{length};
 ghost use Rattle.io.specs.Counts.{Counts};
 ghost use Rattle.job_fields.specs.Version.{recordSize};
 ghost use Rattle.patch_text.specs.Room.{room, FullSize};
-use crate::header::Rest;
-use crate::header::put_header;
-use crate::header::rest_of;
-use crate::records::put_records;
 use job::header::read_header;
 use job_fields::version::Version;
 use job_fields::version::record_size;
+use job_text::header::Rest;
+use job_text::header::put_header;
+use job_text::header::rest_of;
+use job_text::records::put_records;
 use streams::Input;
 use streams::read_front;
 

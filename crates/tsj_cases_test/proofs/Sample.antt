@@ -30,7 +30,7 @@ use Rattle.text.specs.Digits.{digitsIn, digits}
 use Rattle.text.specs.Lines.{line, rows}
 use Rattle.text.specs.Heads.{bytes}
 use Rattle.patch_text.specs.Answers.{drawnText}
-use Rattle.report.specs.Jobs.{answers, jobText}
+use Rattle.job_text.specs.Jobs.{answers, jobText}
 
 -- triangles, equal spacing, counter-clockwise, lower-left, no dots; the levels 1, 1, 1, 0, 2 and 0
 abbrev sampleJob : List ℕ

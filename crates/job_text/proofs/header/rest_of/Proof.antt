@@ -1,7 +1,7 @@
 -- Meets its contract. Assumes nothing.
 use borrow.Author.Needs.{needs}
-use Rattle.report.proofs.header.rest_of.Statement.{statement}
-use Rattle.report.proofs.header.rest_of.Tie as tie
+use Rattle.job_text.proofs.header.rest_of.Statement.{statement}
+use Rattle.job_text.proofs.header.rest_of.Tie as tie
 
 enum-known-header : tie.Need-enum-known-header
 enum-known-header c = search needs

@@ -1,4 +1,4 @@
--- The definitions of `report`.
+-- The definitions of `job_text`.
 pub mod Replies
 pub mod Jobs
 pub mod Reported

@@ -1,4 +1,4 @@
--- The laws of `report`, lowest first.
+-- The laws of `job_text`, lowest first.
 pub mod Sizes
 pub mod Steps
 pub mod Answering

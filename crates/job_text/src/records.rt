@@ -1,7 +1,7 @@
 // The answers to records that stand one after the other.
 ghost use Prim.Native.Nat.{_≤_};
 ghost use lib.ListN.{length};
-ghost use Rattle.report.specs.Reported.{Reported};
+ghost use Rattle.job_text.specs.Reported.{Reported};
 ghost use Rattle.patch_text.specs.Room.{room, FullSize};
 use crate::reply::next_place;
 use crate::reply::put_reply;

@@ -1,9 +1,9 @@
 -- Meets its contract. Assumes nothing.
 use borrow.Author.Needs.{needs}
-use Rattle.report.specs.Jobs.{startText}
+use Rattle.job_text.specs.Jobs.{startText}
 use Rattle.buffer.proofs.Laws.{wrote-as}
-use Rattle.report.proofs.header.put_header.Statement.{statement}
-use Rattle.report.proofs.header.put_header.Tie as tie
+use Rattle.job_text.proofs.header.put_header.Statement.{statement}
+use Rattle.job_text.proofs.header.put_header.Tie as tie
 
 enum-known-header : tie.Need-enum-known-header
 enum-known-header c = search needs

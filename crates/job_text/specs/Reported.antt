@@ -4,8 +4,8 @@ use mathlib.Core.Path.{_≡_}
 use mathlib.Core.List.{List, _++_}
 use lib.ListN.{length, take}
 use Rattle.job_fields.specs.declared.version.Version.{Version}
-use Rattle.report.specs.declared.records.Progress.{Progress}
-use Rattle.report.specs.Jobs.{answersFrom}
+use Rattle.job_text.specs.declared.records.Progress.{Progress}
+use Rattle.job_text.specs.Jobs.{answersFrom}
 
 -- out is the output after the call
 pub record Reported (v : Version) (bs : List ℕ) (from : ℕ) (out : List ℕ) (r : Progress) : Type 0 where

@@ -6,9 +6,9 @@ use lib.ListN.{length}
 use Rattle.job_fields.specs.declared.version.Version.{Version}
 use Rattle.job_fields.specs.Version.{recordSize}
 use Rattle.job.specs.Header.{headerOf}
-use Rattle.report.specs.declared.header.Rest.{Rest}
-use Rattle.report.specs.declared.header.Rest.the-variants.{Records, Nothing}
-use Rattle.report.specs.Jobs.{answersFrom, startText, restOf}
+use Rattle.job_text.specs.declared.header.Rest.{Rest}
+use Rattle.job_text.specs.declared.header.Rest.the-variants.{Records, Nothing}
+use Rattle.job_text.specs.Jobs.{answersFrom, startText, restOf}
 
 -- pieces one after the other
 unfoldable pub joined : List (List ℕ) → List ℕ

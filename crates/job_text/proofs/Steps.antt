@@ -12,8 +12,8 @@ use Rattle.job.specs.declared.next.NextRecord.the-variants.{Read, CutRecord, Un
 use Rattle.job_fields.specs.Version.{recordSize}
 use Rattle.job_fields.specs.Tops.{unknownPlace}
 use Rattle.job.specs.Records.{recordOf, after, cut, unknown, recordAt}
-use Rattle.report.specs.Replies.{reply, goesOn}
-use Rattle.report.specs.Jobs.{answers, answersFrom}
+use Rattle.job_text.specs.Replies.{reply, goesOn}
+use Rattle.job_text.specs.Jobs.{answers, answersFrom}
 
 module _ (v : Version) (bs : List ℕ) where
   -- reading goes on past the record, or at the end

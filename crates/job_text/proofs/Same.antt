@@ -19,8 +19,8 @@ use Rattle.job_fields.specs.Tops.{topAt, unknownPlace}
 use Rattle.job_fields.specs.Levels.{bitsAt, levelsOf}
 use Rattle.job.specs.Records.{recordOf, after, atEnd, cut, unknown, recordAt}
 use Rattle.patch.specs.declared.settings.Settings.{Settings}
-use Rattle.report.specs.Replies.{reply}
-use Rattle.report.proofs.Sizes.{settings-least}
+use Rattle.job_text.specs.Replies.{reply}
+use Rattle.job_text.proofs.Sizes.{settings-least}
 
 -- k bytes from a on and k bytes from b on are the same
 abbrev pub Agree : ℕ → List ℕ → ℕ → List ℕ → ℕ → Type 0

@@ -3,7 +3,7 @@ ghost use mathlib.Core.Path.{_≡_};
 ghost use Prim.Native.Nat.{_≤_};
 ghost use lib.ListN.{length};
 ghost use Rattle.buffer.specs.Over.{Wrote};
-ghost use Rattle.report.specs.Jobs.{startText, restOf};
+ghost use Rattle.job_text.specs.Jobs.{startText, restOf};
 use job::header::Header;
 use job_fields::version::Version;
 use job_fields::version::version_number;

@@ -17,11 +17,11 @@ use Rattle.job_fields.specs.Version.{recordSize}
 use Rattle.job.specs.Header.{mark, startsWith, headerOf, HeaderMeans}
 use Rattle.job.specs.Records.{recordAt}
 use Rattle.job.proofs.Headers.{header-exactly}
-use Rattle.report.specs.Replies.{reply, goesOn}
-use Rattle.report.specs.Jobs.{answers, answersFrom, startText, restText, jobText, restOf}
-use Rattle.report.specs.Pieces.{joined, Whole, none, last, more, said, WholeAfter, saidAfter, saidOf}
-use Rattle.report.proofs.Steps.{goes-on, answers-end, answers-same, answers-step}
-use Rattle.report.proofs.Same.{agree-after, agree-before, word-agrees, reply-agrees}
+use Rattle.job_text.specs.Replies.{reply, goesOn}
+use Rattle.job_text.specs.Jobs.{answers, answersFrom, startText, restText, jobText, restOf}
+use Rattle.job_text.specs.Pieces.{joined, Whole, none, last, more, said, WholeAfter, saidAfter, saidOf}
+use Rattle.job_text.proofs.Steps.{goes-on, answers-end, answers-same, answers-step}
+use Rattle.job_text.proofs.Same.{agree-after, agree-before, word-agrees, reply-agrees}
 
 -- ---- bytes before the records
 

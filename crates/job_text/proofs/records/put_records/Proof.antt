@@ -5,9 +5,9 @@ use Prim.Native.Nat.{_-_}
 use mathlib.Core.Path.{_≡_}
 use native.Mathlib.Omega.{arith}
 use lib.ListN.{length}
-use Rattle.report.proofs.Answering.{Answering, answering-start, answering-next, answering-step}
-use Rattle.report.proofs.records.put_records.Statement.{statement}
-use Rattle.report.proofs.records.put_records.Tie as tie
+use Rattle.job_text.proofs.Answering.{Answering, answering-start, answering-next, answering-step}
+use Rattle.job_text.proofs.records.put_records.Statement.{statement}
+use Rattle.job_text.proofs.records.put_records.Tie as tie
 
 abbrev Inv-loop : tie.InvT-loop
 Inv-loop out₀ bytes version from vertices₀ indices₀ most written₀ at₀ out vertices indices written at =

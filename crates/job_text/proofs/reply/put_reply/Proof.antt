@@ -1,10 +1,10 @@
 -- Meets its contract. Assumes nothing.
 use borrow.Author.Needs.{needs}
 use Rattle.buffer.proofs.Laws.{wrote-none}
-use Rattle.report.specs.Replies.{reply}
+use Rattle.job_text.specs.Replies.{reply}
 use Rattle.buffer.proofs.Laws.{wrote-as}
-use Rattle.report.proofs.reply.put_reply.Statement.{statement}
-use Rattle.report.proofs.reply.put_reply.Tie as tie
+use Rattle.job_text.proofs.reply.put_reply.Statement.{statement}
+use Rattle.job_text.proofs.reply.put_reply.Tie as tie
 
 enum-known-found : tie.Need-enum-known-found
 enum-known-found c = search needs
