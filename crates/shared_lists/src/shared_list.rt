@@ -2,15 +2,15 @@
 ghost use mathlib.Core.Path.{_≡_};
 ghost use Prim.Native.Nat.{_+_};
 ghost use lib.Dec.{leb};
-ghost use Rattle.shares.specs.SharedList.{share, partStart, withUsed, sound, whole};
-ghost use Rattle.shares.specs.Answers.{accepted};
+ghost use Rattle.shared_lists.specs.SharedList.{share, partStart, withUsed, sound, whole};
+ghost use Rattle.shared_lists.specs.Answers.{accepted};
 use crate::state::Designer;
 use crate::state::Share;
 use crate::state::SharedList;
 use crate::state::State;
 
 // A designer's share.
-pub(crate) fn share_of(list: SharedList, designer: Designer) -> Share
+pub fn share_of(list: SharedList, designer: Designer) -> Share
     ensures { λ r. ⌜ r ≡ share designer list ⌝ }
 {
     match designer {
@@ -20,7 +20,7 @@ pub(crate) fn share_of(list: SharedList, designer: Designer) -> Share
 }
 
 // Where a designer's part begins.
-pub(crate) fn part_start(list: SharedList, designer: Designer) -> usize
+pub fn part_start(list: SharedList, designer: Designer) -> usize
     ensures { λ r. ⌜ r ≡ partStart designer list ⌝ }
 {
     match designer {
@@ -30,7 +30,7 @@ pub(crate) fn part_start(list: SharedList, designer: Designer) -> usize
 }
 
 // The shares with so many words used by a designer.
-pub(crate) fn with_used(list: SharedList, designer: Designer, used: usize) -> SharedList
+pub fn with_used(list: SharedList, designer: Designer, used: usize) -> SharedList
     ensures { λ r. ⌜ r ≡ withUsed designer used list ⌝ }
 {
     let length = list.length;

@@ -1,7 +1,7 @@
 -- Meets its contract. Assumes nothing.
 use borrow.Author.Needs.{needs}
-use Rattle.shares.proofs.shared_list.with_used.Statement.{statement}
-use Rattle.shares.proofs.shared_list.with_used.Tie as tie
+use Rattle.shared_lists.proofs.shared_list.with_used.Statement.{statement}
+use Rattle.shared_lists.proofs.shared_list.with_used.Tie as tie
 
 enum-told : tie.Need-enum-told
 enum-told c = search needs

@@ -1,6 +1,6 @@
 // Clearing a designer's part: its room is free again, and its words stay until they are written over.
 ghost use lib.ListN.{length};
-ghost use Rattle.shares.specs.Operations.{DidClear};
+ghost use Rattle.shared_lists.specs.Operations.{DidClear};
 use crate::answer::ClearAnswer;
 use crate::answer::ClearResult;
 use crate::shared_list::accepts;

@@ -1,10 +1,10 @@
 -- Meets its contract. Assumes nothing.
 use borrow.Author.Tests.{eq-eqb, ne-eqb}
 use Rattle.tessellate.proofs.Tops.{good, bad}
-use Rattle.shares.specs.Answers.{lent, soundState}
+use Rattle.shared_lists.specs.Answers.{lent, soundState}
 use borrow.Author.Needs.{needs}
-use Rattle.shares.proofs.shared_list.accepts.Statement.{statement}
-use Rattle.shares.proofs.shared_list.accepts.Tie as tie
+use Rattle.shared_lists.proofs.shared_list.accepts.Statement.{statement}
+use Rattle.shared_lists.proofs.shared_list.accepts.Tie as tie
 
 returns : tie.Need-returns
 unfolding lent

@@ -6,12 +6,12 @@ use mathlib.Core.Bool.{Bool, true, false, _&&_, false≢true}
 use native.Mathlib.Omega.{arith}
 use lib.Dec.{leb, eqb}
 use borrow.Author.Tests.{leb-true, leb-false, le-leb, lt-leb, eqb-true, eq-eqb}
-use Rattle.shares.specs.declared.state.Designer.{Designer}
-use Rattle.shares.specs.declared.state.Designer.the-variants.{First, Second}
-use Rattle.shares.specs.declared.state.SharedList.{SharedList}
-use Rattle.shares.specs.declared.state.State.{State}
-use Rattle.shares.specs.SharedList.{share, partStart, within, sound, whole, withUsed}
-use Rattle.shares.specs.Answers.{soundState}
+use Rattle.shared_lists.specs.declared.state.Designer.{Designer}
+use Rattle.shared_lists.specs.declared.state.Designer.the-variants.{First, Second}
+use Rattle.shared_lists.specs.declared.state.SharedList.{SharedList}
+use Rattle.shared_lists.specs.declared.state.State.{State}
+use Rattle.shared_lists.specs.SharedList.{share, partStart, within, sound, whole, withUsed}
+use Rattle.shared_lists.specs.Answers.{soundState, clearVerdict}
 
 -- two tests that both hold
 pub both : (a b : Bool) → a && b ≡ true → (a ≡ true) × (b ≡ true)
@@ -106,3 +106,9 @@ minus-test a b n h = go (leb b (n - a)) refl
     go : (t : Bool) → leb b (n - a) ≡ t → leb b (n - a) ≡ leb (a + b) n
     go true e = e ∙ sym (le-leb (a + b) n (omega (arith, leb-true b (n - a) e)))
     go false e = e ∙ sym (lt-leb (a + b) n (omega (arith, leb-false b (n - a) e)))
+
+-- clearing is refused for the state or the lists alone
+pub cleared : (ok : Bool) → clearVerdict ok .number ≡ 0 → ok ≡ true
+unfolding clearVerdict
+cleared true h = refl
+cleared false h = absurd (omega arith)

@@ -6,10 +6,10 @@ use mathlib.Core.List.{List}
 use lib.Dec.{leb, eqb}
 use lib.ListN.{length, take, drop}
 use Rattle.buffer.specs.Over.{over}
-use Rattle.shares.specs.declared.state.Designer.{Designer}
-use Rattle.shares.specs.declared.state.Designer.the-variants.{First, Second}
-use Rattle.shares.specs.declared.state.Share.{Share}
-use Rattle.shares.specs.declared.state.SharedList.{SharedList}
+use Rattle.shared_lists.specs.declared.state.Designer.{Designer}
+use Rattle.shared_lists.specs.declared.state.Designer.the-variants.{First, Second}
+use Rattle.shared_lists.specs.declared.state.Share.{Share}
+use Rattle.shared_lists.specs.declared.state.SharedList.{SharedList}
 
 -- a designer's share
 abbrev pub share : Designer → SharedList → Share

@@ -1,7 +1,7 @@
 // Starting: both designers' quotas, or their refusal as a whole.
 ghost use lib.ListN.{length};
 ghost use mathlib.Core.Path.{_≡_};
-ghost use Rattle.shares.specs.Operations.{DidStart, unusedList};
+ghost use Rattle.shared_lists.specs.Operations.{DidStart, unusedList};
 use crate::answer::StartAnswer;
 use crate::shared_list::quotas_fit;
 use crate::state::Quota;

@@ -1,8 +1,8 @@
 -- Meets its contract. Assumes nothing.
 use borrow.Author.Tests.{eq-eqb, ne-eqb}
-use Rattle.shares.specs.SharedList.{whole}
-use Rattle.shares.proofs.shared_list.is_whole.Statement.{statement}
-use Rattle.shares.proofs.shared_list.is_whole.Tie as tie
+use Rattle.shared_lists.specs.SharedList.{whole}
+use Rattle.shared_lists.proofs.shared_list.is_whole.Statement.{statement}
+use Rattle.shared_lists.proofs.shared_list.is_whole.Tie as tie
 
 returns : tie.Need-returns
 unfolding whole

@@ -1,10 +1,10 @@
 -- Meets its contract. Assumes nothing.
 use borrow.Author.Tests.{le-leb, lt-leb}
 use Rattle.tessellate.proofs.Tops.{good, bad}
-use Rattle.shares.specs.SharedList.{sound}
+use Rattle.shared_lists.specs.SharedList.{sound}
 use borrow.Author.Needs.{needs}
-use Rattle.shares.proofs.shared_list.is_sound.Statement.{statement}
-use Rattle.shares.proofs.shared_list.is_sound.Tie as tie
+use Rattle.shared_lists.proofs.shared_list.is_sound.Statement.{statement}
+use Rattle.shared_lists.proofs.shared_list.is_sound.Tie as tie
 
 quotas-fit-requires : tie.Need-quotas-fit-requires
 quotas-fit-requires c κs = search needs

@@ -2,10 +2,10 @@
 use Prim.Native.Nat.{_+_}
 use mathlib.Core.Path.{sym}
 use borrow.Author.Tests.{lt-leb}
-use Rattle.shares.proofs.Sound.{minus-test}
+use Rattle.shared_lists.proofs.Sound.{minus-test}
 use native.Mathlib.Omega.{arith}
-use Rattle.shares.proofs.shared_list.quotas_fit.Statement.{statement}
-use Rattle.shares.proofs.shared_list.quotas_fit.Tie as tie
+use Rattle.shared_lists.proofs.shared_list.quotas_fit.Statement.{statement}
+use Rattle.shared_lists.proofs.shared_list.quotas_fit.Tie as tie
 
 returns : tie.Need-returns
 returns c = let a = c .before .args in sym (lt-leb (a .first + a .second) (a .length) (omega arith))
