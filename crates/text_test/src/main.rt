@@ -37,32 +37,31 @@ fn put_one(out: &mut [u8], at: usize, x: u32) -> usize
     text::put_line1(out, at, x)
 }
 
+// Six numbers.
+fn put_six(out: &mut [u8], at: usize, numbers: [u32; 6]) -> usize
+    requires { ⌜ at + 66 ≤ length (now out) ⌝ }
+    ensures { λ r. ⌜ r ≤ at + 66 ⌝ }
+{
+    let mut w = at;
+    let mut i = 0;
+    while i < 6 {
+        w = put_one(out, w, numbers[i]);
+        i += 1;
+    }
+    w
+}
+
 // Numbers of one digit to ten.
 fn put_numbers(out: &mut [u8], at: usize) -> usize
     requires { ⌜ at + 132 ≤ length (now out) ⌝ }
     ensures { λ r. ⌜ r ≤ at + 132 ⌝ }
 {
-    let numbers = [
-        0u32,
-        7,
-        10,
-        99,
-        100,
-        1234,
-        65536,
-        999999,
-        1000000,
-        16777216,
-        999999999,
-        4294967295,
-    ];
-    let mut w = at;
-    let mut i = 0;
-    while i < 12 {
-        w = put_one(out, w, numbers[i]);
-        i += 1;
-    }
-    w
+    let w = put_six(out, at, [0, 7, 10, 99, 100, 1234]);
+    put_six(
+        out,
+        w,
+        [65536, 999999, 1000000, 16777216, 999999999, 4294967295],
+    )
 }
 
 // Answers without a list, primitives of one and of two indices, and the title of a file of version 2.

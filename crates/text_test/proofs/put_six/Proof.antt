@@ -3,14 +3,14 @@ use borrow.Author.Needs.{needs}
 use Prim.Native.Nat.{_+_, _-_, _*_, _≤_}
 use mathlib.Core.Path.{_≡_}
 use lib.ListN.{length}
-use Rattle.text_test.proofs.put_numbers.Statement.{statement}
-use Rattle.text_test.proofs.put_numbers.Tie as tie
+use Rattle.text_test.proofs.put_six.Statement.{statement}
+use Rattle.text_test.proofs.put_six.Tie as tie
 
 abbrev Inv-loop : tie.InvT-loop
-Inv-loop out₀ at numbers w₀ i₀ out w i = (i ≤ 12) × (w ≤ at + 11 * i) × (length out ≡ length out₀)
+Inv-loop out₀ at numbers w₀ i₀ out w i = (i ≤ 6) × (w ≤ at + 11 * i) × (length out ≡ length out₀)
 
 abbrev μ-loop : tie.MeasureT-loop
-μ-loop out₀ at numbers w₀ i₀ out w i = 12 - i
+μ-loop out₀ at numbers w₀ i₀ out w i = 6 - i
 
 loop-holds : tie.Need-loop-holds Inv-loop μ-loop
 loop-holds c = search needs
@@ -39,8 +39,8 @@ same-length c = search needs
 returns : tie.Need-returns Inv-loop μ-loop
 returns c = search needs
 
-pub put-numbers-spec : {M : Type 1} → statement M
-put-numbers-spec =
+pub put-six-spec : {M : Type 1} → statement M
+put-six-spec =
     tie.close
     (tie.spec
     Inv-loop
