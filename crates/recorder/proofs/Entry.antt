@@ -22,12 +22,12 @@ use Rattle.job_writer.specs.Written.{recordBytes}
 use Rattle.job_writer.proofs.Lengths.{record-length}
 use Rattle.job_writer.proofs.Has.{Has, has-front, has-back, has-byte, word-has}
 use Rattle.job_writer.proofs.RoundTrip.{record-same}
-use Rattle.replay.specs.declared.outcome.Outcome.{Outcome}
-use Rattle.replay.specs.Outcomes.{refusal, drawn, patchOutcome}
-use Rattle.replay.specs.Entries.{recordOutcome, recorded, replayed, agrees}
-use Rattle.replay.proofs.Drawings.{drawn-together}
-use Rattle.replay.proofs.Today.{replayed-read, read-top}
-use Rattle.replay.proofs.Sides.{equal-same}
+use Rattle.replay_entry.specs.declared.outcome.Outcome.{Outcome}
+use Rattle.replay_entry.specs.Outcomes.{refusal, drawn, patchOutcome}
+use Rattle.replay_entry.specs.Entries.{recordOutcome, recorded, replayed, agrees}
+use Rattle.replay_entry.proofs.Drawings.{drawn-together}
+use Rattle.replay_entry.proofs.Today.{replayed-read, read-top}
+use Rattle.replay_entry.proofs.Sides.{equal-same}
 use Rattle.recorder.specs.Recordings.{Call, Made, answered, outcomeBytes, entryBytes}
 
 -- both counts of a patch fit two bytes

@@ -15,7 +15,7 @@ use Rattle.job.specs.Patches.{patchOf}
 use Rattle.job_writer.specs.Written.{recordBytes}
 use Rattle.job_writer.specs.Patterns.{Agrees}
 use Rattle.job_writer.specs.Whole.{Writable}
-use Rattle.replay.specs.declared.outcome.Outcome.{Outcome}
+use Rattle.replay_entry.specs.declared.outcome.Outcome.{Outcome}
 use Rattle.replay.specs.Replays.{mark}
 
 -- a call: a record, and what the two drawing operations answered to it

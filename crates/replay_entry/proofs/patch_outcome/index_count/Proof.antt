@@ -2,10 +2,10 @@
 use borrow.Author.Needs.{needs}
 use mathlib.Core.Path.{sym, ap}
 use Rattle.tessellate.specs.Answers.{toldIndices}
-use Rattle.replay.specs.Outcomes.{partOf}
-use Rattle.replay.proofs.Drawings.{no-indices}
-use Rattle.replay.proofs.patch_outcome.index_count.Statement.{statement}
-use Rattle.replay.proofs.patch_outcome.index_count.Tie as tie
+use Rattle.replay_entry.specs.Outcomes.{partOf}
+use Rattle.replay_entry.proofs.Drawings.{no-indices}
+use Rattle.replay_entry.proofs.patch_outcome.index_count.Statement.{statement}
+use Rattle.replay_entry.proofs.patch_outcome.index_count.Tie as tie
 
 enum-known-answer : tie.Need-enum-known-answer
 enum-known-answer c = search needs
