@@ -20,12 +20,12 @@ use Rattle.job_fields.specs.Settings.{choices, settingsAt}
 use Rattle.job_fields.specs.Version.{recordSize}
 use Rattle.job.specs.Records.{recordAt}
 use Rattle.job_fields.proofs.Limits.{first-none}
-use Rattle.job_writer.specs.Written.{fiveBytes, takesTop, recordBytes}
-use Rattle.job_writer.specs.Patterns.{Agrees, recordOfBits}
+use Rattle.job_bytes.specs.Written.{fiveBytes, takesTop, recordBytes}
+use Rattle.job_bytes.specs.Patterns.{Agrees, recordOfBits}
 use Rattle.job_writer.specs.Whole.{Bytes}
 use Rattle.job_writer.specs.Answers.{wrote, recordVerdict}
 use Rattle.job_writer.proofs.Has.{Has}
-use Rattle.job_writer.proofs.Lengths.{record-length}
+use Rattle.job_bytes.proofs.Lengths.{record-length}
 use Rattle.job_writer.proofs.SettingBytes.{five-known, five-kind, five-settings}
 use Rattle.job_writer.proofs.RoundTrip.{record-again}
 use Rattle.job_exports.specs.declared.found.Found.{Found}

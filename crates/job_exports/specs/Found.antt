@@ -8,7 +8,7 @@ use Rattle.job.specs.declared.record.Record.{Record}
 use Rattle.job.specs.declared.next.NextRecord.{NextRecord}
 use Rattle.job.specs.declared.next.NextRecord.the-variants.{Read, End, CutRecord, UnknownSetting}
 use Rattle.job.specs.Records.{recordAt, atEnd}
-use Rattle.job_writer.specs.Written.{kindByte, spacingByte, orderByte, originByte, switchByte}
+use Rattle.job_bytes.specs.Written.{kindByte, spacingByte, orderByte, originByte, switchByte}
 use Rattle.job_exports.specs.declared.found.Found.{Found}
 use Rattle.job_exports.specs.Inputs.{isVersion, versionIn}
 

@@ -8,11 +8,11 @@ use job::cursor::Cursor;
 use job::next::NextRecord;
 use job::next::read_record;
 use job::record::Record;
+use job_bytes::setting_bytes::kind_byte;
+use job_bytes::setting_bytes::order_byte;
+use job_bytes::setting_bytes::origin_byte;
+use job_bytes::setting_bytes::spacing_byte;
 use job_fields::levels::LevelBits;
-use job_writer::setting_bytes::kind_byte;
-use job_writer::setting_bytes::order_byte;
-use job_writer::setting_bytes::origin_byte;
-use job_writer::setting_bytes::spacing_byte;
 
 // All is 0 but the number and where to read on, unless a record was read or a setting is unknown.
 pub struct Found {

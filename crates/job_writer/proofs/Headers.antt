@@ -11,9 +11,9 @@ use Rattle.job_fields.specs.Bytes.{lowBytes}
 use Rattle.job_fields.specs.Version.{versionNumber}
 use Rattle.job.specs.Header.{mark, start, headerOf}
 use Rattle.job.proofs.Headers.{header-exactly}
-use Rattle.job_writer.specs.Written.{headerBytes}
+use Rattle.job_bytes.specs.Written.{headerBytes}
 use Rattle.job_writer.specs.Whole.{Bytes}
-use Rattle.job_writer.proofs.Lengths.{number-small, header-length}
+use Rattle.job_bytes.proofs.Lengths.{number-small, header-length}
 use Rattle.job_writer.proofs.Has.{Has, has-front, has-back, has-both, has-within, word-has, has-word}
 
 -- bytes that begin with a header are read as it

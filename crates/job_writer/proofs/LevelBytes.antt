@@ -8,10 +8,10 @@ use lib.ListN.{length}
 use Rattle.job_fields.specs.declared.levels.LevelBits.{LevelBits}
 use Rattle.job_fields.specs.Bytes.{word, lowBytes}
 use Rattle.job_fields.specs.Levels.{bitsAt}
-use Rattle.job_writer.specs.Written.{levelBytes}
-use Rattle.job_writer.specs.Patterns.{Patterns}
+use Rattle.job_bytes.specs.Written.{levelBytes}
+use Rattle.job_bytes.specs.Patterns.{Patterns}
 use Rattle.job_writer.specs.Whole.{Bytes}
-use Rattle.job_writer.proofs.LowBytes.{low-length}
+use Rattle.job_bytes.proofs.LowBytes.{low-length}
 use Rattle.job_writer.proofs.Has.{Has, has-front, has-back, has-both, word-has, has-word}
 
 module _ {bs : List ℕ} {at : ℕ} (next : ℕ) (e : at + 4 ≡ next) where

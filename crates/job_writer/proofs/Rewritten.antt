@@ -20,11 +20,11 @@ use Rattle.job.specs.Header.{headerOf}
 use Rattle.job.specs.Records.{recordAt}
 use Rattle.job_writer.specs.declared.answer.HeaderWritten.{HeaderWritten}
 use Rattle.job_writer.specs.declared.answer.RecordWritten.{RecordWritten}
-use Rattle.job_writer.specs.Written.{headerBytes, recordBytes, takesTop}
+use Rattle.job_bytes.specs.Written.{headerBytes, recordBytes, takesTop}
 use Rattle.job_writer.specs.Whole.{Bytes, Reads, recordsBytes, fileBytes}
 use Rattle.job_writer.specs.Answers.{wrote, toldHeader, toldRecord, roomVerdict, recordVerdict, WroteHeader, WroteRecord}
 use Rattle.job_writer.specs.InTurn.{RecordsInTurn, none, more, FileInTurn}
-use Rattle.job_writer.proofs.Lengths.{header-length, record-length}
+use Rattle.job_bytes.proofs.Lengths.{header-length, record-length}
 use Rattle.job_writer.proofs.Headers.{header-again}
 use Rattle.job_writer.proofs.RoundTrip.{record-again}
 use Rattle.job_writer.proofs.WholeFiles.{file-again}

@@ -13,7 +13,7 @@ use Rattle.job_fields.specs.Bytes.{byteAt}
 use Rattle.job_fields.specs.Version.{recordSize}
 use Rattle.job_fields.specs.Settings.{choices, AllBelow}
 use Rattle.job_fields.specs.Tops.{topAt, AllKnown}
-use Rattle.job_writer.specs.Written.{takesTop, topBytes}
+use Rattle.job_bytes.specs.Written.{takesTop, topBytes}
 use Rattle.job_writer.proofs.Has.{Has, has-byte, has-all}
 
 module _ (bs : List ℕ) (at : ℕ) where

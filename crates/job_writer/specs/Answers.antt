@@ -18,7 +18,7 @@ use Rattle.job_writer.specs.declared.answer.HeaderWritten.{HeaderWritten
 use Rattle.job_writer.specs.declared.answer.HeaderWritten.the-variants as header
 use Rattle.job_writer.specs.declared.answer.RecordWritten.{RecordWritten}
 use Rattle.job_writer.specs.declared.answer.RecordWritten.the-variants as «record»
-use Rattle.job_writer.specs.Written.{headerBytes, takesTop, recordBytes}
+use Rattle.job_bytes.specs.Written.{headerBytes, takesTop, recordBytes}
 use Rattle.job_writer.specs.Whole.{reread}
 
 -- n bytes were written: 0, as where something was drawn

@@ -12,8 +12,8 @@ use Rattle.job_fields.specs.Bytes.{byteAt}
 use Rattle.job_fields.specs.Levels.{levelsOf}
 use Rattle.job.specs.Header.{headerOf}
 use Rattle.job.specs.Records.{recordAt}
-use Rattle.job_writer.specs.Written.{headerBytes, takesTop, recordBytes}
-use Rattle.job_writer.specs.Patterns.{Patterns, Agrees}
+use Rattle.job_bytes.specs.Written.{headerBytes, takesTop, recordBytes}
+use Rattle.job_bytes.specs.Patterns.{Patterns, Agrees}
 
 -- every number of the list is a byte
 abbrev pub Bytes : List ℕ → Type 0

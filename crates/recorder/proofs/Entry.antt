@@ -18,8 +18,8 @@ use Rattle.job.specs.declared.next.NextRecord.the-variants.{Read}
 use Rattle.job_fields.specs.Bytes.{lowBytes}
 use Rattle.job.specs.Patches.{patchOf}
 use Rattle.job.specs.Records.{recordAt, after}
-use Rattle.job_writer.specs.Written.{recordBytes}
-use Rattle.job_writer.proofs.Lengths.{record-length}
+use Rattle.job_bytes.specs.Written.{recordBytes}
+use Rattle.job_bytes.proofs.Lengths.{record-length}
 use Rattle.job_writer.proofs.Has.{Has, has-front, has-back, has-byte, word-has}
 use Rattle.job_writer.proofs.RoundTrip.{record-same}
 use Rattle.replay_entry.specs.declared.outcome.Outcome.{Outcome}

@@ -12,8 +12,8 @@ use Rattle.job_fields.specs.declared.version.Version.the-variants.{One}
 use Rattle.job.specs.declared.record.Record.{Record}
 use Rattle.job_fields.specs.Bytes.{lowBytes}
 use Rattle.job.specs.Patches.{patchOf}
-use Rattle.job_writer.specs.Written.{recordBytes}
-use Rattle.job_writer.specs.Patterns.{Agrees}
+use Rattle.job_bytes.specs.Written.{recordBytes}
+use Rattle.job_bytes.specs.Patterns.{Agrees}
 use Rattle.job_writer.specs.Whole.{Writable}
 use Rattle.replay_entry.specs.declared.outcome.Outcome.{Outcome}
 use Rattle.replay.specs.Replays.{mark}
