@@ -1,6 +1,6 @@
 -- The numbers that pass a test: how a loop counts them, and how a loop writes their words.
 -- Assumes nothing.
-use Prim.Native.Nat.{ℕ, zero, suc, _+_, _*_, _-_, _≤_, _<_}
+use Prim.Native.Nat.{ℕ, zero, suc, _+_, _*_, _-_, _/_, _≤_, _<_}
 use mathlib.Core.Path.{_≡_, refl, ap, _∙_}
 use mathlib.Core.Bool.{Bool, true, false, cond, true≢false}
 use mathlib.Core.List.{List, [], _∷_, _++_}
@@ -10,9 +10,12 @@ use lib.ListN.{length, length-append}
 use Rattle.buffer.specs.Over.{flat}
 use Rattle.buffer.proofs.Laws.{flat-step, flat-all, flat-done}
 use Rattle.mesh.specs.Cover.{Face}
+use Rattle.drawing.specs.Words.{readPoints, readTriangles}
+use Rattle.searches.specs.Points.{samePoint}
 use Rattle.searches.proofs.First.{Below}
+use Rattle.searches.proofs.Read.{points-count, triangles-count}
 use Rattle.differences.specs.Lacking.{Row, passing, lacks, lacking}
-use Rattle.differences.specs.Meshes.{sameFace}
+use Rattle.differences.specs.Meshes.{pointsIn, facesIn, sameFace}
 use Rattle.differences.specs.Found.{AllInPlace}
 use Rattle.differences.proofs.Lacks.{in-place-found}
 use Rattle.differences.specs.Differences.{Difference, each, words, wordsIf}
@@ -58,7 +61,7 @@ flat-most t i zero = omega arith
 flat-most t i (suc k) =
     rw (length-append (one t i) (flat (one t) (i + 1) k), one-length (t i) i) (omega (arith, cond-most (t i), flat-most t (i + 1) k))
 
-pub passing-most : (t : ℕ → Bool) (n : ℕ) → length (passing t n) ≤ n
+passing-most : (t : ℕ → Bool) (n : ℕ) → length (passing t n) ≤ n
 unfolding passing
 passing-most t n = flat-most t 0 n
 
@@ -109,3 +112,24 @@ passing-none t n h = flat-none t 0 n (λ j l. let e : 0 + j ≡ j = omega arith 
 -- every triangle is in its place
 pub in-place-none : (xs ys : Row Face) → AllInPlace xs ys → lacking sameFace xs ys ≡ []
 in-place-none xs ys h = passing-none (lacks sameFace xs ys) (xs .count) (λ k l. in-place-found xs ys k (h .each k l))
+
+-- ---- no more differ than there are, in meshes given as words
+few-points : (pw qw : List ℕ) → length (lacking samePoint (pointsIn pw) (pointsIn qw)) ≤ length pw / 3
+few-points pw qw = omega (arith, passing-most (lacks samePoint (pointsIn pw) (pointsIn qw)) (length (readPoints pw)), points-count pw)
+
+few-faces : (pw iw qw jw : List ℕ) → length (lacking sameFace (facesIn pw iw) (facesIn qw jw)) ≤ length iw / 3
+few-faces pw iw qw jw = omega (arith, passing-most (lacks sameFace (facesIn pw iw) (facesIn qw jw)) (length (readTriangles iw)), triangles-count iw)
+
+pub record Few (pw iw qw jw : List ℕ) : Type 0 where
+  pub left-points : length (lacking samePoint (pointsIn pw) (pointsIn qw)) ≤ length pw / 3
+  pub right-points : length (lacking samePoint (pointsIn qw) (pointsIn pw)) ≤ length qw / 3
+  pub left-faces : length (lacking sameFace (facesIn pw iw) (facesIn qw jw)) ≤ length iw / 3
+  pub right-faces : length (lacking sameFace (facesIn qw jw) (facesIn pw iw)) ≤ length jw / 3
+
+pub few : (pw iw qw jw : List ℕ) → Few pw iw qw jw
+few pw iw qw jw = record {
+  left-points = few-points pw qw;
+  right-points = few-points qw pw;
+  left-faces = few-faces pw iw qw jw;
+  right-faces = few-faces qw jw pw iw;
+}

@@ -15,7 +15,7 @@ use Rattle.patch.specs.Subdivide.{discards}
 use Rattle.drawing.specs.Words.{readPoints}
 use Rattle.drawing.specs.Demand.{Demand}
 use Rattle.drawing.specs.Inside.{SpotsOnce}
-use Rattle.job.specs.Settings.{firstUnknown}
+use Rattle.job_fields.specs.Settings.{firstUnknown}
 use Rattle.tessellate.specs.declared.answer.PointsAnswer.the-variants as points
 use Rattle.tessellate.specs.declared.answer.IndicesAnswer.the-variants as indices
 use Rattle.tessellate.specs.Answers.{Told, refused, drew, pointsOf, indicesOf, verdict, pointsVerdict, indicesVerdict}

@@ -9,7 +9,7 @@ use lib.Dec.{ltb}
 use lib.Ieee.{Float}
 use lib.ListN.{length}
 use Rattle.level.specs.Top.{isTop}
-use Rattle.job.specs.Settings.{firstUnknown}
+use Rattle.job_fields.specs.Settings.{firstUnknown}
 use Rattle.tessellate.specs.Answers.{Told, toldSize, pointsVerdict, indicesVerdict, measured}
 use Rattle.tessellate.specs.Draws.{after, pointWords, connectionWords}
 use Rattle.exports.specs.Inputs.{topIn, patchIn, settingsIn}

@@ -3,10 +3,10 @@ use Prim.Native.Nat.{ℕ}
 use mathlib.Core.List.{List}
 use lib.Ieee.{Float, nan}
 use lib.ListN.{getD}
-use Rattle.job.specs.Bytes.{byteAt}
-use Rattle.job.specs.Settings.{kindOf, settingsAt}
+use Rattle.job_fields.specs.Bytes.{byteAt}
+use Rattle.job_fields.specs.Settings.{kindOf, settingsAt}
 use Rattle.job.specs.Patches.{patchWith}
-use Rattle.job.specs.declared.levels.Levels.{Levels}
+use Rattle.job_fields.specs.declared.levels.Levels.{Levels}
 use Rattle.patch.specs.declared.kinds.Patch.{Patch}
 use Rattle.patch.specs.declared.settings.Settings.{Settings}
 

@@ -19,14 +19,14 @@ pub extern "C" fn yoktvarim_draw_points(
     if !level::is_top(top) {
         return say_one(bad_top(), count);
     }
-    let place = job::setting::first_unknown(settings, 0);
+    let place = job_fields::setting::first_unknown(settings, 0);
     if place < 5 {
         return say_one(unknown_setting(place), count);
     }
     let patch = crate::input::patch_in(settings, levels);
     let answer = tessellate::draw::draw_points(
         patch,
-        job::setting::read_settings(settings, 0, top),
+        job_fields::setting::read_settings(settings, 0, top),
         vertices,
     );
     say_one(of_points(answer), count)
@@ -45,14 +45,14 @@ pub extern "C" fn yoktvarim_draw_indices(
     if !level::is_top(top) {
         return say_one(bad_top(), count);
     }
-    let place = job::setting::first_unknown(settings, 0);
+    let place = job_fields::setting::first_unknown(settings, 0);
     if place < 5 {
         return say_one(unknown_setting(place), count);
     }
     let patch = crate::input::patch_in(settings, levels);
     let answer = tessellate::draw::draw_indices(
         patch,
-        job::setting::read_settings(settings, 0, top),
+        job_fields::setting::read_settings(settings, 0, top),
         indices,
     );
     say_one(of_indices(answer), count)

@@ -3,7 +3,7 @@ ghost use mathlib.Core.Path.{_≡_};
 ghost use Prim.Native.Nat.{_≤_};
 ghost use lib.ListN.{length};
 ghost use Rattle.exports.specs.Inputs.{topIn, patchIn};
-use job::setting::Kind;
+use job_fields::setting::Kind;
 use patch::kinds::Patch;
 
 // The top level, whether or not it is one.
@@ -17,7 +17,7 @@ pub fn top_in(settings: &[u8]) -> u32
 pub fn patch_in(settings: &[u8; 6], levels: &[f32; 6]) -> Patch
     ensures { λ r. ⌜ r ≡ patchIn (now (settings .entry)) (now (levels .entry)) ⌝ }
 {
-    let kind = job::setting::kind_of(settings[0]);
+    let kind = job_fields::setting::kind_of(settings[0]);
     match kind {
         Kind::Triangles => Patch::Triangles {
             outer0: levels[0],

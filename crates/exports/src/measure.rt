@@ -19,13 +19,16 @@ pub extern "C" fn yoktvarim_measure(
         crate::clamps::say_nothing(clamps);
         return say_two(bad_top(), counts);
     }
-    let place = job::setting::first_unknown(settings, 0);
+    let place = job_fields::setting::first_unknown(settings, 0);
     if place < 5 {
         crate::clamps::say_nothing(clamps);
         return say_two(unknown_setting(place), counts);
     }
     let patch = crate::input::patch_in(settings, levels);
-    let size = tessellate::measure::measure(patch, job::setting::read_settings(settings, 0, top));
+    let size = tessellate::measure::measure(
+        patch,
+        job_fields::setting::read_settings(settings, 0, top),
+    );
     crate::clamps::say_clamps(size, clamps);
     say_two(of_size(size), counts)
 }

@@ -6,7 +6,7 @@ use mathlib.Core.List.{List}
 use native.Mathlib.Omega.{arith}
 use lib.Ieee.{Float}
 use Rattle.level.specs.Top.{isTop}
-use Rattle.job.specs.Settings.{firstUnknown}
+use Rattle.job_fields.specs.Settings.{firstUnknown}
 use Rattle.tessellate.specs.Answers.{Told}
 use Rattle.exports.specs.Inputs.{topIn, patchIn, settingsIn}
 use Rattle.exports.specs.Replies.{unknownSetting, badTop, twoWords}

@@ -8,7 +8,7 @@ use lib.Dec.{ltb}
 use lib.Ieee.{Float}
 use Rattle.level.specs.Top.{isTop}
 use Rattle.patch.specs.Subdivide.{discards}
-use Rattle.job.specs.Settings.{firstUnknown}
+use Rattle.job_fields.specs.Settings.{firstUnknown}
 use Rattle.tessellate.specs.Answers.{refused, pointsOf, indicesOf, drewBoth}
 use Rattle.exports.specs.Inputs.{topIn, patchIn, settingsIn}
 use Rattle.exports.specs.Replies.{unknownSetting, badTop}

@@ -45,14 +45,14 @@ pub extern "C" fn yoktvarim_draw_with_floats(
     if !level::is_top(top) {
         return say_two(bad_top(), counts);
     }
-    let place = job::setting::first_unknown(settings, 0);
+    let place = job_fields::setting::first_unknown(settings, 0);
     if place < 5 {
         return say_two(unknown_setting(place), counts);
     }
     let patch = exports::input::patch_in(settings, levels);
     let answer = float_drawing::draw::draw_with_floats(
         patch,
-        job::setting::read_settings(settings, 0, top),
+        job_fields::setting::read_settings(settings, 0, top),
         vertices,
         indices,
         floats,

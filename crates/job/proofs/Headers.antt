@@ -8,12 +8,12 @@ use mathlib.Core.List.{List, [], _∷_}
 use mathlib.Core.Logic.{_↔_, inl, inr}
 use borrow.Author.Tests.{lt-ltb, le-ltb, ne-eqb}
 use lib.ListN.{length, take}
-use Rattle.job.specs.declared.version.Version.{Version}
-use Rattle.job.specs.declared.version.Version.the-variants.{One, Two}
+use Rattle.job_fields.specs.declared.version.Version.{Version}
+use Rattle.job_fields.specs.declared.version.Version.the-variants.{One, Two}
 use Rattle.job.specs.declared.header.Header.{Header}
 use Rattle.job.specs.declared.header.Header.the-variants.{Read, NotAJob, UnknownVersion}
-use Rattle.job.specs.Bytes.{word}
-use Rattle.job.specs.Version.{versionNumber}
+use Rattle.job_fields.specs.Bytes.{word}
+use Rattle.job_fields.specs.Version.{versionNumber}
 use Rattle.job.specs.Header.{mark, startsWith, lacksMark, start, headerOf, headerNumber, HeaderRead, HeaderMeans}
 use Rattle.job.proofs.Numbers.{apart}
 use Rattle.job.proofs.Marks.{starts-take, take-starts}

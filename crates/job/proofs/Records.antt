@@ -9,17 +9,17 @@ use mathlib.Core.Logic.{_↔_, inl, inr}
 use borrow.Author.Tests.{lt-ltb, le-ltb, le-leb, lt-leb}
 use lib.ListN.{length}
 use Rattle.level.specs.Top.{isTop}
-use Rattle.job.specs.declared.version.Version.{Version}
+use Rattle.job_fields.specs.declared.version.Version.{Version}
 use Rattle.job.specs.declared.cursor.Cursor.{Cursor}
 use Rattle.job.specs.declared.record.Record.{Record}
 use Rattle.job.specs.declared.next.NextRecord.{NextRecord}
 use Rattle.job.specs.declared.next.NextRecord.the-variants.{Read, End, CutRecord, UnknownSetting}
-use Rattle.job.specs.Levels.{levelsOf}
-use Rattle.job.specs.Version.{settingBytes, recordSize}
-use Rattle.job.specs.Tops.{unknownPlace}
+use Rattle.job_fields.specs.Levels.{levelsOf}
+use Rattle.job_fields.specs.Version.{settingBytes, recordSize}
+use Rattle.job_fields.specs.Tops.{unknownPlace}
 use Rattle.job.specs.Records.{recordOf, recordAt, recordNumber, RecordRead, RecordMeans, after, atEnd, cut}
 use Rattle.job.proofs.Numbers.{apart}
-use Rattle.job.proofs.Tops.{place-means, first-place, all-place, all-top}
+use Rattle.job_fields.proofs.Tops.{place-means, first-place, all-place, all-top}
 
 module _ (v : Version) (bs : List ℕ) (at : ℕ) where
   pub record-end : length bs ≤ at → recordAt v bs at ≡ End

@@ -6,15 +6,15 @@ use mathlib.Core.List.{List}
 use mathlib.Core.Logic.{_↔_}
 use lib.Dec.{leb, ltb}
 use lib.ListN.{length, take}
-use Rattle.job.specs.declared.version.Version.the-variants.{One}
+use Rattle.job_fields.specs.declared.version.Version.the-variants.{One}
 use Rattle.job.specs.declared.cursor.Cursor.{Cursor}
 use Rattle.job.specs.declared.header.Header.the-variants as header
 use Rattle.job.specs.declared.next.NextRecord.the-variants.{Read, End, CutRecord, UnknownSetting}
-use Rattle.job.specs.Bytes.{byteAt, word}
+use Rattle.job_fields.specs.Bytes.{byteAt, word}
 use Rattle.job.specs.Header.{mark, headerOf}
-use Rattle.job.specs.Settings.{firstUnknown, kindOf, settingsAt}
-use Rattle.job.specs.Tops.{unknownPlace}
-use Rattle.job.specs.Levels.{bitsAt, levelsOf}
+use Rattle.job_fields.specs.Settings.{firstUnknown, kindOf, settingsAt}
+use Rattle.job_fields.specs.Tops.{unknownPlace}
+use Rattle.job_fields.specs.Levels.{bitsAt, levelsOf}
 use Rattle.job.specs.Records.{recordOf, recordAt}
 use Rattle.job.proofs.Headers.{header-exactly}
 

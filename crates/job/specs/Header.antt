@@ -6,9 +6,9 @@ use mathlib.Core.List.{List, [], _∷_}
 use mathlib.Core.Logic.{_⊎_, _↔_}
 use lib.ListN.{length, take}
 use lib.Dec.{ltb, eqb}
-use Rattle.job.specs.Bytes.{word}
-use Rattle.job.specs.Version.{versionNumber}
-use Rattle.job.specs.declared.version.Version.the-variants.{One, Two}
+use Rattle.job_fields.specs.Bytes.{word}
+use Rattle.job_fields.specs.Version.{versionNumber}
+use Rattle.job_fields.specs.declared.version.Version.the-variants.{One, Two}
 use Rattle.job.specs.declared.cursor.Cursor.{Cursor}
 use Rattle.job.specs.declared.header.Header.{Header}
 use Rattle.job.specs.declared.header.Header.the-variants.{Read, NotAJob, UnknownVersion}

@@ -1,8 +1,8 @@
 -- The patch that a record asks for. Assumes nothing.
-use Rattle.job.specs.declared.levels.Levels.{Levels}
+use Rattle.job_fields.specs.declared.levels.Levels.{Levels}
 use Rattle.job.specs.declared.record.Record.{Record}
-use Rattle.job.specs.declared.setting.Kind.{Kind}
-use Rattle.job.specs.declared.setting.Kind.the-variants as kind
+use Rattle.job_fields.specs.declared.setting.Kind.{Kind}
+use Rattle.job_fields.specs.declared.setting.Kind.the-variants as kind
 use Rattle.patch.specs.declared.kinds.Patch.{Patch}
 use Rattle.patch.specs.declared.kinds.Patch.the-variants.{Triangles, Quads, Isolines}
 

@@ -6,12 +6,12 @@ use mathlib.Core.List.{List, [], _∷_}
 use mathlib.Core.Logic.{_↔_}
 use lib.ListN.{length}
 use lib.Dec.{leb, ltb}
-use Rattle.job.specs.Bytes.{byteAt}
-use Rattle.job.specs.Version.{settingBytes, recordSize}
-use Rattle.job.specs.Settings.{kindOf, settingsAt}
-use Rattle.job.specs.Tops.{topAt, unknownPlace, FirstUnknown, AllKnown}
-use Rattle.job.specs.Levels.{bitsAt, levelsOf}
-use Rattle.job.specs.declared.version.Version.{Version}
+use Rattle.job_fields.specs.Bytes.{byteAt}
+use Rattle.job_fields.specs.Version.{settingBytes, recordSize}
+use Rattle.job_fields.specs.Settings.{kindOf, settingsAt}
+use Rattle.job_fields.specs.Tops.{topAt, unknownPlace, FirstUnknown, AllKnown}
+use Rattle.job_fields.specs.Levels.{bitsAt, levelsOf}
+use Rattle.job_fields.specs.declared.version.Version.{Version}
 use Rattle.job.specs.declared.cursor.Cursor.{Cursor}
 use Rattle.job.specs.declared.record.Record.{Record}
 use Rattle.job.specs.declared.next.NextRecord.{NextRecord}

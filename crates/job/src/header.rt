@@ -4,8 +4,8 @@ ghost use Prim.Native.Nat.{_≤_};
 ghost use lib.ListN.{length};
 ghost use Rattle.job.specs.Header.{startsWith, lacksMark, versionIn, HeaderRead};
 use crate::cursor::Cursor;
-use crate::version::Version;
-use crate::word::read_u16;
+use job_fields::version::Version;
+use job_fields::word::read_u16;
 
 // What a job file begins with.
 pub const MARK: [u8; 3] = *b"TSJ";

@@ -1,10 +1,5 @@
 // Reads job files: a header, then records of five or six setting bytes and six tessellation levels.
 pub mod cursor;
 pub mod header;
-pub mod levels;
 pub mod next;
 pub mod record;
-pub mod setting;
-mod top;
-pub mod version;
-pub mod word;

@@ -3,18 +3,18 @@ ghost use mathlib.Core.Path.{_≡_};
 ghost use Prim.Native.Nat.{_+_, _≤_};
 ghost use lib.ListN.{length};
 ghost use Rattle.job.specs.Records.{recordOf, RecordRead};
-ghost use Rattle.job.specs.Version.{recordSize};
+ghost use Rattle.job_fields.specs.Version.{recordSize};
 use crate::cursor::Cursor;
-use crate::levels::levels_of;
-use crate::levels::read_bits;
 use crate::record::Record;
-use crate::setting::kind_of;
-use crate::setting::read_settings;
-use crate::top::read_top;
-use crate::top::unknown_place;
-use crate::version::Version;
-use crate::version::record_size;
-use crate::version::setting_bytes;
+use job_fields::levels::levels_of;
+use job_fields::levels::read_bits;
+use job_fields::setting::kind_of;
+use job_fields::setting::read_settings;
+use job_fields::top::read_top;
+use job_fields::top::unknown_place;
+use job_fields::version::Version;
+use job_fields::version::record_size;
+use job_fields::version::setting_bytes;
 
 // What is found at a cursor; `next` is past the record.
 pub enum NextRecord {

@@ -1,9 +1,9 @@
 // A record of a job file, and the patch and the settings that it asks for.
 ghost use mathlib.Core.Path.{_≡_};
 ghost use Rattle.job.specs.Patches.{patchOf};
-use crate::levels::LevelBits;
-use crate::levels::Levels;
-use crate::setting::Kind;
+use job_fields::levels::LevelBits;
+use job_fields::levels::Levels;
+use job_fields::setting::Kind;
 use patch::kinds::Patch;
 use patch::settings::Settings;
 

@@ -14,18 +14,18 @@ use Rattle.job.specs.declared.cursor.Cursor.{Cursor}
 use Rattle.job.specs.declared.record.Record.{Record}
 use Rattle.job.specs.declared.next.NextRecord.{NextRecord}
 use Rattle.job.specs.declared.next.NextRecord.the-variants.{Read, End, CutRecord, UnknownSetting}
-use Rattle.job.specs.declared.setting.Kind.{Kind}
-use Rattle.job.specs.declared.levels.Levels.{Levels}
-use Rattle.job.specs.Settings.{choices, settingsAt}
-use Rattle.job.specs.Version.{recordSize}
+use Rattle.job_fields.specs.declared.setting.Kind.{Kind}
+use Rattle.job_fields.specs.declared.levels.Levels.{Levels}
+use Rattle.job_fields.specs.Settings.{choices, settingsAt}
+use Rattle.job_fields.specs.Version.{recordSize}
 use Rattle.job.specs.Records.{recordAt}
-use Rattle.job.proofs.Limits.{first-none}
-use Rattle.job_writer.specs.Written.{fiveBytes, takesTop, recordBytes}
-use Rattle.job_writer.specs.Patterns.{Agrees, recordOfBits}
+use Rattle.job_fields.proofs.Limits.{first-none}
+use Rattle.job_bytes.specs.Written.{fiveBytes, takesTop, recordBytes}
+use Rattle.job_bytes.specs.Patterns.{Agrees, recordOfBits}
 use Rattle.job_writer.specs.Whole.{Bytes}
 use Rattle.job_writer.specs.Answers.{wrote, recordVerdict}
 use Rattle.job_writer.proofs.Has.{Has}
-use Rattle.job_writer.proofs.Lengths.{record-length}
+use Rattle.job_bytes.proofs.Lengths.{record-length}
 use Rattle.job_writer.proofs.SettingBytes.{five-known, five-kind, five-settings}
 use Rattle.job_writer.proofs.RoundTrip.{record-again}
 use Rattle.job_exports.specs.declared.found.Found.{Found}

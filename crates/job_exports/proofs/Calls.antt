@@ -10,9 +10,9 @@ use Rattle.exports.specs.Inputs.{topIn}
 use Rattle.exports.specs.Replies.{unknownSetting, badTop, oneWord}
 use Rattle.exports.specs.Calls.{Says, Called}
 use Rattle.exports.proofs.Calls.{says-as}
-use Rattle.job.specs.Settings.{firstUnknown}
-use Rattle.job.specs.Version.{recordSize}
-use Rattle.job_writer.specs.Written.{takesTop}
+use Rattle.job_fields.specs.Settings.{firstUnknown}
+use Rattle.job_fields.specs.Version.{recordSize}
+use Rattle.job_bytes.specs.Written.{takesTop}
 use Rattle.job_writer.specs.Answers.{roomVerdict, recordVerdict}
 use Rattle.job_exports.specs.Inputs.{isVersion, versionIn, recordIn}
 use Rattle.job_exports.specs.Calls.{headerSays, recordSays}

@@ -8,16 +8,16 @@ use mathlib.Core.Logic.{_↔_}
 use native.Mathlib.Decide.{decLe}
 use borrow.Author.Tests.{le-leb, lt-leb}
 use lib.ListN.{length}
-use Rattle.job.specs.declared.version.Version.{Version}
-use Rattle.job.specs.declared.version.Version.the-variants.{One, Two}
+use Rattle.job_fields.specs.declared.version.Version.{Version}
+use Rattle.job_fields.specs.declared.version.Version.the-variants.{One, Two}
 use Rattle.job.specs.declared.cursor.Cursor.{Cursor}
 use Rattle.job.specs.declared.next.NextRecord.{NextRecord}
 use Rattle.job.specs.declared.next.NextRecord.the-variants.{Read, End, CutRecord, UnknownSetting}
-use Rattle.job.specs.Version.{settingBytes}
+use Rattle.job_fields.specs.Version.{settingBytes}
 use Rattle.job.specs.Records.{recordAt}
-use Rattle.job.proofs.Tops.{first-place}
+use Rattle.job_fields.proofs.Tops.{first-place}
 use Rattle.job.proofs.Records.{record-exactly, top-allowed}
-use Rattle.job_writer.proofs.Lengths.{top-small}
+use Rattle.job_bytes.proofs.Lengths.{top-small}
 use Rattle.job_exports.specs.declared.found.Found.{Found}
 use Rattle.job_exports.specs.Inputs.{isVersion, versionIn}
 use Rattle.job_exports.specs.Found.{endNumber, nothing, foundOf, foundAt, numberIn}

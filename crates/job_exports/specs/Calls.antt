@@ -12,10 +12,10 @@ use Rattle.exports.specs.Replies.{unknownSetting, badTop, oneWord}
 use Rattle.exports.specs.Calls.{Says, Called}
 use Rattle.job.specs.declared.header.Header.{Header}
 use Rattle.job.specs.declared.header.Header.the-variants.{Read, NotAJob, UnknownVersion}
-use Rattle.job.specs.Settings.{firstUnknown}
-use Rattle.job.specs.Version.{versionNumber, recordSize}
+use Rattle.job_fields.specs.Settings.{firstUnknown}
+use Rattle.job_fields.specs.Version.{versionNumber, recordSize}
 use Rattle.job.specs.Header.{headerOf}
-use Rattle.job_writer.specs.Written.{headerBytes, takesTop, recordBytes}
+use Rattle.job_bytes.specs.Written.{headerBytes, takesTop, recordBytes}
 use Rattle.job_writer.specs.Answers.{roomVerdict}
 use Rattle.job_exports.specs.Inputs.{isVersion, versionIn, recordIn}
 use Rattle.job_exports.specs.Found.{foundAt}

@@ -3,12 +3,12 @@ use Prim.Native.Nat.{ℕ}
 use mathlib.Core.Bool.{cond}
 use mathlib.Core.List.{List, [], _∷_}
 use lib.ListN.{length}
-use Rattle.job.specs.declared.levels.LevelBits.{LevelBits}
+use Rattle.job_fields.specs.declared.levels.LevelBits.{LevelBits}
 use Rattle.job.specs.declared.record.Record.{Record}
 use Rattle.job.specs.declared.next.NextRecord.{NextRecord}
 use Rattle.job.specs.declared.next.NextRecord.the-variants.{Read, End, CutRecord, UnknownSetting}
 use Rattle.job.specs.Records.{recordAt, atEnd}
-use Rattle.job_writer.specs.Written.{kindByte, spacingByte, orderByte, originByte, switchByte}
+use Rattle.job_bytes.specs.Written.{kindByte, spacingByte, orderByte, originByte, switchByte}
 use Rattle.job_exports.specs.declared.found.Found.{Found}
 use Rattle.job_exports.specs.Inputs.{isVersion, versionIn}
 

@@ -4,13 +4,13 @@ use mathlib.Core.Bool.{Bool, cond, _||_}
 use mathlib.Core.List.{List}
 use lib.Dec.{eqb}
 use lib.ListN.{getD}
-use Rattle.job.specs.Bytes.{byteAt}
-use Rattle.job.specs.Settings.{kindOf}
-use Rattle.job.specs.declared.version.Version.{Version}
-use Rattle.job.specs.declared.version.Version.the-variants.{One, Two}
-use Rattle.job.specs.declared.levels.LevelBits.{LevelBits}
+use Rattle.job_fields.specs.Bytes.{byteAt}
+use Rattle.job_fields.specs.Settings.{kindOf}
+use Rattle.job_fields.specs.declared.version.Version.{Version}
+use Rattle.job_fields.specs.declared.version.Version.the-variants.{One, Two}
+use Rattle.job_fields.specs.declared.levels.LevelBits.{LevelBits}
 use Rattle.job.specs.declared.record.Record.{Record}
-use Rattle.job_writer.specs.Patterns.{recordOfBits}
+use Rattle.job_bytes.specs.Patterns.{recordOfBits}
 use Rattle.exports.specs.Inputs.{settingsIn}
 
 -- 6 applies to every other number

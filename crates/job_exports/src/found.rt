@@ -5,14 +5,14 @@ ghost use Rattle.job_exports.specs.Found.{settingsOut, patternsOut, noth
 use crate::version::is_version;
 use crate::version::version_in;
 use job::cursor::Cursor;
-use job::levels::LevelBits;
 use job::next::NextRecord;
 use job::next::read_record;
 use job::record::Record;
-use job_writer::setting_bytes::kind_byte;
-use job_writer::setting_bytes::order_byte;
-use job_writer::setting_bytes::origin_byte;
-use job_writer::setting_bytes::spacing_byte;
+use job_bytes::setting_bytes::kind_byte;
+use job_bytes::setting_bytes::order_byte;
+use job_bytes::setting_bytes::origin_byte;
+use job_bytes::setting_bytes::spacing_byte;
+use job_fields::levels::LevelBits;
 
 // All is 0 but the number and where to read on, unless a record was read or a setting is unknown.
 pub struct Found {

@@ -7,7 +7,7 @@ use exports::reply::Reply;
 use exports::reply::bad_top;
 use exports::reply::refusal;
 use job::header::Header;
-use job::version::version_number;
+use job_fields::version::version_number;
 use job_writer::answer::HeaderWritten;
 use job_writer::answer::RecordWritten;
 

@@ -1,7 +1,7 @@
 // A version by its number.
 ghost use mathlib.Core.Path.{_≡_};
 ghost use Rattle.job_exports.specs.Inputs.{isVersion, versionIn};
-use job::version::Version;
+use job_fields::version::Version;
 
 pub fn is_version(number: u32) -> bool
     ensures { λ r. ⌜ r ≡ isVersion number ⌝ }

@@ -10,10 +10,10 @@ use exports::reply::bad_top;
 use exports::reply::refusal;
 use exports::reply::say_one;
 use exports::reply::unknown_setting;
-use job::setting::first_unknown;
+use job_bytes::top_byte::takes_top;
+use job_fields::setting::first_unknown;
 use job_writer::header::write_header;
 use job_writer::record::write_record;
-use job_writer::top_byte::takes_top;
 
 #[no_mangle]
 pub extern "C" fn yoktvarim_write_header(

@@ -8,15 +8,15 @@ use borrow.Author.Tests.{lt-ltb, le-ltb}
 use lib.ListN.{length, take}
 use Rattle.buffer.specs.Over as buffer
 use Rattle.buffer.proofs.Laws.{over-front}
-use Rattle.job.specs.declared.version.Version.{Version}
+use Rattle.job_fields.specs.declared.version.Version.{Version}
 use Rattle.job.specs.declared.record.Record.{Record}
-use Rattle.job.specs.Version.{recordSize}
+use Rattle.job_fields.specs.Version.{recordSize}
 use Rattle.job_writer.specs.declared.answer.HeaderWritten.the-variants as header
 use Rattle.job_writer.specs.declared.answer.RecordWritten.the-variants.{Written, NoRoom, BadTop}
-use Rattle.job_writer.specs.Written.{headerBytes, recordBytes, takesTop}
+use Rattle.job_bytes.specs.Written.{headerBytes, recordBytes, takesTop}
 use Rattle.job_writer.specs.Whole.{Writable}
 use Rattle.job_writer.specs.Answers.{WroteHeader, WroteRecord}
-use Rattle.job_writer.proofs.Lengths.{header-length, record-length}
+use Rattle.job_bytes.proofs.Lengths.{header-length, record-length}
 use Rattle.job_writer.proofs.Headers.{header-back}
 use Rattle.job_writer.proofs.RoundTrip.{record-back}
 

@@ -5,10 +5,10 @@ use mathlib.Core.Path.{_≡_, sym, ap, _∙_}
 use mathlib.Core.List.{List, _++_}
 use lib.ListN.{length, take, drop, getD, length-append, length-take, length-drop, take-append-drop}
 use lib.Seq.{take-add, take-take, drop-drop, ext-getD, take-append-seam, drop-append-seam, getD-take, getD-drop, length-take-le}
-use Rattle.job.specs.Bytes.{byteAt, word, lowBytes}
-use Rattle.job.proofs.Words.{word-back, bytes-back}
+use Rattle.job_fields.specs.Bytes.{byteAt, word, lowBytes}
+use Rattle.job_fields.proofs.Words.{word-back, bytes-back}
 use Rattle.job_writer.specs.Whole.{Bytes}
-use Rattle.job_writer.proofs.LowBytes.{low-length}
+use Rattle.job_bytes.proofs.LowBytes.{low-length}
 
 -- the bytes ys stand in bs from `at` on
 pub record Has (bs : List ℕ) (at : ℕ) (ys : List ℕ) : Type 0 where

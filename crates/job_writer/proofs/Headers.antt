@@ -4,16 +4,16 @@ use native.Mathlib.Omega.{arith}
 use mathlib.Core.Path.{_≡_, refl}
 use mathlib.Core.List.{List}
 use lib.ListN.{length, take}
-use Rattle.job.specs.declared.version.Version.{Version}
+use Rattle.job_fields.specs.declared.version.Version.{Version}
 use Rattle.job.specs.declared.cursor.Cursor.{Cursor}
 use Rattle.job.specs.declared.header.Header.the-variants.{Read}
-use Rattle.job.specs.Bytes.{lowBytes}
-use Rattle.job.specs.Version.{versionNumber}
+use Rattle.job_fields.specs.Bytes.{lowBytes}
+use Rattle.job_fields.specs.Version.{versionNumber}
 use Rattle.job.specs.Header.{mark, start, headerOf}
 use Rattle.job.proofs.Headers.{header-exactly}
-use Rattle.job_writer.specs.Written.{headerBytes}
+use Rattle.job_bytes.specs.Written.{headerBytes}
 use Rattle.job_writer.specs.Whole.{Bytes}
-use Rattle.job_writer.proofs.Lengths.{number-small, header-length}
+use Rattle.job_bytes.proofs.Lengths.{number-small, header-length}
 use Rattle.job_writer.proofs.Has.{Has, has-front, has-back, has-both, has-within, word-has, has-word}
 
 -- bytes that begin with a header are read as it

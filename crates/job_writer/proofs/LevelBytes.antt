@@ -5,13 +5,13 @@ use native.Mathlib.Omega.{arith}
 use mathlib.Core.Path.{_≡_, refl}
 use mathlib.Core.List.{List, _++_}
 use lib.ListN.{length}
-use Rattle.job.specs.declared.levels.LevelBits.{LevelBits}
-use Rattle.job.specs.Bytes.{word, lowBytes}
-use Rattle.job.specs.Levels.{bitsAt}
-use Rattle.job_writer.specs.Written.{levelBytes}
-use Rattle.job_writer.specs.Patterns.{Patterns}
+use Rattle.job_fields.specs.declared.levels.LevelBits.{LevelBits}
+use Rattle.job_fields.specs.Bytes.{word, lowBytes}
+use Rattle.job_fields.specs.Levels.{bitsAt}
+use Rattle.job_bytes.specs.Written.{levelBytes}
+use Rattle.job_bytes.specs.Patterns.{Patterns}
 use Rattle.job_writer.specs.Whole.{Bytes}
-use Rattle.job_writer.proofs.LowBytes.{low-length}
+use Rattle.job_bytes.proofs.LowBytes.{low-length}
 use Rattle.job_writer.proofs.Has.{Has, has-front, has-back, has-both, word-has, has-word}
 
 module _ {bs : List ℕ} {at : ℕ} (next : ℕ) (e : at + 4 ≡ next) where

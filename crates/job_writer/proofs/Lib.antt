@@ -1,7 +1,4 @@
 -- The laws of `job_writer`.
-pub mod Floats
-pub mod LowBytes
-pub mod Lengths
 pub mod Has
 pub mod SettingBytes
 pub mod LevelBytes

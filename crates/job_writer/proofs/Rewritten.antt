@@ -10,21 +10,21 @@ use lib.ListN.{length, take, drop, getD}
 use Rattle.buffer.proofs.Laws.{over-front}
 use Rattle.tessellate.specs.Answers.{Told, refused}
 use Rattle.tessellate.specs.Draws.{Drew}
-use Rattle.job.specs.declared.version.Version.{Version}
+use Rattle.job_fields.specs.declared.version.Version.{Version}
 use Rattle.job.specs.declared.cursor.Cursor.{Cursor}
 use Rattle.job.specs.declared.record.Record.{Record}
 use Rattle.job.specs.declared.header.Header.the-variants as read-header
 use Rattle.job.specs.declared.next.NextRecord.the-variants.{Read}
-use Rattle.job.specs.Version.{recordSize}
+use Rattle.job_fields.specs.Version.{recordSize}
 use Rattle.job.specs.Header.{headerOf}
 use Rattle.job.specs.Records.{recordAt}
 use Rattle.job_writer.specs.declared.answer.HeaderWritten.{HeaderWritten}
 use Rattle.job_writer.specs.declared.answer.RecordWritten.{RecordWritten}
-use Rattle.job_writer.specs.Written.{headerBytes, recordBytes, takesTop}
+use Rattle.job_bytes.specs.Written.{headerBytes, recordBytes, takesTop}
 use Rattle.job_writer.specs.Whole.{Bytes, Reads, recordsBytes, fileBytes}
 use Rattle.job_writer.specs.Answers.{wrote, toldHeader, toldRecord, roomVerdict, recordVerdict, WroteHeader, WroteRecord}
 use Rattle.job_writer.specs.InTurn.{RecordsInTurn, none, more, FileInTurn}
-use Rattle.job_writer.proofs.Lengths.{header-length, record-length}
+use Rattle.job_bytes.proofs.Lengths.{header-length, record-length}
 use Rattle.job_writer.proofs.Headers.{header-again}
 use Rattle.job_writer.proofs.RoundTrip.{record-again}
 use Rattle.job_writer.proofs.WholeFiles.{file-again}

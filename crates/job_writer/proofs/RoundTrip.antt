@@ -4,19 +4,19 @@ use native.Mathlib.Omega.{arith}
 use mathlib.Core.Path.{_≡_, refl, ap}
 use mathlib.Core.List.{List, _++_}
 use lib.ListN.{length, take, drop}
-use Rattle.job.specs.declared.version.Version.{Version}
+use Rattle.job_fields.specs.declared.version.Version.{Version}
 use Rattle.job.specs.declared.cursor.Cursor.{Cursor}
 use Rattle.job.specs.declared.record.Record.{Record}
 use Rattle.job.specs.declared.next.NextRecord.the-variants.{Read}
-use Rattle.job.specs.Version.{settingBytes, recordSize}
-use Rattle.job.specs.Levels.{levelsOf}
-use Rattle.job.specs.Tops.{topAt, AllKnown}
+use Rattle.job_fields.specs.Version.{settingBytes, recordSize}
+use Rattle.job_fields.specs.Levels.{levelsOf}
+use Rattle.job_fields.specs.Tops.{topAt, AllKnown}
 use Rattle.job.specs.Records.{recordOf, recordAt, after}
 use Rattle.job.proofs.Records.{record-exactly, levels-are}
-use Rattle.job_writer.specs.Written.{fiveBytes, topBytes, levelBytes, recordBytes}
-use Rattle.job_writer.specs.Patterns.{Agrees}
+use Rattle.job_bytes.specs.Written.{fiveBytes, topBytes, levelBytes, recordBytes}
+use Rattle.job_bytes.specs.Patterns.{Agrees}
 use Rattle.job_writer.specs.Whole.{Bytes, Writable, reread}
-use Rattle.job_writer.proofs.Lengths.{top-length, record-length}
+use Rattle.job_bytes.proofs.Lengths.{top-length, record-length}
 use Rattle.job_writer.proofs.Has.{Has, has-front, has-back, has-both, has-within}
 use Rattle.job_writer.proofs.SettingBytes.{five-known, five-kind, five-settings, five-again}
 use Rattle.job_writer.proofs.Tops.{top-back, top-known, top-taken, top-again}

@@ -13,11 +13,11 @@ use Rattle.patch.specs.declared.settings.VertexOrder.the-variants.{Clockwise, C
 use Rattle.patch.specs.declared.settings.DomainOrigin.{DomainOrigin}
 use Rattle.patch.specs.declared.settings.DomainOrigin.the-variants.{UpperLeft, LowerLeft}
 use Rattle.patch.specs.declared.settings.Settings.{Settings}
-use Rattle.job.specs.declared.setting.Kind.{Kind}
-use Rattle.job.specs.declared.setting.Kind.the-variants.{Triangles, Quads, Isolines}
-use Rattle.job.specs.Bytes.{byteAt}
-use Rattle.job.specs.Settings.{choices, kindOf, spacingOf, orderOf, originOf, pointModeOf, settingsAt, AllBelow}
-use Rattle.job_writer.specs.Written.{kindByte, spacingByte, orderByte, originByte, switchByte, fiveBytes}
+use Rattle.job_fields.specs.declared.setting.Kind.{Kind}
+use Rattle.job_fields.specs.declared.setting.Kind.the-variants.{Triangles, Quads, Isolines}
+use Rattle.job_fields.specs.Bytes.{byteAt}
+use Rattle.job_fields.specs.Settings.{choices, kindOf, spacingOf, orderOf, originOf, pointModeOf, settingsAt, AllBelow}
+use Rattle.job_bytes.specs.Written.{kindByte, spacingByte, orderByte, originByte, switchByte, fiveBytes}
 use Rattle.job_writer.proofs.Has.{Has, has-byte, has-all}
 
 -- ---- a byte in range is the byte of what it means

@@ -7,13 +7,13 @@ use mathlib.Core.Bool.{true}
 use mathlib.Core.List.{List, [], _∷_}
 use borrow.Author.Tests.{eqb-true}
 use lib.ListN.{length, getD}
-use Rattle.job.specs.declared.version.Version.{Version}
-use Rattle.job.specs.declared.version.Version.the-variants.{One, Two}
-use Rattle.job.specs.Bytes.{byteAt}
-use Rattle.job.specs.Version.{recordSize}
-use Rattle.job.specs.Settings.{choices, AllBelow}
-use Rattle.job.specs.Tops.{topAt, AllKnown}
-use Rattle.job_writer.specs.Written.{takesTop, topBytes}
+use Rattle.job_fields.specs.declared.version.Version.{Version}
+use Rattle.job_fields.specs.declared.version.Version.the-variants.{One, Two}
+use Rattle.job_fields.specs.Bytes.{byteAt}
+use Rattle.job_fields.specs.Version.{recordSize}
+use Rattle.job_fields.specs.Settings.{choices, AllBelow}
+use Rattle.job_fields.specs.Tops.{topAt, AllKnown}
+use Rattle.job_bytes.specs.Written.{takesTop, topBytes}
 use Rattle.job_writer.proofs.Has.{Has, has-byte, has-all}
 
 module _ (bs : List ℕ) (at : ℕ) where

@@ -7,18 +7,18 @@ use lib.Dec.{ltb}
 use lib.ListN.{length}
 use Rattle.tessellate.specs.Answers.{Told, refused, drew}
 use Rattle.tessellate.specs.Draws.{Drew}
-use Rattle.job.specs.declared.version.Version.{Version}
+use Rattle.job_fields.specs.declared.version.Version.{Version}
 use Rattle.job.specs.declared.record.Record.{Record}
 use Rattle.job.specs.declared.header.Header.the-variants as read-header
 use Rattle.job.specs.declared.next.NextRecord.the-variants.{Read}
-use Rattle.job.specs.Version.{recordSize}
+use Rattle.job_fields.specs.Version.{recordSize}
 use Rattle.job.specs.Header.{start, headerOf}
 use Rattle.job.specs.Records.{recordAt, after}
 use Rattle.job_writer.specs.declared.answer.HeaderWritten.{HeaderWritten}
 use Rattle.job_writer.specs.declared.answer.HeaderWritten.the-variants as header
 use Rattle.job_writer.specs.declared.answer.RecordWritten.{RecordWritten}
 use Rattle.job_writer.specs.declared.answer.RecordWritten.the-variants as «record»
-use Rattle.job_writer.specs.Written.{headerBytes, takesTop, recordBytes}
+use Rattle.job_bytes.specs.Written.{headerBytes, takesTop, recordBytes}
 use Rattle.job_writer.specs.Whole.{reread}
 
 -- n bytes were written: 0, as where something was drawn

@@ -3,7 +3,7 @@ use Prim.Native.Nat.{ℕ}
 use mathlib.Core.Path.{_≡_}
 use mathlib.Core.List.{List, [], _∷_, _++_}
 use lib.ListN.{take}
-use Rattle.job.specs.declared.version.Version.{Version}
+use Rattle.job_fields.specs.declared.version.Version.{Version}
 use Rattle.job.specs.declared.record.Record.{Record}
 use Rattle.job_writer.specs.declared.answer.HeaderWritten.the-variants as header
 use Rattle.job_writer.specs.declared.answer.RecordWritten.the-variants.{Written}

@@ -3,17 +3,17 @@ use Prim.Native.Nat.{ℕ, _<_}
 use mathlib.Core.Path.{_≡_}
 use mathlib.Core.Bool.{true}
 use mathlib.Core.List.{List, [], _∷_, _++_}
-use Rattle.job.specs.declared.version.Version.{Version}
+use Rattle.job_fields.specs.declared.version.Version.{Version}
 use Rattle.job.specs.declared.cursor.Cursor.{Cursor}
 use Rattle.job.specs.declared.record.Record.{Record}
 use Rattle.job.specs.declared.header.Header.the-variants as header
 use Rattle.job.specs.declared.next.NextRecord.the-variants.{Read, End}
-use Rattle.job.specs.Bytes.{byteAt}
-use Rattle.job.specs.Levels.{levelsOf}
+use Rattle.job_fields.specs.Bytes.{byteAt}
+use Rattle.job_fields.specs.Levels.{levelsOf}
 use Rattle.job.specs.Header.{headerOf}
 use Rattle.job.specs.Records.{recordAt}
-use Rattle.job_writer.specs.Written.{headerBytes, takesTop, recordBytes}
-use Rattle.job_writer.specs.Patterns.{Patterns, Agrees}
+use Rattle.job_bytes.specs.Written.{headerBytes, takesTop, recordBytes}
+use Rattle.job_bytes.specs.Patterns.{Patterns, Agrees}
 
 -- every number of the list is a byte
 abbrev pub Bytes : List ℕ → Type 0

@@ -1,10 +1,10 @@
 // Writes the header of a job file.
 ghost use Rattle.job_writer.specs.Answers.{WroteHeader};
 use crate::answer::HeaderWritten;
-use crate::put::put_u16;
 use job::header::MARK;
-use job::version::Version;
-use job::version::version_number;
+use job_bytes::put::put_u16;
+use job_fields::version::Version;
+use job_fields::version::version_number;
 use text::put_bytes;
 
 // The mark that reading compares with, and the version's number.

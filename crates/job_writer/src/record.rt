@@ -1,48 +1,11 @@
-// Writes a record of a job file: setting bytes, then the bit patterns of its six levels.
-ghost use mathlib.Core.Path.{_≡_};
-ghost use mathlib.Core.Bool.{true};
-ghost use Prim.Native.Nat.{_+_, _≤_};
-ghost use lib.ListN.{length};
-ghost use Rattle.buffer.specs.Over.{Wrote};
-ghost use Rattle.job.specs.Version.{recordSize};
-ghost use Rattle.job_writer.specs.Written.{takesTop, levelBytes, recordBytes};
+// Writes a record of a job file, or says why it is not written.
 ghost use Rattle.job_writer.specs.Answers.{WroteRecord};
 use crate::answer::RecordWritten;
-use crate::put::put_u32;
-use crate::setting_bytes::put_settings;
-use crate::top_byte::put_top;
-use crate::top_byte::takes_top;
-use job::levels::LevelBits;
 use job::record::Record;
-use job::version::Version;
-use job::version::record_size;
-
-fn put_levels(out: &mut [u8], at: usize, bits: LevelBits) -> usize
-    requires { ⌜ at + 24 ≤ length (now out) ⌝ }
-    ensures { λ r. ⌜ Wrote (now (out .entry)) at (levelBytes bits) (now (out .exit)) r ⌝ }
-{
-    let outer1 = put_u32(out, at, bits.outer0);
-    let outer2 = put_u32(out, outer1, bits.outer1);
-    let outer3 = put_u32(out, outer2, bits.outer2);
-    let inner0 = put_u32(out, outer3, bits.outer3);
-    let inner1 = put_u32(out, inner0, bits.inner0);
-    put_u32(out, inner1, bits.inner1)
-}
-
-// A record whose top level the version takes, into a list that has room.
-fn put_record(out: &mut [u8], version: Version, record: Record) -> usize
-    requires { ⌜ takesTop version («record» .settings .top) ≡ true ⌝ }
-    requires { ⌜ recordSize version ≤ length (now out) ⌝ }
-    ensures { λ r. ⌜ Wrote (now (out .entry)) 0 (recordBytes version «record») (now (out .exit)) r ⌝ }
-{
-    let kind = record.kind;
-    let settings = record.settings;
-    let bits = record.bits;
-    let top = settings.top;
-    let after_settings = put_settings(out, 0, kind, settings);
-    let after_top = put_top(out, after_settings, version, top);
-    put_levels(out, after_top, bits)
-}
+use job_bytes::record_bytes::put_record;
+use job_bytes::top_byte::takes_top;
+use job_fields::version::Version;
+use job_fields::version::record_size;
 
 // A bad top level is told before a list that is too short.
 pub fn write_record(out: &mut [u8], version: Version, record: Record) -> RecordWritten

@@ -9,7 +9,7 @@ use lib.Ieee.{Float}
 use Rattle.level.specs.Top.{isTop}
 use Rattle.patch.specs.declared.kinds.Patch.{Patch}
 use Rattle.patch.specs.declared.settings.Settings.{Settings}
-use Rattle.job.specs.Settings.{firstUnknown}
+use Rattle.job_fields.specs.Settings.{firstUnknown}
 use Rattle.tessellate.specs.Answers.{Told}
 use Rattle.mesh_verdict.specs.declared.Verdict.{Verdict}
 use Rattle.verdict_meaning.specs.Checks.{verdict}

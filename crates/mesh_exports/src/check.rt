@@ -21,14 +21,14 @@ pub extern "C" fn yoktvarim_check_mesh(
     if !level::is_top(top) {
         return say(bad_top(), places);
     }
-    let place = job::setting::first_unknown(settings, 0);
+    let place = job_fields::setting::first_unknown(settings, 0);
     if place < 5 {
         return say(unknown_setting(place), places);
     }
     let patch = exports::input::patch_in(settings, levels);
     let verdict = checker::check::check_mesh(
         patch,
-        job::setting::read_settings(settings, 0, top),
+        job_fields::setting::read_settings(settings, 0, top),
         points,
         indices,
     );

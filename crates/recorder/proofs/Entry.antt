@@ -13,21 +13,21 @@ use Rattle.patch.specs.Subdivide.{discards}
 use Rattle.tessellate.specs.Answers.{pointsOf, indicesOf}
 use Rattle.tessellate.proofs.Tops.{top-as}
 use Rattle.patch_text.proofs.Sizes.{points-fit, indices-fit}
-use Rattle.job.specs.declared.version.Version.the-variants.{One}
+use Rattle.job_fields.specs.declared.version.Version.the-variants.{One}
 use Rattle.job.specs.declared.next.NextRecord.the-variants.{Read}
-use Rattle.job.specs.Bytes.{lowBytes}
+use Rattle.job_fields.specs.Bytes.{lowBytes}
 use Rattle.job.specs.Patches.{patchOf}
 use Rattle.job.specs.Records.{recordAt, after}
-use Rattle.job_writer.specs.Written.{recordBytes}
-use Rattle.job_writer.proofs.Lengths.{record-length}
+use Rattle.job_bytes.specs.Written.{recordBytes}
+use Rattle.job_bytes.proofs.Lengths.{record-length}
 use Rattle.job_writer.proofs.Has.{Has, has-front, has-back, has-byte, word-has}
 use Rattle.job_writer.proofs.RoundTrip.{record-same}
-use Rattle.replay.specs.declared.outcome.Outcome.{Outcome}
-use Rattle.replay.specs.Outcomes.{refusal, drawn, patchOutcome}
-use Rattle.replay.specs.Entries.{recordOutcome, recorded, replayed, agrees}
-use Rattle.replay.proofs.Drawings.{drawn-together}
-use Rattle.replay.proofs.Today.{replayed-read, read-top}
-use Rattle.replay.proofs.Sides.{equal-same}
+use Rattle.replay_entry.specs.declared.outcome.Outcome.{Outcome}
+use Rattle.replay_entry.specs.Outcomes.{refusal, drawn, patchOutcome}
+use Rattle.replay_entry.specs.Entries.{recordOutcome, recorded, replayed, agrees}
+use Rattle.replay_entry.proofs.Drawings.{drawn-together}
+use Rattle.replay_entry.proofs.Today.{replayed-read, read-top}
+use Rattle.replay_entry.proofs.Sides.{equal-same}
 use Rattle.recorder.specs.Recordings.{Call, Made, answered, outcomeBytes, entryBytes}
 
 -- both counts of a patch fit two bytes

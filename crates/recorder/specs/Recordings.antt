@@ -8,14 +8,14 @@ use Rattle.tessellate.specs.declared.answer.IndicesAnswer.{IndicesAnswer}
 use Rattle.tessellate.specs.Answers.{toldPoints, toldIndices}
 use Rattle.tessellate.specs.Draws.{DrewPoints, DrewIndices}
 use Rattle.patch_text.specs.Room.{FullSize}
-use Rattle.job.specs.declared.version.Version.the-variants.{One}
+use Rattle.job_fields.specs.declared.version.Version.the-variants.{One}
 use Rattle.job.specs.declared.record.Record.{Record}
-use Rattle.job.specs.Bytes.{lowBytes}
+use Rattle.job_fields.specs.Bytes.{lowBytes}
 use Rattle.job.specs.Patches.{patchOf}
-use Rattle.job_writer.specs.Written.{recordBytes}
-use Rattle.job_writer.specs.Patterns.{Agrees}
+use Rattle.job_bytes.specs.Written.{recordBytes}
+use Rattle.job_bytes.specs.Patterns.{Agrees}
 use Rattle.job_writer.specs.Whole.{Writable}
-use Rattle.replay.specs.declared.outcome.Outcome.{Outcome}
+use Rattle.replay_entry.specs.declared.outcome.Outcome.{Outcome}
 use Rattle.replay.specs.Replays.{mark}
 
 -- a call: a record, and what the two drawing operations answered to it

@@ -12,10 +12,10 @@ use Rattle.job.specs.Header.{startsWith, versionIn}
 use Rattle.job.proofs.Marks.{starts-take, take-starts}
 use Rattle.replay.specs.declared.answer.Replay.{Replay}
 use Rattle.replay.specs.declared.answer.Replay.the-variants.{AllAgree, Differs, NotARecording, UnknownVersion, CutEntry}
-use Rattle.replay.specs.Entries.{recorded, replayed, agrees}
+use Rattle.replay_entry.specs.Entries.{recorded, replayed, agrees}
 use Rattle.replay.specs.Replays.{mark, entrySize, entriesFrom, replayOf}
 use Rattle.replay.specs.Means.{Headed, entryAt, AgreesAt, AgreeBefore, wholeEntries, ReplayMeans}
-use Rattle.replay.proofs.Sides.{same-equal, equal-same, differ-same}
+use Rattle.replay_entry.proofs.Sides.{same-equal, equal-same, differ-same}
 use Rattle.replay.proofs.Headers.{start-short, start-other, start-version, start-right}
 use Rattle.replay.proofs.Steps.{entries-step, entries-none, entries-cut}
 

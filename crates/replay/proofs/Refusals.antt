@@ -7,10 +7,10 @@ use mathlib.Core.Logic.{_↔_}
 use native.Mathlib.Omega.{arith}
 use lib.Dec.{eqb}
 use lib.ListN.{length, getD}
-use Rattle.replay.specs.declared.outcome.Outcome.{Outcome}
+use Rattle.replay_entry.specs.declared.outcome.Outcome.{Outcome}
 use Rattle.replay.specs.declared.answer.Replay.{Replay}
 use Rattle.replay.specs.declared.answer.Replay.the-variants.{AllAgree, Differs, NotARecording, UnknownVersion, CutEntry}
-use Rattle.replay.specs.Entries.{recorded, replayed}
+use Rattle.replay_entry.specs.Entries.{recorded, replayed}
 use Rattle.replay.specs.Replays.{entrySize, replayOf}
 use Rattle.replay.specs.Told.{toldReplay}
 use Rattle.replay.specs.Means.{Headed, entryAt, AgreesAt, AgreeBefore, ReplayMeans, ReplaySaid}

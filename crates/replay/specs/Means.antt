@@ -7,7 +7,7 @@ use lib.ListN.{length, take, drop}
 use Rattle.job.specs.Header.{versionIn}
 use Rattle.replay.specs.declared.answer.Replay.{Replay}
 use Rattle.replay.specs.declared.answer.Replay.the-variants.{AllAgree, Differs, NotARecording, UnknownVersion, CutEntry}
-use Rattle.replay.specs.Entries.{recorded, replayed}
+use Rattle.replay_entry.specs.Entries.{recorded, replayed}
 use Rattle.replay.specs.Replays.{mark, entrySize, replayOf}
 use Rattle.replay.specs.Told.{toldReplay}
 

@@ -7,7 +7,7 @@ use lib.ListN.{length, take, drop}
 use Rattle.job.specs.Header.{lacksMark, versionIn}
 use Rattle.replay.specs.declared.answer.Replay.{Replay}
 use Rattle.replay.specs.declared.answer.Replay.the-variants.{AllAgree, Differs, NotARecording, UnknownVersion, CutEntry}
-use Rattle.replay.specs.Entries.{recorded, replayed, agrees}
+use Rattle.replay_entry.specs.Entries.{recorded, replayed, agrees}
 
 -- the mark: the letters TSR
 abbrev pub mark : List ℕ

@@ -6,11 +6,11 @@ ghost use Rattle.patch_text.specs.Room.{FullSize};
 ghost use Rattle.replay.specs.Means.{ReplaySaid};
 ghost use Rattle.replay.specs.Replays.{startOf, entriesFrom, goOn, Countable};
 use crate::answer::Replay;
-use crate::entry::read_recorded;
-use crate::entry::replay_record;
-use crate::outcome::same_outcome;
 use job::header::lacks_mark;
 use job::header::read_version;
+use replay_entry::entry::read_recorded;
+use replay_entry::entry::replay_record;
+use replay_entry::outcome::same_outcome;
 
 // What a recording begins with, and the one version that is read.
 pub const MARK: [u8; 3] = *b"TSR";

@@ -3,7 +3,7 @@ ghost use mathlib.Core.Path.{_≡_};
 ghost use Rattle.replay.specs.Told.{toldReplay};
 ghost use Rattle.replay_exports.specs.Calls.{callNumber, sevenWords};
 use replay::answer::Replay;
-use replay::outcome::Outcome;
+use replay_entry::outcome::Outcome;
 
 pub(crate) fn number_of(answer: Replay) -> u32
     ensures { λ r. ⌜ r ≡ callNumber answer ⌝ }

@@ -1,5 +1,2 @@
-// The text that answers a job, and the run that reads a job from standard input and writes that text to standard output.
-mod header;
-mod records;
-mod reply;
+// The run that reads a job from standard input and writes the text that answers it to standard output.
 pub mod run;

@@ -1,7 +1,7 @@
 -- A state that was stored is read back: each call is handed what the last one left.
 -- Assumes nothing.
 use mathlib.Core.Path.{_≡_, refl}
-use Rattle.shares.specs.declared.state.State.{State}
+use Rattle.shared_lists.specs.declared.state.State.{State}
 use Rattle.share_exports.specs.Words.{stateIn, stateWords}
 
 pub words-back : (s : State) → stateIn (stateWords s) ≡ s

@@ -11,23 +11,25 @@ use lib.ListN.{length}
 use Rattle.level.specs.Top.{isTop}
 use Rattle.patch.specs.declared.kinds.Patch.{Patch}
 use Rattle.patch.specs.declared.settings.Settings.{Settings}
-use Rattle.job.specs.Settings.{firstUnknown}
+use Rattle.job_fields.specs.Settings.{firstUnknown}
 use Rattle.tessellate.specs.Answers.{Told, refused}
 use Rattle.exports.specs.declared.reply.Reply.{Reply}
 use Rattle.exports.specs.Inputs.{topIn, patchIn, settingsIn}
 use Rattle.exports.specs.Replies.{replyOf, unknownSetting, badTop, twoWords}
 use Rattle.exports.specs.Calls.{Says}
 use Rattle.exports.proofs.Calls.{said-two, says-as}
-use Rattle.shares.specs.declared.state.Designer.{Designer}
-use Rattle.shares.specs.declared.state.Quota.{Quota}
-use Rattle.shares.specs.declared.state.State.{State}
-use Rattle.shares.specs.declared.answer.StartAnswer.{StartAnswer}
-use Rattle.shares.specs.declared.answer.StartAnswer.the-variants as starting
-use Rattle.shares.specs.declared.answer.StartAnswer.the-variants.{QuotasTooLarge}
+use Rattle.shared_lists.specs.declared.state.Designer.{Designer}
+use Rattle.shared_lists.specs.declared.state.Quota.{Quota}
+use Rattle.shared_lists.specs.declared.state.State.{State}
+use Rattle.shared_lists.specs.declared.answer.StartAnswer.{StartAnswer}
+use Rattle.shared_lists.specs.declared.answer.StartAnswer.the-variants as starting
+use Rattle.shared_lists.specs.declared.answer.StartAnswer.the-variants.{QuotasTooLarge}
 use Rattle.shares.specs.declared.answer.DrawResult.{DrawResult}
-use Rattle.shares.specs.declared.answer.ClearResult.{ClearResult}
-use Rattle.shares.specs.Answers.{done, toldStart, toldDraw, toldClear, quotasFit, accepted, drawVerdict, clearVerdict}
-use Rattle.shares.specs.Operations.{unlessRefused, startState, drawnState, clearedState, DidStart, DidDraw, DidClear}
+use Rattle.shared_lists.specs.declared.answer.ClearResult.{ClearResult}
+use Rattle.shared_lists.specs.Answers.{done, toldStart, toldClear, quotasFit, accepted, clearVerdict}
+use Rattle.shares.specs.Answers.{toldDraw, drawVerdict}
+use Rattle.shared_lists.specs.Operations.{unlessRefused, startState, clearedState, DidStart, DidClear}
+use Rattle.shares.specs.Operations.{drawnState, DidDraw}
 use Rattle.share_exports.specs.Words.{stateIn, stateWords, quotaIn, designerOf}
 use Rattle.share_exports.specs.Calls.{unknownDesigner, asked, Called, DrawAsked, DrawCalled, Started, StartCalled, clearSays, Cleared, ClearCalled}
 

@@ -10,18 +10,20 @@ use lib.ListN.{length}
 use Rattle.level.specs.Top.{isTop}
 use Rattle.patch.specs.declared.kinds.Patch.{Patch}
 use Rattle.patch.specs.declared.settings.Settings.{Settings}
-use Rattle.job.specs.Settings.{firstUnknown}
+use Rattle.job_fields.specs.Settings.{firstUnknown}
 use Rattle.tessellate.specs.Answers.{Told, refused}
 use Rattle.tessellate.specs.Draws.{pointWords}
 use Rattle.exports.specs.Inputs.{topIn, patchIn, settingsIn}
 use Rattle.exports.specs.Replies.{unknownSetting, badTop, twoWords}
 use Rattle.exports.specs.Calls.{Says}
-use Rattle.shares.specs.declared.state.Designer.{Designer}
-use Rattle.shares.specs.declared.state.Quota.{Quota}
-use Rattle.shares.specs.declared.state.State.{State}
-use Rattle.shares.specs.SharedList.{appended}
-use Rattle.shares.specs.Answers.{done, accepted, startVerdict, drawVerdict}
-use Rattle.shares.specs.Operations.{unlessRefused, startState, newIndices, drawnState, clearedState}
+use Rattle.shared_lists.specs.declared.state.Designer.{Designer}
+use Rattle.shared_lists.specs.declared.state.Quota.{Quota}
+use Rattle.shared_lists.specs.declared.state.State.{State}
+use Rattle.shared_lists.specs.SharedList.{appended}
+use Rattle.shared_lists.specs.Answers.{done, accepted, startVerdict}
+use Rattle.shares.specs.Answers.{drawVerdict}
+use Rattle.shared_lists.specs.Operations.{unlessRefused, startState, clearedState}
+use Rattle.shares.specs.Operations.{newIndices, drawnState}
 use Rattle.share_exports.specs.Words.{stateIn, stateWords, quotaIn, designerOf}
 
 -- answer 15: the designer is neither 0 nor 1

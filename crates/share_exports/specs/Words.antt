@@ -4,11 +4,11 @@ use mathlib.Core.Bool.{cond}
 use mathlib.Core.List.{List, [], _∷_, _++_}
 use lib.Dec.{eqb}
 use lib.ListN.{getD}
-use Rattle.shares.specs.declared.state.Designer.{Designer}
-use Rattle.shares.specs.declared.state.Designer.the-variants.{First, Second}
-use Rattle.shares.specs.declared.state.SharedList.{SharedList}
-use Rattle.shares.specs.declared.state.Quota.{Quota}
-use Rattle.shares.specs.declared.state.State.{State}
+use Rattle.shared_lists.specs.declared.state.Designer.{Designer}
+use Rattle.shared_lists.specs.declared.state.Designer.the-variants.{First, Second}
+use Rattle.shared_lists.specs.declared.state.SharedList.{SharedList}
+use Rattle.shared_lists.specs.declared.state.Quota.{Quota}
+use Rattle.shared_lists.specs.declared.state.State.{State}
 
 -- a list's five words from k on: its length, and quota and used words of each designer
 abbrev pub listIn : List ℕ → ℕ → SharedList

@@ -2,7 +2,8 @@
 ghost use mathlib.Core.Path.{_≡_};
 ghost use lib.ListN.{length};
 ghost use Rattle.exports.specs.Replies.{replyOf};
-ghost use Rattle.shares.specs.Answers.{done, accepted, drawVerdict};
+ghost use Rattle.shared_lists.specs.Answers.{done, accepted};
+ghost use Rattle.shares.specs.Answers.{drawVerdict};
 ghost use Rattle.share_exports.specs.Calls.{asked, DrawCalled, Called};
 use crate::reply::of_draw;
 use crate::words::designer_of;
@@ -15,8 +16,8 @@ use exports::reply::say_two;
 use exports::reply::unknown_setting;
 use patch::kinds::Patch;
 use patch::settings::Settings;
-use shares::state::Designer;
-use shares::state::State;
+use shared_lists::state::Designer;
+use shared_lists::state::State;
 
 // What stands against a call before its patch is looked at; the number 0 where nothing does.
 fn objection(state: State, designer: u32, settings: &[u8; 6], v: usize, i: usize) -> Reply
@@ -26,13 +27,13 @@ fn objection(state: State, designer: u32, settings: &[u8; 6], v: usize, i: usize
     if !level::is_top(top) {
         return bad_top();
     }
-    if !shares::shared_list::accepts(state, v, i) {
+    if !shared_lists::shared_list::accepts(state, v, i) {
         return refusal(14);
     }
     if 1 < designer {
         return refusal(15);
     }
-    let place = job::setting::first_unknown(settings, 0);
+    let place = job_fields::setting::first_unknown(settings, 0);
     if place < 5 {
         return unknown_setting(place);
     }
@@ -83,7 +84,7 @@ pub extern "C" fn yoktvarim_share_draw(
         shared,
         designer_of(designer),
         exports::input::patch_in(settings, levels),
-        job::setting::read_settings(settings, 0, top),
+        job_fields::setting::read_settings(settings, 0, top),
         vertices,
         indices,
         counts,

@@ -3,7 +3,7 @@ ghost use lib.ListN.{length};
 ghost use Rattle.share_exports.specs.Calls.{StartCalled};
 use crate::words::quota_in;
 use crate::words::words_of;
-use shares::answer::StartAnswer;
+use shared_lists::answer::StartAnswer;
 
 #[no_mangle]
 pub extern "C" fn yoktvarim_share_start(
@@ -16,7 +16,7 @@ pub extern "C" fn yoktvarim_share_start(
 {
     let first = quota_in(quotas, 0);
     let second = quota_in(quotas, 2);
-    match shares::start::start(vertices, indices, first, second) {
+    match shared_lists::start::start(vertices, indices, first, second) {
         StartAnswer::Started { state: begun } => {
             *state = words_of(begun);
             0

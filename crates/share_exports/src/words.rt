@@ -3,11 +3,11 @@ ghost use mathlib.Core.Path.{_≡_};
 ghost use mathlib.Core.Bool.{cond};
 ghost use Prim.Native.Nat.{_≤_};
 ghost use Rattle.share_exports.specs.Words.{listIn, stateIn, quotaIn, listWords, stateWords, designerOf};
-use shares::state::Designer;
-use shares::state::Quota;
-use shares::state::Share;
-use shares::state::SharedList;
-use shares::state::State;
+use shared_lists::state::Designer;
+use shared_lists::state::Quota;
+use shared_lists::state::Share;
+use shared_lists::state::SharedList;
+use shared_lists::state::State;
 
 fn length_of(word: u64) -> usize
     ensures { λ r. ⌜ r ≡ word ⌝ }

@@ -10,12 +10,12 @@ use borrow.Author.Tests.{leb-true}
 use lib.Dec.{leb}
 use lib.ListN.{length}
 use Rattle.tessellate.specs.Answers.{Told}
-use Rattle.shares.specs.declared.state.Designer.{Designer}
-use Rattle.shares.specs.declared.state.Designer.the-variants.{First, Second}
-use Rattle.shares.specs.declared.state.Quota.{Quota}
-use Rattle.shares.specs.Answers.{quotasFit}
+use Rattle.shared_lists.specs.declared.state.Designer.{Designer}
+use Rattle.shared_lists.specs.declared.state.Designer.the-variants.{First, Second}
+use Rattle.shared_lists.specs.declared.state.Quota.{Quota}
+use Rattle.shared_lists.specs.Answers.{quotasFit}
 use Rattle.share_runs.specs.Session.{Call, Session, Answered, answers, play, answer, next, same, of, callsOf, answersOf, ownState, OwnState, View, view, quotaOf, begun}
-use Rattle.shares.proofs.Sound.{both}
+use Rattle.shared_lists.proofs.Sound.{both}
 use Rattle.share_runs.proofs.Seen.{same-is}
 use Rattle.share_runs.proofs.OwnState.{ownStateAnswers, viewAfter}
 use Rattle.share_runs.proofs.Step.{Good, good-next, length-next, other-next, own-answer, own-next, own-state-next}

@@ -7,11 +7,12 @@ use lib.ListN.{length}
 use Rattle.patch.specs.declared.kinds.Patch.{Patch}
 use Rattle.patch.specs.declared.settings.Settings.{Settings}
 use Rattle.tessellate.specs.Answers.{Told}
-use Rattle.shares.specs.declared.state.Designer.{Designer}
-use Rattle.shares.specs.declared.state.State.{State}
+use Rattle.shared_lists.specs.declared.state.Designer.{Designer}
+use Rattle.shared_lists.specs.declared.state.State.{State}
 use Rattle.shares.specs.declared.answer.DrawResult.{DrawResult}
 use Rattle.shares.specs.Answers.{toldDraw, drawVerdict}
-use Rattle.shares.specs.Operations.{unlessRefused, drawnState, DidDraw}
+use Rattle.shared_lists.specs.Operations.{unlessRefused}
+use Rattle.shares.specs.Operations.{drawnState, DidDraw}
 
 -- lists of equal lengths get the same answer, and the same state to hand on; of clearing the promise itself says so
 pub by-lengths : (d : Designer) (s : State) (set : Settings) (p : Patch) {v v′ i i′ w w′ j j′ : List ℕ} (r q : DrawResult) → DidDraw d s set p v v′ i i′ r

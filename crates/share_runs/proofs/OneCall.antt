@@ -19,10 +19,10 @@ use Rattle.drawing.proofs.Once.{demand-once}
 use Rattle.tessellate.specs.Answers.{Told, drewBoth}
 use Rattle.tessellate.specs.Draws.{pointWords, connectionWords}
 use Rattle.tessellate.proofs.Tops.{top-as}
-use Rattle.shares.specs.declared.state.Designer.{Designer}
-use Rattle.shares.specs.declared.state.State.{State}
+use Rattle.shared_lists.specs.declared.state.Designer.{Designer}
+use Rattle.shared_lists.specs.declared.state.State.{State}
 use Rattle.shares.specs.declared.answer.DrawResult.{DrawResult}
-use Rattle.shares.specs.SharedList.{firstFree}
+use Rattle.shared_lists.specs.SharedList.{firstFree}
 use Rattle.shares.specs.Answers.{toldDraw, pointsIn}
 use Rattle.shares.specs.Operations.{newIndices, DidDraw}
 use Rattle.shares.proofs.Parts.{lent-words}

@@ -8,9 +8,11 @@ use Rattle.patch.specs.declared.kinds.Patch.{Patch}
 use Rattle.patch.specs.declared.settings.Settings.{Settings}
 use Rattle.tessellate.specs.Answers.{Told}
 use Rattle.tessellate.specs.Draws.{pointWords}
-use Rattle.shares.specs.SharedList.{usedTo}
-use Rattle.shares.specs.Answers.{lent, verdict, clearVerdict}
-use Rattle.shares.specs.Operations.{unlessRefused, shifted}
+use Rattle.shared_lists.specs.SharedList.{usedTo}
+use Rattle.shared_lists.specs.Answers.{lent, clearVerdict}
+use Rattle.shares.specs.Answers.{verdict}
+use Rattle.shared_lists.specs.Operations.{unlessRefused}
+use Rattle.shares.specs.Operations.{shifted}
 use Rattle.share_runs.specs.Session.{Request, draw, clear, Call, Answered, OwnState, View}
 
 -- the answer to a request, lent lists of v and i words

@@ -8,13 +8,15 @@ use native.Mathlib.Omega.{arith}
 use lib.ListN.{length}
 use Rattle.tessellate.specs.Answers.{Told, refused}
 use Rattle.tessellate.specs.Draws.{pointWords}
-use Rattle.shares.specs.declared.state.Designer.{Designer}
-use Rattle.shares.specs.declared.state.State.{State}
-use Rattle.shares.specs.declared.state.Quota.{Quota}
-use Rattle.shares.specs.SharedList.{appended}
-use Rattle.shares.specs.declared.answer.StartAnswer.the-variants.{Started, QuotasTooLarge}
-use Rattle.shares.specs.Answers.{done, toldDraw, toldClear, quotasFit}
-use Rattle.shares.specs.Operations.{unlessRefused, startState, newIndices, drawnState, clearedState}
+use Rattle.shared_lists.specs.declared.state.Designer.{Designer}
+use Rattle.shared_lists.specs.declared.state.State.{State}
+use Rattle.shared_lists.specs.declared.state.Quota.{Quota}
+use Rattle.shared_lists.specs.SharedList.{appended}
+use Rattle.shared_lists.specs.declared.answer.StartAnswer.the-variants.{Started, QuotasTooLarge}
+use Rattle.shared_lists.specs.Answers.{done, toldClear, quotasFit}
+use Rattle.shares.specs.Answers.{toldDraw}
+use Rattle.shared_lists.specs.Operations.{unlessRefused, startState, clearedState}
+use Rattle.shares.specs.Operations.{newIndices, drawnState}
 use Rattle.share_runs.specs.Session.{draw, clear, Call, Session, Answered, answerTo, served, answer, next, answers, play, callsOf, answersOf, view, quotaOf, begun}
 use Rattle.share_runs.specs.Run.{Begun, begin, Made, drew, cleared, Ran, none, more}
 use Rattle.share_runs.proofs.Isolation.{begun-good, answered-then, kept-lengths, isolated, own-only}

@@ -8,13 +8,13 @@ use native.Mathlib.Omega.{arith}
 use lib.ListN.{length}
 use Rattle.buffer.specs.Over.{over}
 use Rattle.buffer.proofs.Laws.{over-length}
-use Rattle.shares.specs.declared.state.Designer.{Designer}
-use Rattle.shares.specs.declared.state.Designer.the-variants.{First, Second}
-use Rattle.shares.specs.declared.state.SharedList.{SharedList}
-use Rattle.shares.specs.SharedList.{share, partStart, firstFree, part, usedTo, withUsed, appended}
+use Rattle.shared_lists.specs.declared.state.Designer.{Designer}
+use Rattle.shared_lists.specs.declared.state.Designer.the-variants.{First, Second}
+use Rattle.shared_lists.specs.declared.state.SharedList.{SharedList}
+use Rattle.shared_lists.specs.SharedList.{share, partStart, firstFree, part, usedTo, withUsed, appended}
 use Rattle.share_runs.specs.Session.{same}
 use Rattle.share_runs.proofs.Beside.{inside, behind, before}
-use Rattle.shares.proofs.Sound.{Sound, lies}
+use Rattle.shared_lists.proofs.Sound.{Sound, lies}
 
 -- one designer is the other
 pub same-is : (d e : Designer) → same d e ≡ true → e ≡ d

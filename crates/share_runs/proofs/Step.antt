@@ -10,14 +10,16 @@ use Rattle.patch.specs.declared.kinds.Patch.{Patch}
 use Rattle.patch.specs.declared.settings.Settings.{Settings}
 use Rattle.tessellate.specs.Answers.{Told}
 use Rattle.tessellate.specs.Draws.{pointWords}
-use Rattle.shares.specs.declared.state.Designer.{Designer}
-use Rattle.shares.specs.declared.state.Share.{Share}
-use Rattle.shares.specs.declared.state.State.{State}
-use Rattle.shares.specs.SharedList.{share, left}
-use Rattle.shares.specs.Answers.{lent, accepted, pointsIn}
-use Rattle.shares.specs.Operations.{unlessRefused, newIndices}
+use Rattle.shared_lists.specs.declared.state.Designer.{Designer}
+use Rattle.shared_lists.specs.declared.state.Share.{Share}
+use Rattle.shared_lists.specs.declared.state.State.{State}
+use Rattle.shared_lists.specs.SharedList.{share, left}
+use Rattle.shared_lists.specs.Answers.{lent, accepted}
+use Rattle.shares.specs.Answers.{pointsIn}
+use Rattle.shared_lists.specs.Operations.{unlessRefused}
+use Rattle.shares.specs.Operations.{newIndices}
 use Rattle.share_runs.specs.Session.{Request, draw, clear, Call, Session, answerTo, served, next, answer, same, ownState, View, view}
-use Rattle.shares.proofs.Sound.{and-true, SoundState, state-test, lies, still-sound, still-whole, whole-points}
+use Rattle.shared_lists.proofs.Sound.{and-true, SoundState, state-test, lies, still-sound, still-whole, whole-points}
 use Rattle.shares.proofs.Passed.{passed}
 use Rattle.shares.proofs.Counts.{point-words, index-words}
 use Rattle.share_runs.proofs.Seen.{own-share, other-share, same-length, same-part, append-length, append-own, append-other}

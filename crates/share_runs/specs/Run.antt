@@ -7,14 +7,16 @@ use lib.ListN.{length}
 use Rattle.patch.specs.declared.kinds.Patch.{Patch}
 use Rattle.patch.specs.declared.settings.Settings.{Settings}
 use Rattle.tessellate.specs.Answers.{Told}
-use Rattle.shares.specs.declared.state.Designer.{Designer}
-use Rattle.shares.specs.declared.state.Quota.{Quota}
-use Rattle.shares.specs.declared.state.State.{State}
-use Rattle.shares.specs.declared.answer.StartAnswer.the-variants.{Started}
+use Rattle.shared_lists.specs.declared.state.Designer.{Designer}
+use Rattle.shared_lists.specs.declared.state.Quota.{Quota}
+use Rattle.shared_lists.specs.declared.state.State.{State}
+use Rattle.shared_lists.specs.declared.answer.StartAnswer.the-variants.{Started}
 use Rattle.shares.specs.declared.answer.DrawResult.{DrawResult}
-use Rattle.shares.specs.declared.answer.ClearResult.{ClearResult}
-use Rattle.shares.specs.Answers.{toldDraw, toldClear}
-use Rattle.shares.specs.Operations.{unlessRefused, DidStart, DidDraw, DidClear}
+use Rattle.shared_lists.specs.declared.answer.ClearResult.{ClearResult}
+use Rattle.shared_lists.specs.Answers.{toldClear}
+use Rattle.shares.specs.Answers.{toldDraw}
+use Rattle.shared_lists.specs.Operations.{unlessRefused, DidStart, DidClear}
+use Rattle.shares.specs.Operations.{DidDraw}
 use Rattle.share_runs.specs.Session.{draw, clear, Call, Session, Answered}
 
 -- an accepted start, with these quotas, on the lists v and i: the session that it begins

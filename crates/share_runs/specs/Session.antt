@@ -8,14 +8,16 @@ use Rattle.patch.specs.declared.kinds.Patch.{Patch}
 use Rattle.patch.specs.declared.settings.Settings.{Settings}
 use Rattle.tessellate.specs.Answers.{Told}
 use Rattle.tessellate.specs.Draws.{pointWords}
-use Rattle.shares.specs.declared.state.Designer.{Designer}
-use Rattle.shares.specs.declared.state.Designer.the-variants.{First, Second}
-use Rattle.shares.specs.declared.state.Share.{Share}
-use Rattle.shares.specs.declared.state.Quota.{Quota}
-use Rattle.shares.specs.declared.state.State.{State}
-use Rattle.shares.specs.SharedList.{share, part, appended}
-use Rattle.shares.specs.Answers.{accepted, drawVerdict, clearVerdict}
-use Rattle.shares.specs.Operations.{unlessRefused, startState, newIndices, drawnState, clearedState}
+use Rattle.shared_lists.specs.declared.state.Designer.{Designer}
+use Rattle.shared_lists.specs.declared.state.Designer.the-variants.{First, Second}
+use Rattle.shared_lists.specs.declared.state.Share.{Share}
+use Rattle.shared_lists.specs.declared.state.Quota.{Quota}
+use Rattle.shared_lists.specs.declared.state.State.{State}
+use Rattle.shared_lists.specs.SharedList.{share, part, appended}
+use Rattle.shared_lists.specs.Answers.{accepted, clearVerdict}
+use Rattle.shares.specs.Answers.{drawVerdict}
+use Rattle.shared_lists.specs.Operations.{unlessRefused, startState, clearedState}
+use Rattle.shares.specs.Operations.{newIndices, drawnState}
 
 -- what a designer may ask for after the start
 pub data Request : Type 0 where

@@ -12,17 +12,18 @@ use Rattle.patch.specs.declared.kinds.Patch.{Patch}
 use Rattle.patch.specs.declared.settings.Settings.{Settings}
 use Rattle.tessellate.specs.Answers.{Told, pointsOf, indicesOf, drewBoth}
 use Rattle.tessellate.specs.Draws.{pointWords}
-use Rattle.shares.specs.declared.state.Designer.{Designer}
-use Rattle.shares.specs.declared.state.Share.{Share}
-use Rattle.shares.specs.declared.state.SharedList.{SharedList}
-use Rattle.shares.specs.declared.state.State.{State}
+use Rattle.shared_lists.specs.declared.state.Designer.{Designer}
+use Rattle.shared_lists.specs.declared.state.Share.{Share}
+use Rattle.shared_lists.specs.declared.state.SharedList.{SharedList}
+use Rattle.shared_lists.specs.declared.state.State.{State}
 use Rattle.shares.specs.declared.answer.DrawAnswer.{DrawAnswer}
 use Rattle.shares.specs.declared.answer.DrawAnswer.the-variants.{Drawn}
-use Rattle.shares.specs.SharedList.{share, left, grown, appended}
-use Rattle.shares.specs.Answers.{toldDraw, roomVerdict, partVerdict, verdict, drawVerdict, accepted, lent, soundState, pointsIn}
+use Rattle.shared_lists.specs.SharedList.{share, left, grown, appended}
+use Rattle.shared_lists.specs.Answers.{accepted, lent, soundState}
+use Rattle.shares.specs.Answers.{toldDraw, roomVerdict, partVerdict, verdict, drawVerdict, pointsIn}
 use Rattle.shares.specs.Operations.{shifted, DidDraw}
 use Rattle.shares.specs.Room.{RoomFor, Appended}
-use Rattle.shares.proofs.Sound.{both, state-facts, lies}
+use Rattle.shared_lists.proofs.Sound.{both, state-facts, lies}
 use Rattle.shares.proofs.Passed.{Passed, passed}
 
 -- a state by its two sharess

@@ -17,10 +17,10 @@ use Rattle.drawing.proofs.Demand.{demand}
 use Rattle.tessellate.specs.Answers.{Told, drew, verdict, pointsOf}
 use Rattle.tessellate.specs.Draws.{Drew, connectionWords, after}
 use Rattle.tessellate.proofs.Tops.{top-as}
-use Rattle.shares.specs.declared.state.Designer.{Designer}
-use Rattle.shares.specs.declared.state.Share.{Share}
-use Rattle.shares.specs.declared.state.SharedList.{SharedList}
-use Rattle.shares.specs.SharedList.{share, partStart, firstFree, withUsed}
+use Rattle.shared_lists.specs.declared.state.Designer.{Designer}
+use Rattle.shared_lists.specs.declared.state.Share.{Share}
+use Rattle.shared_lists.specs.declared.state.SharedList.{SharedList}
+use Rattle.shared_lists.specs.SharedList.{share, partStart, firstFree, withUsed}
 use Rattle.shares.specs.Room.{Between, RoomFor, Appended}
 use Rattle.shares.proofs.Parts.{put-back, put-twice, lent-words}
 

@@ -1,6 +1,5 @@
 -- The laws of `shares`.
 pub mod Parts
-pub mod Sound
 pub mod Passed
 pub mod Counts
 mod Raised

@@ -13,7 +13,7 @@ use Rattle.patch.specs.Clamps.{clampsOf}
 use Rattle.tessellate.specs.declared.answer.Size.{Size}
 use Rattle.tessellate.specs.declared.answer.Size.the-variants.{Counts, Discarded, BadTop}
 use Rattle.tessellate.specs.Answers.{Told, measured, pointsOf, indicesOf}
-use Rattle.shares.specs.declared.state.Share.{Share}
+use Rattle.shared_lists.specs.declared.state.Share.{Share}
 use Rattle.shares.specs.Answers.{roomVerdict, partVerdict}
 
 -- both counts, of a patch that is not discarded

@@ -11,7 +11,7 @@ use Rattle.patch.specs.declared.kinds.Patch.{Patch}
 use Rattle.patch.specs.declared.settings.Settings.{Settings}
 use Rattle.patch.specs.Subdivide.{discards}
 use Rattle.tessellate.specs.Answers.{refused, pointsOf, indicesOf, drewBoth}
-use Rattle.shares.specs.Answers.{roomVerdict, partVerdict, verdict, clearVerdict}
+use Rattle.shares.specs.Answers.{roomVerdict, partVerdict, verdict}
 
 -- no test stood against drawing
 pub record Passed (set : Settings) (p : Patch) (ok : Bool) (n v i : ℕ) : Type 0 where
@@ -39,9 +39,3 @@ module _ (set : Settings) (p : Patch) (ok : Bool) (n v i : ℕ) where
       go true true false false false true a b c d e f h = absurd (omega arith)
       go true true false false false false a b c d e f h =
           record { top = a; state = b; drawn = c; numbered = ltb-false _ _ d; vertices = ltb-false _ _ e; indices = ltb-false _ _ f }
-
--- clearing is refused for the state or the lists alone
-pub cleared : (ok : Bool) → clearVerdict ok .number ≡ 0 → ok ≡ true
-unfolding clearVerdict
-cleared true h = refl
-cleared false h = absurd (omega arith)

@@ -9,9 +9,9 @@ use Rattle.level.specs.Top.{isTop}
 use Rattle.patch.specs.declared.kinds.Patch.{Patch}
 use Rattle.patch.specs.declared.settings.Settings.{Settings}
 use Rattle.patch.specs.Subdivide.{discards}
-use Rattle.shares.specs.declared.state.Designer.{Designer}
-use Rattle.shares.specs.declared.state.SharedList.{SharedList}
-use Rattle.shares.specs.SharedList.{share, partStart, grown, appended}
+use Rattle.shared_lists.specs.declared.state.Designer.{Designer}
+use Rattle.shared_lists.specs.declared.state.SharedList.{SharedList}
+use Rattle.shared_lists.specs.SharedList.{share, partStart, grown, appended}
 
 -- a patch that is drawn has room for `need` words from `from` to `to` of the list xs
 pub record Between (set : Settings) (p : Patch) (need from to : ℕ) (xs : List ℕ) : Type 0 where

@@ -8,13 +8,13 @@ ghost use Rattle.tessellate.specs.Answers.{pointsOf, indicesOf};
 ghost use Rattle.tessellate.specs.Draws.{pointWords};
 ghost use Rattle.shares.specs.Operations.{shifted};
 ghost use Rattle.shares.specs.Room.{Between, RoomFor, Appended};
-use crate::shared_list::part_start;
-use crate::shared_list::share_of;
-use crate::shared_list::with_used;
-use crate::state::Designer;
-use crate::state::SharedList;
 use patch::kinds::Patch;
 use patch::settings::Settings;
+use shared_lists::shared_list::part_start;
+use shared_lists::shared_list::share_of;
+use shared_lists::shared_list::with_used;
+use shared_lists::state::Designer;
+use shared_lists::state::SharedList;
 
 // The points, into the words from `from` to `to`.
 fn write_points(patch: Patch, settings: Settings, vertices: &mut [u32], from: usize, to: usize)

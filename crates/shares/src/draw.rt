@@ -4,12 +4,12 @@ use crate::answer::DrawAnswer;
 use crate::answer::DrawResult;
 use crate::append::append_indices;
 use crate::append::append_points;
-use crate::shared_list::share_of;
-use crate::state::Designer;
-use crate::state::State;
 use crate::verdict::verdict_of;
 use patch::kinds::Patch;
 use patch::settings::Settings;
+use shared_lists::shared_list::share_of;
+use shared_lists::state::Designer;
+use shared_lists::state::State;
 
 pub fn draw(
     state: State,

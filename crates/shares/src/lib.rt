@@ -1,9 +1,5 @@
-// Two designers share one vertex list and one index list: starting, drawing into one's part and clearing it.
+// Drawing into a designer's part of shared lists.
 pub mod answer;
 mod append;
-pub mod clear;
 pub mod draw;
-pub mod shared_list;
-pub mod start;
-pub mod state;
 mod verdict;

@@ -3,16 +3,17 @@ ghost use mathlib.Core.Path.{_≡_};
 ghost use Prim.Native.Nat.{_-_, _/_, _≤_};
 ghost use mathlib.Core.Bool.{true};
 ghost use Rattle.level.specs.Top.{isTop};
-ghost use Rattle.shares.specs.SharedList.{left};
-ghost use Rattle.shares.specs.Answers.{toldDraw, soundState, pointsIn, roomVerdict, partVerdict, drawVerdict};
+ghost use Rattle.shared_lists.specs.SharedList.{left};
+ghost use Rattle.shared_lists.specs.Answers.{soundState};
+ghost use Rattle.shares.specs.Answers.{toldDraw, pointsIn, roomVerdict, partVerdict, drawVerdict};
 use crate::answer::DrawAnswer;
-use crate::shared_list::accepts;
-use crate::shared_list::share_of;
-use crate::state::Designer;
-use crate::state::Share;
-use crate::state::State;
 use patch::kinds::Patch;
 use patch::settings::Settings;
+use shared_lists::shared_list::accepts;
+use shared_lists::shared_list::share_of;
+use shared_lists::state::Designer;
+use shared_lists::state::Share;
+use shared_lists::state::State;
 use tessellate::answer::Size;
 
 // Whether a part has room for so many points and indices more.

@@ -11,12 +11,10 @@ use lib.Dec.{ltb, leb, eqb}
 use borrow.Author.Tests.{ltb-true, ltb-false, eqb-true, eqb-false}
 use Rattle.patch.specs.declared.kinds.Patch.{Patch}
 use Rattle.patch.specs.declared.settings.Settings.{Settings}
-use Rattle.patch.specs.Turn.{positive}
 use Rattle.strip.specs.declared.triangle.Triangle.{Triangle}
 use Rattle.mesh.specs.declared.Point.{Point}
 use Rattle.mesh.specs.Faces.{at}
 use Rattle.drawing.specs.Words.{readPoints, readTriangles}
-use Rattle.drawing.specs.Demand.{outline}
 use Rattle.searches.specs.Indices.{firstUnknown}
 use Rattle.searches.specs.Points.{samePoint, firstRepeated}
 use Rattle.searches.specs.Triangles.{triangleAt, shareSide, firstReused}
@@ -28,6 +26,7 @@ use Rattle.mesh_faults.specs.Outline.{firstOpen, firstMissing}
 use Rattle.mesh_verdict.specs.Faults.{orElse, outlineFault, sideFault, pointFault, meshFault}
 use Rattle.verdict_meaning.specs.Checks.{isTriangles}
 use Rattle.verdict_meaning.specs.Means.{Kept, Counted, Known, Inside, Distinct, Turning, Single, Closed, Means}
+use Rattle.verdict_meaning.proofs.Given.{turn, rim}
 use Rattle.verdict_meaning.proofs.Tells.{tells-all, tells-first, pair-none, pair-first}
 use Rattle.verdict_meaning.proofs.PointTests.{known-tells, inside-tells, equal-tells}
 use Rattle.verdict_meaning.proofs.SideTests.{turn-tells, share-tells, closed-tells, drawn-tells}
@@ -48,27 +47,21 @@ module _ (set : Settings) (p : Patch) (pw iw : List ℕ) where
   abbrev ts : List Triangle
   ts = readTriangles iw
 
-  abbrev turn : Bool
-  turn = positive (set .order) (set .origin)
-
-  abbrev rim : List Point
-  rim = outline (set .spacing) (set .top) p
-
   abbrev M : Verdict → Type 0
   M v = Means set p pw iw v
 
-  outline-means : Single set p pw iw → M (outlineFault turn rim ps ts)
+  outline-means : Single set p pw iw → M (outlineFault (turn set) (rim set p) ps ts)
   unfolding outlineFault firstOpen firstMissing
   outline-means s =
       let h = closed-tells set p ps iw (distinct-of ps (s .0 .0 .1)) (numbers-of ps iw (s .0 .0 .0 .0 .1)) in
       let g = drawn-tells set p ps iw in
-      let m = firstOpen turn rim ps ts in
+      let m = firstOpen (turn set) (rim set p) ps ts in
       stage M _ _ _ _
       (λ l. let e : m / 3 * 3 + m % 3 ≡ m = omega arith in (s, omega arith, rw e (tells-first h l)))
       (λ l. let c : Closed set p pw iw = (s, tells-all h l) in
-      stage M (firstMissing turn rim ps ts) (length rim) (said.MissingPiece (firstMissing turn rim ps ts)) said.Accepted (λ k. (c, tells-first g k)) (λ k. inr (s .0 .0 .0 .0 .0 .0, passed-sound set p pw iw c (tells-all g k))))
+      stage M (firstMissing (turn set) (rim set p) ps ts) (length (rim set p)) (said.MissingPiece (firstMissing (turn set) (rim set p) ps ts)) said.Accepted (λ k. (c, tells-first g k)) (λ k. inr (s .0 .0 .0 .0 .0 .0, passed-sound set p pw iw c (tells-all g k))))
 
-  side-means : Distinct set p pw iw → M (sideFault turn rim ps ts)
+  side-means : Distinct set p pw iw → M (sideFault (turn set) (rim set p) ps ts)
   unfolding sideFault firstTurned firstReused
   side-means d =
       let h = turn-tells set p ps iw in
@@ -78,7 +71,7 @@ module _ (set : Settings) (p : Patch) (pw iw : List ℕ) where
       stage M _ _ _ _ (λ k. (t, pair-first (λ i j. shareSide (triangleAt ts i) (triangleAt ts j)) g k))
       (λ k. outline-means (t, pair-none (λ i j. shareSide (triangleAt ts i) (triangleAt ts j)) g k)))
 
-  point-means : Known set p pw iw → M (pointFault (isTriangles p) turn rim ps ts)
+  point-means : Known set p pw iw → M (pointFault (isTriangles p) (turn set) (rim set p) ps ts)
   unfolding pointFault firstOutside firstRepeated
   point-means d =
       let h = inside-tells p ps in
@@ -88,12 +81,12 @@ module _ (set : Settings) (p : Patch) (pw iw : List ℕ) where
       stage M _ _ _ _ (λ k. (t, pair-first (λ i j. samePoint (at ps i) (at ps j)) g k))
       (λ k. side-means (t, pair-none (λ i j. samePoint (at ps i) (at ps j)) g k)))
 
-  pub mesh-means : Kept set p → M (meshFault (isTriangles p) turn rim pw iw)
+  pub mesh-means : Kept set p → M (meshFault (isTriangles p) (turn set) (rim set p) pw iw)
   unfolding meshFault firstUnknown
   mesh-means d = go (eqb (length pw % 3) 0) (eqb (length iw % 3) 0) refl refl
     where
       go : (x y : Bool) → eqb (length pw % 3) 0 ≡ x → eqb (length iw % 3) 0 ≡ y
-          → M (cond (x && y) (orElse (firstUnknown iw (length ps)) (length iw) (said.UnknownIndex (firstUnknown iw (length ps))) (pointFault (isTriangles p) turn rim ps ts)) said.NotThrees)
+          → M (cond (x && y) (orElse (firstUnknown iw (length ps)) (length iw) (said.UnknownIndex (firstUnknown iw (length ps))) (pointFault (isTriangles p) (turn set) (rim set p) ps ts)) said.NotThrees)
       go true true e f =
           let t : Counted set p pw iw = (d, (eqb-true (length pw % 3) 0 e, eqb-true (length iw % 3) 0 f)) in
           let h = known-tells ps iw in

@@ -1,4 +1,5 @@
 -- The laws of what checking a mesh answers, lowest first.
+pub mod Given
 pub mod Tells
 pub mod Sides
 pub mod PointTests

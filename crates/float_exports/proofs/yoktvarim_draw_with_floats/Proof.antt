@@ -1,7 +1,7 @@
 -- Meets its contract: a return for a bad top, one for an unknown setting and one for what drawing answers. Assumes nothing.
 use mathlib.Core.Path.{ap, _∙_}
 use Rattle.level.specs.Top.{isTop}
-use Rattle.job.specs.Settings.{settingsAt}
+use Rattle.job_fields.specs.Settings.{settingsAt}
 use Rattle.tessellate.proofs.Tops.{good, bad}
 use Rattle.exports.proofs.Calls.{said-two}
 use Rattle.float_exports.proofs.Calls.{floats-bad, floats-unknown, floats-known}

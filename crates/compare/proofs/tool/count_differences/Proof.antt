@@ -3,12 +3,8 @@ use borrow.Author.Needs.{needs}
 use native.Mathlib.Omega.{arith}
 use mathlib.Core.Path.{ap}
 use lib.ListN.{length}
-use Rattle.drawing.specs.Words.{readPoints, readTriangles}
-use Rattle.searches.specs.Points.{samePoint}
-use Rattle.searches.proofs.Read.{points-count, triangles-count}
-use Rattle.differences.specs.Lacking.{lacks}
-use Rattle.differences.specs.Meshes.{pointsIn, facesIn, readMesh, sameFace}
-use Rattle.compare.proofs.Passing.{passing-most, in-place-none}
+use Rattle.differences.specs.Meshes.{readMesh}
+use Rattle.compare.proofs.Passing.{Few, few, in-place-none}
 use Rattle.differences.proofs.Lacks.{in-place-back}
 use Rattle.compare.proofs.Parts.{parts-count}
 use Rattle.compare.proofs.tool.count_differences.Statement.{statement}
@@ -26,9 +22,8 @@ all-in-place-requires c κs = search needs
 add-result : tie.Need-add-result
 add-result c =
     let a = c .before .before .before .before .before .before .before .before .args in
-    let h0 = passing-most (lacks samePoint (pointsIn (a .left-points .now)) (pointsIn (a .right-points .now))) (length (readPoints (a .left-points .now))) in
-    let h1 = passing-most (lacks samePoint (pointsIn (a .right-points .now)) (pointsIn (a .left-points .now))) (length (readPoints (a .right-points .now))) in
-    omega (arith, points-count (a .left-points .now), points-count (a .right-points .now))
+    let f = few (a .left-points .now) (a .left-indices .now) (a .right-points .now) (a .right-indices .now) in
+    omega arith
 
 returns : tie.Need-returns
 returns c =
@@ -44,32 +39,19 @@ count-faces-requires c κs = search needs
 count-faces-requires-2 : tie.Need-count-faces-requires-2
 count-faces-requires-2 c κs = search needs
 
+-- after all four counts
+few-counted : (c : tie.After-count-faces2)
+    → (let a = c .before .before .before .before .before .before .before .before .before .before .args in Few (a .left-points .now) (a .left-indices .now) (a .right-points .now) (a .right-indices .now))
+few-counted c = few _ _ _ _
+
 add-result-2 : tie.Need-add-result-2
-add-result-2 c =
-    let a = c .before .before .before .before .before .before .before .before .before .before .args in
-    let h0 = passing-most (lacks samePoint (pointsIn (a .left-points .now)) (pointsIn (a .right-points .now))) (length (readPoints (a .left-points .now))) in
-    let h1 = passing-most (lacks samePoint (pointsIn (a .right-points .now)) (pointsIn (a .left-points .now))) (length (readPoints (a .right-points .now))) in
-    let h2 = passing-most (lacks sameFace (facesIn (a .left-points .now) (a .left-indices .now)) (facesIn (a .right-points .now) (a .right-indices .now))) (length (readTriangles (a .left-indices .now))) in
-    let h3 = passing-most (lacks sameFace (facesIn (a .right-points .now) (a .right-indices .now)) (facesIn (a .left-points .now) (a .left-indices .now))) (length (readTriangles (a .right-indices .now))) in
-    omega (arith, points-count (a .left-points .now), points-count (a .right-points .now), triangles-count (a .left-indices .now), triangles-count (a .right-indices .now))
+add-result-2 c = let f = few-counted c in omega arith
 
 add-result-3 : tie.Need-add-result-3
-add-result-3 c =
-    let a = c .before .before .before .before .before .before .before .before .before .before .args in
-    let h0 = passing-most (lacks samePoint (pointsIn (a .left-points .now)) (pointsIn (a .right-points .now))) (length (readPoints (a .left-points .now))) in
-    let h1 = passing-most (lacks samePoint (pointsIn (a .right-points .now)) (pointsIn (a .left-points .now))) (length (readPoints (a .right-points .now))) in
-    let h2 = passing-most (lacks sameFace (facesIn (a .left-points .now) (a .left-indices .now)) (facesIn (a .right-points .now) (a .right-indices .now))) (length (readTriangles (a .left-indices .now))) in
-    let h3 = passing-most (lacks sameFace (facesIn (a .right-points .now) (a .right-indices .now)) (facesIn (a .left-points .now) (a .left-indices .now))) (length (readTriangles (a .right-indices .now))) in
-    omega (arith, points-count (a .left-points .now), points-count (a .right-points .now), triangles-count (a .left-indices .now), triangles-count (a .right-indices .now))
+add-result-3 c = let f = few-counted c in omega arith
 
 add-result-4 : tie.Need-add-result-4
-add-result-4 c =
-    let a = c .before .before .before .before .before .before .before .before .before .before .args in
-    let h0 = passing-most (lacks samePoint (pointsIn (a .left-points .now)) (pointsIn (a .right-points .now))) (length (readPoints (a .left-points .now))) in
-    let h1 = passing-most (lacks samePoint (pointsIn (a .right-points .now)) (pointsIn (a .left-points .now))) (length (readPoints (a .right-points .now))) in
-    let h2 = passing-most (lacks sameFace (facesIn (a .left-points .now) (a .left-indices .now)) (facesIn (a .right-points .now) (a .right-indices .now))) (length (readTriangles (a .left-indices .now))) in
-    let h3 = passing-most (lacks sameFace (facesIn (a .right-points .now) (a .right-indices .now)) (facesIn (a .left-points .now) (a .left-indices .now))) (length (readTriangles (a .right-indices .now))) in
-    omega (arith, points-count (a .left-points .now), points-count (a .right-points .now), triangles-count (a .left-indices .now), triangles-count (a .right-indices .now))
+add-result-4 c = let f = few-counted c in omega arith
 
 returns-2 : tie.Need-returns-2
 returns-2 c =

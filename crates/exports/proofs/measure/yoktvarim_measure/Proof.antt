@@ -3,7 +3,7 @@
 use borrow.Author.Needs.{needs}
 use mathlib.Core.Path.{ap, _∙_}
 use Rattle.level.specs.Top.{isTop}
-use Rattle.job.specs.Settings.{settingsAt}
+use Rattle.job_fields.specs.Settings.{settingsAt}
 use Rattle.tessellate.proofs.Tops.{good, bad}
 use Rattle.exports.proofs.Calls.{said-two, measure-bad, measure-unknown, measure-known}
 use Rattle.exports.proofs.measure.yoktvarim_measure.Statement.{statement}

@@ -5,7 +5,7 @@ use mathlib.Core.Path.{_≡_, sym, _∙_}
 use mathlib.Core.Bool.{true}
 use lib.ListN.{length}
 use denote.Ref.{now}
-use Rattle.job.specs.declared.version.Version.the-variants.{One, Two}
+use Rattle.job_fields.specs.declared.version.Version.the-variants.{One, Two}
 use Rattle.job.specs.Header.{mark, startsWith}
 use Rattle.job.proofs.Marks.{has-mark}
 use Rattle.job.proofs.Headers.{header-read, header-lacks, header-version, header-right}

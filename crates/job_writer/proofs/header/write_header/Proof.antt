@@ -2,9 +2,9 @@
 use borrow.Author.Needs.{needs}
 use native.Mathlib.Omega.{arith}
 use Rattle.buffer.proofs.Laws.{wrote-then}
-use Rattle.job.specs.Bytes.{lowBytes}
-use Rattle.job_writer.specs.Written.{headerBytes}
-use Rattle.job_writer.proofs.Lengths.{number-small}
+use Rattle.job_fields.specs.Bytes.{lowBytes}
+use Rattle.job_bytes.specs.Written.{headerBytes}
+use Rattle.job_bytes.proofs.Lengths.{number-small}
 use Rattle.job_writer.proofs.Answered.{header-no-room, header-written}
 use Prim.Native.Nat.{zero-le}
 use Rattle.job_writer.proofs.header.write_header.Statement.{statement}

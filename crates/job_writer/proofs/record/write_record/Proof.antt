@@ -3,11 +3,11 @@ use borrow.Author.Needs.{needs}
 use native.Mathlib.Omega.{arith}
 use mathlib.Core.Path.{_≡_, sym, _∙_}
 use borrow.Author.Tests.{not-true, not-false}
-use Rattle.job_writer.specs.Patterns.{Patterns}
-use Rattle.job_writer.proofs.Lengths.{record-length, size-small}
+use Rattle.job_bytes.specs.Patterns.{Patterns}
+use Rattle.job_bytes.proofs.Lengths.{record-length, size-small}
 use Rattle.job_writer.proofs.Answered.{record-bad-top, record-no-room, record-written}
 use mathlib.Core.Bool.{true}
-use Rattle.job_writer.specs.Written.{takesTop}
+use Rattle.job_bytes.specs.Written.{takesTop}
 use Rattle.job_writer.proofs.record.write_record.Statement.{statement}
 use Rattle.job_writer.proofs.record.write_record.Tie as tie
 

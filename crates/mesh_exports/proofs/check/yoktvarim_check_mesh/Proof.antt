@@ -3,7 +3,7 @@
 use borrow.Author.Needs.{needs}
 use mathlib.Core.Path.{ap, _∙_}
 use Rattle.level.specs.Top.{isTop}
-use Rattle.job.specs.Settings.{settingsAt}
+use Rattle.job_fields.specs.Settings.{settingsAt}
 use Rattle.tessellate.proofs.Tops.{good, bad}
 use Rattle.mesh_exports.proofs.Calls.{said, check-bad, check-unknown, check-known}
 use Rattle.mesh_exports.proofs.check.yoktvarim_check_mesh.Statement.{statement}

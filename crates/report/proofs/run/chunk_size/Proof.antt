@@ -1,7 +1,7 @@
 -- Meets its contract: no record is longer than 30 bytes. Assumes nothing.
 use borrow.Author.Needs.{needs}
 use native.Mathlib.Omega.{arith}
-use Rattle.report.proofs.Sizes.{size-most}
+use Rattle.job_text.proofs.Sizes.{size-most}
 use Rattle.report.proofs.run.chunk_size.Statement.{statement}
 use Rattle.report.proofs.run.chunk_size.Tie as tie
 

@@ -1,6 +1,6 @@
 -- Meets its contract. Assumes nothing.
 use mathlib.Core.Path.{ap, _∙_}
-use Rattle.job.specs.Settings.{settingsAt}
+use Rattle.job_fields.specs.Settings.{settingsAt}
 use Rattle.share_exports.proofs.Calls.{draw-refused, draw-known}
 use borrow.Author.Needs.{needs}
 use Rattle.share_exports.proofs.draw.yoktvarim_share_draw.Statement.{statement}

@@ -2,7 +2,7 @@
 use mathlib.Core.Path.{sym, _∙_}
 use borrow.Author.Needs.{needs}
 use Rattle.shares.specs.Answers.{partVerdict}
-use Rattle.shares.proofs.Sound.{state-facts, lies}
+use Rattle.shared_lists.proofs.Sound.{state-facts, lies}
 use Rattle.shares.proofs.Measured.{not-bad, is-discarded, is-counted, part-says}
 use Rattle.shares.proofs.verdict.part_verdict.Statement.{statement}
 use Rattle.shares.proofs.verdict.part_verdict.Tie as tie

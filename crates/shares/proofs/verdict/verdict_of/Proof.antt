@@ -1,8 +1,9 @@
 -- Meets its contract. Assumes nothing.
 use borrow.Author.Needs.{needs}
 use Rattle.tessellate.proofs.Tops.{good, bad}
-use Rattle.shares.specs.Answers.{verdict, lent, soundState}
-use Rattle.shares.proofs.Sound.{both}
+use Rattle.shared_lists.specs.Answers.{lent, soundState}
+use Rattle.shares.specs.Answers.{verdict}
+use Rattle.shared_lists.proofs.Sound.{both}
 use Rattle.shares.proofs.verdict.verdict_of.Statement.{statement}
 use Rattle.shares.proofs.verdict.verdict_of.Tie as tie
 

@@ -1,0 +1,3 @@
+-- The definitions of `job_bytes`.
+pub mod Written
+pub mod Patterns

@@ -1,0 +1,31 @@
+// The top level of a record: which a version can hold, and the byte that holds it.
+ghost use mathlib.Core.Path.{_≡_};
+ghost use mathlib.Core.Bool.{true};
+ghost use Prim.Native.Nat.{_+_, _≤_};
+ghost use lib.ListN.{length};
+ghost use Rattle.buffer.specs.Over.{Wrote};
+ghost use Rattle.job_bytes.specs.Written.{takesTop, topBytes};
+use job_fields::version::Version;
+use level::is_top;
+use text::put_bytes;
+
+// Version 1 has no byte for the top level, which is 64 there.
+pub fn takes_top(version: Version, top: u32) -> bool
+    ensures { λ r. ⌜ r ≡ takesTop version top ⌝ }
+{
+    match version {
+        Version::One => top == 64,
+        Version::Two => is_top(top),
+    }
+}
+
+pub(crate) fn put_top(out: &mut [u8], at: usize, version: Version, top: u32) -> usize
+    requires { ⌜ takesTop version top ≡ true ⌝ }
+    requires { ⌜ at + length (topBytes version top) ≤ length (now out) ⌝ }
+    ensures { λ r. ⌜ Wrote (now (out .entry)) at (topBytes version top) (now (out .exit)) r ⌝ }
+{
+    match version {
+        Version::One => at,
+        Version::Two => put_bytes(out, at, &[top as u8]),
+    }
+}

@@ -1,0 +1,32 @@
+-- The top level of a record, and the setting bytes with it: which of them is out of range. Assumes nothing.
+use Prim.Native.Nat.{ℕ, _+_}
+use mathlib.Core.Path.{_≡_}
+use mathlib.Core.Bool.{true, false, cond}
+use mathlib.Core.List.{List}
+use mathlib.Core.Logic.{_⊎_}
+use lib.Dec.{ltb}
+use Rattle.level.specs.Top.{isTop}
+use Rattle.job_fields.specs.Bytes.{byteAt}
+use Rattle.job_fields.specs.Settings.{choices, firstUnknown, FirstOver, AllBelow}
+use Rattle.job_fields.specs.declared.version.Version.{Version}
+use Rattle.job_fields.specs.declared.version.Version.the-variants.{One, Two}
+
+-- the top level: 64 in version 1, and in version 2 the setting byte at place 5
+abbrev pub topAt : Version → List ℕ → ℕ → ℕ
+topAt One bs at = 64
+topAt Two bs at = byteAt bs (at + 5)
+
+-- the place of the first setting byte that is out of range; the number of setting bytes where there is none
+unfoldable pub unknownPlace : Version → List ℕ → ℕ → ℕ
+unknownPlace One bs at = firstUnknown bs at
+unknownPlace Two bs at = cond (ltb (firstUnknown bs at) 5) (firstUnknown bs at) (cond (isTop (topAt Two bs at)) 6 5)
+
+-- a place is that of the first setting byte that is out of range: one of the five, or after five in range the top level
+abbrev pub FirstUnknown : Version → List ℕ → ℕ → ℕ → Type 0
+FirstUnknown One bs at place = FirstOver choices bs at place
+FirstUnknown Two bs at place = FirstOver choices bs at place ⊎ (AllBelow choices bs at × (isTop (topAt Two bs at) ≡ false) × (place ≡ 5))
+
+-- every setting byte is in range
+abbrev pub AllKnown : Version → List ℕ → ℕ → Type 0
+AllKnown One bs at = AllBelow choices bs at
+AllKnown Two bs at = AllBelow choices bs at × (isTop (topAt Two bs at) ≡ true)

@@ -1,0 +1,45 @@
+-- The text that answers a whole job. Assumes nothing.
+use Prim.Native.Nat.{ℕ, zero, suc}
+use mathlib.Core.List.{List, [], _++_}
+use lib.ListN.{length}
+use Rattle.job_fields.specs.declared.version.Version.{Version}
+use Rattle.job.specs.declared.header.Header.{Header}
+use Rattle.job.specs.declared.header.Header.the-variants.{Read, NotAJob, UnknownVersion}
+use Rattle.job_fields.specs.Version.{versionNumber}
+use Rattle.job.specs.Header.{headerOf}
+use Rattle.job.specs.Records.{recordAt}
+use Rattle.text.specs.Heads.{titleLine, refusedLine}
+use Rattle.job_text.specs.declared.header.Rest.{Rest}
+use Rattle.job_text.specs.declared.header.Rest.the-variants.{Records, Nothing}
+use Rattle.job_text.specs.Replies.{reply, goesOn}
+
+-- the answers to the first k records from a place on, in a file of a version
+unfoldable pub answers : Version → ℕ → List ℕ → ℕ → List ℕ
+answers v zero bs at = []
+answers v (suc k) bs at = reply (recordAt v bs at) ++ answers v k bs (goesOn (length bs) (recordAt v bs at))
+
+-- the answers to all records from a place on: there are no more of them than bytes
+abbrev pub answersFrom : Version → List ℕ → ℕ → List ℕ
+answersFrom v bs at = answers v (length bs) bs at
+
+-- what is said of a header
+abbrev pub startText : Header → List ℕ
+startText (Read v next) = titleLine (versionNumber v)
+startText NotAJob = refusedLine 5
+startText UnknownVersion = refusedLine 6
+
+-- what is said of the records after it
+abbrev pub restText : List ℕ → Header → List ℕ
+restText bs (Read v next) = answersFrom v bs (next .at)
+restText bs NotAJob = []
+restText bs UnknownVersion = []
+
+-- the text that answers the bytes of a job
+unfoldable pub jobText : List ℕ → List ℕ
+jobText bs = startText (headerOf bs) ++ restText bs (headerOf bs)
+
+-- what follows a header: records of its version where it was read
+abbrev pub restOf : Header → Rest
+restOf (Read v next) = Records v
+restOf NotAJob = Nothing
+restOf UnknownVersion = Nothing

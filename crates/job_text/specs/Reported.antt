@@ -1,0 +1,16 @@
+-- What is promised of answers to records that stand one after the other. Assumes nothing.
+use Prim.Native.Nat.{ℕ, _≤_, _<_}
+use mathlib.Core.Path.{_≡_}
+use mathlib.Core.List.{List, _++_}
+use lib.ListN.{length, take}
+use Rattle.job_fields.specs.declared.version.Version.{Version}
+use Rattle.job_text.specs.declared.records.Progress.{Progress}
+use Rattle.job_text.specs.Jobs.{answersFrom}
+
+-- out is the output after the call
+pub record Reported (v : Version) (bs : List ℕ) (from : ℕ) (out : List ℕ) (r : Progress) : Type 0 where
+  -- what was written, and the answers from the next place on, are the answers from the first place on
+  pub text : answersFrom v bs from ≡ take (r .written) out ++ answersFrom v bs (r .next)
+  pub fits : r .written ≤ length out
+  -- where there is a record, at least one is answered
+  pub on : from < length bs → from < r .next

@@ -1,0 +1,42 @@
+// The answers to records that stand one after the other.
+ghost use Prim.Native.Nat.{_≤_};
+ghost use lib.ListN.{length};
+ghost use Rattle.job_text.specs.Reported.{Reported};
+ghost use Rattle.patch_text.specs.Room.{room, FullSize};
+use crate::reply::next_place;
+use crate::reply::put_reply;
+use job::cursor::Cursor;
+use job::next::read_record;
+use job_fields::version::Version;
+
+// No record is answered by more bytes than this.
+const ROOM: usize = 286909;
+
+// How many bytes of text were written, and where the first record is that they do not answer.
+pub struct Progress {
+    pub written: usize,
+    pub next: usize,
+}
+
+// The answers from a place on in a file of a version, from the front of `out`, as long as the next one is sure to fit.
+pub fn put_records(
+    out: &mut [u8],
+    bytes: &[u8],
+    version: Version,
+    from: usize,
+    vertices: &mut [u32],
+    indices: &mut [u16],
+) -> Progress
+    requires { ⌜ FullSize (length (now vertices)) (length (now indices)) ⌝ ∗ ⌜ room ≤ length (now out) ⌝ }
+    ensures { λ r. ⌜ Reported version (now (bytes .entry)) from (now (out .exit)) r ⌝ }
+{
+    let most = out.len() - ROOM;
+    let mut written = 0;
+    let mut at = from;
+    while at < bytes.len() && written <= most {
+        let found = read_record(bytes, version, Cursor { at });
+        written = put_reply(out, written, found, vertices, indices);
+        at = next_place(found, bytes.len());
+    }
+    Progress { written, next: at }
+}

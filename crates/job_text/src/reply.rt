@@ -1,0 +1,59 @@
+// The answer to what stands in a job where a record is read.
+ghost use mathlib.Core.Path.{_≡_};
+ghost use Prim.Native.Nat.{_+_, _≤_};
+ghost use lib.ListN.{length};
+ghost use Rattle.buffer.specs.Over.{Wrote};
+ghost use Rattle.job.specs.Patches.{patchOf};
+ghost use Rattle.patch_text.specs.Answers.{recordText};
+ghost use Rattle.job_text.specs.Replies.{reply, goesOn};
+ghost use Rattle.patch_text.specs.Room.{room, FullSize};
+use job::next::NextRecord;
+use job::record::Record;
+use patch_text::answer::put_patch;
+
+// A record that was read, drawn into full-size lists.
+fn put_record(
+    out: &mut [u8],
+    at: usize,
+    record: Record,
+    vertices: &mut [u32],
+    indices: &mut [u16],
+) -> usize
+    requires { ⌜ FullSize (length (now vertices)) (length (now indices)) ⌝ ∗ ⌜ at + room ≤ length (now out) ⌝ }
+    ensures { λ r. ⌜ Wrote (now (out .entry)) at (recordText («record» .settings) (patchOf «record»)) (now (out .exit)) r ⌝ }
+{
+    let patch = job::record::patch_of(record);
+    let settings = job::record::settings_of(record);
+    put_patch(out, at, patch, settings, vertices, indices)
+}
+
+// A record, or why there is none.
+pub fn put_reply(
+    out: &mut [u8],
+    at: usize,
+    found: NextRecord,
+    vertices: &mut [u32],
+    indices: &mut [u16],
+) -> usize
+    requires { ⌜ FullSize (length (now vertices)) (length (now indices)) ⌝ ∗ ⌜ at + room ≤ length (now out) ⌝ }
+    ensures { λ r. ⌜ Wrote (now (out .entry)) at (reply found) (now (out .exit)) r ⌝ }
+{
+    match found {
+        NextRecord::Read { record, next: _ } => put_record(out, at, record, vertices, indices),
+        NextRecord::End => at,
+        NextRecord::CutRecord => text::put_refused(out, at, 7),
+        NextRecord::UnknownSetting { place: _, next: _ } => text::put_refused(out, at, 8),
+    }
+}
+
+// Where reading goes on, in bytes that end at `end`.
+pub fn next_place(found: NextRecord, end: usize) -> usize
+    ensures { λ r. ⌜ r ≡ goesOn end found ⌝ }
+{
+    match found {
+        NextRecord::Read { record: _, next } => next.at,
+        NextRecord::End => end,
+        NextRecord::CutRecord => end,
+        NextRecord::UnknownSetting { place: _, next } => next.at,
+    }
+}

@@ -1,0 +1,3 @@
+-- The definitions of `replay_entry`.
+pub mod Outcomes
+pub mod Entries

@@ -1,8 +1,0 @@
--- The laws of `report`, lowest first.
-pub mod Sizes
-pub mod Steps
-pub mod Answering
-pub mod Same
-pub mod Pieces
-pub mod Never
-pub mod Example

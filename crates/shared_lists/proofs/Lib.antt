@@ -1,0 +1,2 @@
+-- The laws of `shared_lists`.
+pub mod Sound

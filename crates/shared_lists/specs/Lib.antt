@@ -1,0 +1,4 @@
+-- The definitions of `shared_lists`.
+pub mod SharedList
+pub mod Answers
+pub mod Operations

@@ -1,0 +1,46 @@
+-- The promises of starting and of clearing: the answer, and the state to hand on.
+-- Assumes nothing.
+use Prim.Native.Nat.{ℕ, zero, suc}
+use mathlib.Core.Path.{_≡_}
+use mathlib.Core.Bool.{cond}
+use Rattle.shared_lists.specs.declared.state.Designer.{Designer}
+use Rattle.shared_lists.specs.declared.state.Share.{Share}
+use Rattle.shared_lists.specs.declared.state.SharedList.{SharedList}
+use Rattle.shared_lists.specs.declared.state.Quota.{Quota}
+use Rattle.shared_lists.specs.declared.state.State.{State}
+use Rattle.shared_lists.specs.declared.answer.StartAnswer.{StartAnswer}
+use Rattle.shared_lists.specs.declared.answer.StartAnswer.the-variants.{Started, QuotasTooLarge}
+use Rattle.shared_lists.specs.declared.answer.ClearResult.{ClearResult}
+use Rattle.shared_lists.specs.SharedList.{withUsed}
+use Rattle.shared_lists.specs.Answers.{toldStart, toldClear, quotasFit, startVerdict, accepted, clearVerdict}
+
+-- a value after an answer of this number: the new one where it is 0, else as it was
+abbrev pub unlessRefused : {A : Type 0} → ℕ → A → A → A
+unlessRefused zero new old = new
+unlessRefused (suc n) new old = old
+
+-- an unused share
+abbrev pub unused : ℕ → Share
+unused q = record { quota = q; used = 0 }
+
+-- a list of n words, with these quotas
+abbrev pub unusedList : ℕ → ℕ → ℕ → SharedList
+unusedList n a b = record { length = n; first = unused a; second = unused b }
+
+-- the state after a start on lists of v and i words
+abbrev pub startState : ℕ → ℕ → Quota → Quota → State
+startState v i a b = record { vertices = unusedList v (a .vertices) (b .vertices); indices = unusedList i (a .indices) (b .indices) }
+
+-- starting
+pub record DidStart (v i : ℕ) (a b : Quota) (r : StartAnswer) : Type 0 where
+  pub answer : toldStart r ≡ startVerdict v i a b
+  pub is : r ≡ cond (quotasFit v i a b) (Started (startState v i a b)) QuotasTooLarge
+
+-- the state after a designer's part was cleared
+abbrev pub clearedState : Designer → State → State
+clearedState d s = record { vertices = withUsed d 0 (s .vertices); indices = withUsed d 0 (s .indices) }
+
+-- clearing, lent lists of v and i words
+pub record DidClear (d : Designer) (s : State) (v i : ℕ) (r : ClearResult) : Type 0 where
+  pub answer : toldClear (r .answer) ≡ clearVerdict (accepted v i s)
+  pub state : r .state ≡ unlessRefused (toldClear (r .answer) .number) (clearedState d s) s

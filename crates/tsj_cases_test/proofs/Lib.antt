@@ -1,0 +1,2 @@
+-- The text for the customer's sample, worked out.
+pub mod Sample

@@ -1,0 +1,55 @@
+-- The customer's sample: the whole text for a job of one triangle record, from its bytes, in each version. Assumes nothing.
+use Prim.Native.Nat.{ℕ}
+use mathlib.Core.Path.{_≡_, refl}
+use mathlib.Core.List.{List, [], _∷_}
+use lib.Ieee.{ofBits, ofInt, isNan, le}
+use Rattle.buffer.specs.Over.{flat}
+use Rattle.level.specs.Scale.{parts}
+use Rattle.level.specs.Segments.{segmentsOf, asInner}
+use Rattle.edge.specs.Positions.{position}
+use Rattle.edge.specs.Table.{table}
+use Rattle.strip.specs.Triangles.{indices}
+use Rattle.strip.specs.Rule.{outerNext}
+use Rattle.strip.specs.Strips.{stripFrom}
+use Rattle.cover.specs.Ring.{ringAt}
+use Rattle.cover.specs.Band.{bandFrom}
+use Rattle.cover.specs.Nest.{nest}
+use Rattle.patch.specs.Every.{some, every}
+use Rattle.patch.specs.Subdivide.{subdivision}
+use Rattle.mesh.specs.Edge.{ring}
+use Rattle.mesh.specs.TrianglePoints.{rings}
+use Rattle.mesh.specs.Words.{vertexWords}
+use Rattle.drawing.specs.Points.{points}
+use Rattle.drawing.specs.Primitives.{triangles, indexWords}
+use Rattle.job_fields.specs.Bytes.{word}
+use Rattle.job.specs.Header.{startsWith, headerOf}
+use Rattle.job_fields.specs.Settings.{firstOver}
+use Rattle.job_fields.specs.Tops.{unknownPlace}
+use Rattle.job.specs.Records.{recordOf, recordAt}
+use Rattle.text.specs.Digits.{digitsIn, digits}
+use Rattle.text.specs.Lines.{line, rows}
+use Rattle.text.specs.Heads.{bytes}
+use Rattle.patch_text.specs.Answers.{drawnText}
+use Rattle.job_text.specs.Jobs.{answers, jobText}
+
+-- triangles, equal spacing, counter-clockwise, lower-left, no dots; the levels 1, 1, 1, 0, 2 and 0
+abbrev sampleJob : List ℕ
+sampleJob =
+    0x54 ∷ 0x53 ∷ 0x4A ∷ 1 ∷ 0 ∷ 0 ∷ 0 ∷ 1 ∷ 1 ∷ 0 ∷ 0 ∷ 0 ∷ 128 ∷ 63 ∷ 0 ∷ 0 ∷ 128 ∷ 63 ∷ 0 ∷ 0 ∷ 128 ∷ 63 ∷ 0 ∷ 0 ∷ 0 ∷ 0 ∷ 0 ∷ 0 ∷ 0 ∷ 64 ∷ 0 ∷ 0 ∷ 0 ∷ 0 ∷ []
+
+-- its text
+pub sample-text : jobText sampleJob ≡ bytes "TSJ 1\ndrawn 4 9\n0 196608 0\n0 0 196608\n196608 0 0\n65536 65536 65536\n0 1 3\n1 2 3\n2 0 3\n"
+unfolding ofBits ofInt isNan le parts segmentsOf asInner position table outerNext stripFrom indices ringAt bandFrom nest some every subdivision ring rings points triangles indexWords vertexWords word
+    startsWith headerOf firstOver unknownPlace recordOf recordAt flat digitsIn digits line rows drawnText answers jobText
+sample-text = refl
+
+-- the same patch in version 2, with the top level 2, which the inner level 4 is clamped to
+abbrev sampleTwo : List ℕ
+sampleTwo =
+    0x54 ∷ 0x53 ∷ 0x4A ∷ 2 ∷ 0 ∷ 0 ∷ 0 ∷ 1 ∷ 1 ∷ 0 ∷ 2 ∷ 0 ∷ 0 ∷ 128 ∷ 63 ∷ 0 ∷ 0 ∷ 128 ∷ 63 ∷ 0 ∷ 0 ∷ 128 ∷ 63 ∷ 0 ∷ 0 ∷ 0 ∷ 0 ∷ 0 ∷ 0 ∷ 128 ∷ 64 ∷ 0 ∷ 0 ∷ 0 ∷ 0 ∷ []
+
+-- its text
+pub sample-two-text : jobText sampleTwo ≡ bytes "TSJ 2\ndrawn 4 9\n0 196608 0\n0 0 196608\n196608 0 0\n65536 65536 65536\n0 1 3\n1 2 3\n2 0 3\n"
+unfolding ofBits ofInt isNan le parts segmentsOf asInner position table outerNext stripFrom indices ringAt bandFrom nest some every subdivision ring rings points triangles indexWords vertexWords word
+    startsWith headerOf firstOver unknownPlace recordOf recordAt flat digitsIn digits line rows drawnText answers jobText
+sample-two-text = refl

@@ -1,0 +1,2 @@
+-- What is said of the customer's sample in a recording, worked out.
+pub mod Sample
