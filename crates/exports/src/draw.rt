@@ -1,10 +1,10 @@
 // Drawing, in two calls: the points of a patch and its indices, each at the front of its own list.
 ghost use Rattle.exports.specs.Calls.{PointsCalled, IndicesCalled};
-use crate::reply::bad_top;
-use crate::reply::of_indices;
-use crate::reply::of_points;
-use crate::reply::say_one;
-use crate::reply::unknown_setting;
+use replies::reply::of_indices;
+use replies::reply::of_points;
+use replies::reply::say_one;
+use requests::asked::Asked;
+use requests::asked::read_call;
 
 #[no_mangle]
 pub extern "C" fn yoktvarim_draw_points(
@@ -15,21 +15,16 @@ pub extern "C" fn yoktvarim_draw_points(
 ) -> u32
     ensures { λ r. ⌜ PointsCalled (now (settings .entry)) (now (levels .entry)) (now (vertices .entry)) (now (vertices .exit)) (now (count .exit)) r ⌝ }
 {
-    let top = crate::input::top_in(settings);
-    if !level::is_top(top) {
-        return say_one(bad_top(), count);
+    match read_call(settings, levels) {
+        Asked::Refused { reply } => say_one(reply, count),
+        Asked::Known {
+            settings: set,
+            patch,
+        } => {
+            let answer = tessellate::draw::draw_points(patch, set, vertices);
+            say_one(of_points(answer), count)
+        }
     }
-    let place = job::setting::first_unknown(settings, 0);
-    if place < 5 {
-        return say_one(unknown_setting(place), count);
-    }
-    let patch = crate::input::patch_in(settings, levels);
-    let answer = tessellate::draw::draw_points(
-        patch,
-        job::setting::read_settings(settings, 0, top),
-        vertices,
-    );
-    say_one(of_points(answer), count)
 }
 
 #[no_mangle]
@@ -41,19 +36,14 @@ pub extern "C" fn yoktvarim_draw_indices(
 ) -> u32
     ensures { λ r. ⌜ IndicesCalled (now (settings .entry)) (now (levels .entry)) (now (indices .entry)) (now (indices .exit)) (now (count .exit)) r ⌝ }
 {
-    let top = crate::input::top_in(settings);
-    if !level::is_top(top) {
-        return say_one(bad_top(), count);
+    match read_call(settings, levels) {
+        Asked::Refused { reply } => say_one(reply, count),
+        Asked::Known {
+            settings: set,
+            patch,
+        } => {
+            let answer = tessellate::draw::draw_indices(patch, set, indices);
+            say_one(of_indices(answer), count)
+        }
     }
-    let place = job::setting::first_unknown(settings, 0);
-    if place < 5 {
-        return say_one(unknown_setting(place), count);
-    }
-    let patch = crate::input::patch_in(settings, levels);
-    let answer = tessellate::draw::draw_indices(
-        patch,
-        job::setting::read_settings(settings, 0, top),
-        indices,
-    );
-    say_one(of_indices(answer), count)
 }

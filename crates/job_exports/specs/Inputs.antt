@@ -11,7 +11,7 @@ use Rattle.job.specs.declared.version.Version.the-variants.{One, Two}
 use Rattle.job.specs.declared.levels.LevelBits.{LevelBits}
 use Rattle.job.specs.declared.record.Record.{Record}
 use Rattle.job_writer.specs.Patterns.{recordOfBits}
-use Rattle.exports.specs.Inputs.{settingsIn}
+use Rattle.requests.specs.Inputs.{settingsIn}
 
 -- 6 applies to every other number
 unfoldable pub isVersion : ℕ → Bool
