@@ -47,12 +47,16 @@ module _ (bs : List ℕ) (xs : List Float) {a : Asked} (is : a ≡ askedIn bs xs
       let z : r ≡ suc (i .less) = said .number ∙ i .number in
       record { says = says-as (i .answer right) said; list = rw z }
 
-  -- what the operation has to say, and which words it draws, of settings and a patch
-  pub draw-known : (right : Settings → Patch → Told) (words : Settings → Patch → List ℕ) {told : Told} {l l′ c′ : List ℕ} {r : ℕ} {set : Settings} {p : Patch} {reply : Reply}
-      → a ≡ Known set p → Drew told (right set p) (words set p) l l′ → Tells told reply → (r ≡ reply .number) × (c′ ≡ reply .first ∷ [])
+  -- known settings: what the operation has to say, and which words it draws, of settings and a patch
+  pub draw-known : (right : Settings → Patch → Told) (words : Settings → Patch → List ℕ) {l l′ c′ : List ℕ} {r : ℕ} {set : Settings} {p : Patch} → a ≡ Known set p
+      → Called (right set p) (words set p) l l′ c′ r
       → Called (known bs badTop unknownSetting (right (settingsIn bs) (patchIn bs xs))) (words (settingsIn bs) (patchIn bs xs)) l l′ c′ r
-  draw-known right words e d t s =
+  draw-known right words e d =
       let g = known-granted bs xs is e in
       let drew = rw (g .settings, g .patch) at d in
-      let said = said-one t s in
-      record { says = says-as (granted g badTop unknownSetting _ ∙ sym (drew .answer)) said; list = rw (said .number) (drew .list) }
+      record { says = says-as (granted g badTop unknownSetting _) (drew .says); list = drew .list }
+
+-- what an operation drew and told is what its call did
+pub drew-called : {told right : Told} {words l l′ c′ : List ℕ} {r : ℕ} {reply : Reply} → Drew told right words l l′ → Tells told reply
+    → (r ≡ reply .number) × (c′ ≡ reply .first ∷ []) → Called right words l l′ c′ r
+drew-called d t s = let said = said-one t s in record { says = says-as (sym (d .answer)) said; list = rw (said .number) (d .list) }

@@ -1,10 +1,22 @@
 // Drawing, in two calls: the points of a patch and its indices, each at the front of its own list.
-ghost use Rattle.exports.specs.Calls.{PointsCalled, IndicesCalled};
+ghost use lib.ListN.{length};
+ghost use Rattle.tessellate.specs.Answers.{pointsVerdict, indicesVerdict};
+ghost use Rattle.tessellate.specs.Draws.{pointWords, connectionWords};
+ghost use Rattle.exports.specs.Calls.{Called, PointsCalled, IndicesCalled};
+use patch::kinds::Patch;
+use patch::settings::Settings;
 use replies::reply::of_indices;
 use replies::reply::of_points;
 use replies::reply::say_one;
 use requests::asked::Asked;
 use requests::asked::read_call;
+
+fn points_of(patch: Patch, settings: Settings, vertices: &mut [u32], count: &mut [u32; 1]) -> u32
+    ensures { λ r. ⌜ Called (pointsVerdict settings patch (length (now (vertices .entry)))) (pointWords settings patch) (now (vertices .entry)) (now (vertices .exit)) (now (count .exit)) r ⌝ }
+{
+    let answer = tessellate::draw::draw_points(patch, settings, vertices);
+    say_one(of_points(answer), count)
+}
 
 #[no_mangle]
 pub extern "C" fn yoktvarim_draw_points(
@@ -20,11 +32,15 @@ pub extern "C" fn yoktvarim_draw_points(
         Asked::Known {
             settings: set,
             patch,
-        } => {
-            let answer = tessellate::draw::draw_points(patch, set, vertices);
-            say_one(of_points(answer), count)
-        }
+        } => points_of(patch, set, vertices, count),
     }
+}
+
+fn indices_of(patch: Patch, settings: Settings, indices: &mut [u16], count: &mut [u32; 1]) -> u32
+    ensures { λ r. ⌜ Called (indicesVerdict settings patch (length (now (indices .entry)))) (connectionWords settings patch) (now (indices .entry)) (now (indices .exit)) (now (count .exit)) r ⌝ }
+{
+    let answer = tessellate::draw::draw_indices(patch, settings, indices);
+    say_one(of_indices(answer), count)
 }
 
 #[no_mangle]
@@ -41,9 +57,6 @@ pub extern "C" fn yoktvarim_draw_indices(
         Asked::Known {
             settings: set,
             patch,
-        } => {
-            let answer = tessellate::draw::draw_indices(patch, set, indices);
-            say_one(of_indices(answer), count)
-        }
+        } => indices_of(patch, set, indices, count),
     }
 }

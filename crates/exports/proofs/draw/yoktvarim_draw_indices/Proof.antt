@@ -19,14 +19,8 @@ say-one-requires c κs = search needs
 enum-known-set : tie.Need-enum-known-set
 enum-known-set c = search needs
 
-draw-indices-requires : tie.Need-draw-indices-requires
-draw-indices-requires c κs = search needs
-
-of-indices-requires : tie.Need-of-indices-requires
-of-indices-requires c κs = search needs
-
-say-one-requires-2 : tie.Need-say-one-requires-2
-say-one-requires-2 c κs = search needs
+indices-of-requires : tie.Need-indices-of-requires
+indices-of-requires c κs = search needs
 
 returns : tie.Need-returns
 returns c =
@@ -40,12 +34,10 @@ same-length c = search needs
 
 returns-2 : tie.Need-returns-2
 returns-2 c =
-    let drawn = c .before .before .before .before .before in
-    let arm = drawn .before .before .before in
+    let arm = c .before .before .before .before .before .before in
     let read = arm .before .before in
     let a = read .before .before .args in
-    draw-known (a .settings .now) (a .levels .now) (read .read-call .ensures) (λ s p. indicesVerdict s p (length (a .indices .now))) connectionWords
-    (arm .set .given .1) (drawn .draw-indices .ensures) (c .before .before .of-indices .ensures) (c .say-one2 .ensures)
+    draw-known (a .settings .now) (a .levels .now) (read .read-call .ensures) (λ s p. indicesVerdict s p (length (a .indices .now))) connectionWords (arm .set .given .1) (c .before .before .indices-of .ensures)
 
 pub yoktvarim-draw-indices-spec : {M : Type 1} → statement M
 yoktvarim-draw-indices-spec =
@@ -55,9 +47,7 @@ yoktvarim-draw-indices-spec =
     enum-known-reply
     say-one-requires
     enum-known-set
-    draw-indices-requires
-    of-indices-requires
-    say-one-requires-2
+    indices-of-requires
     returns
     same-length
     returns-2)

@@ -19,14 +19,8 @@ say-one-requires c κs = search needs
 enum-known-set : tie.Need-enum-known-set
 enum-known-set c = search needs
 
-draw-points-requires : tie.Need-draw-points-requires
-draw-points-requires c κs = search needs
-
-of-points-requires : tie.Need-of-points-requires
-of-points-requires c κs = search needs
-
-say-one-requires-2 : tie.Need-say-one-requires-2
-say-one-requires-2 c κs = search needs
+points-of-requires : tie.Need-points-of-requires
+points-of-requires c κs = search needs
 
 returns : tie.Need-returns
 returns c =
@@ -40,12 +34,10 @@ same-length c = search needs
 
 returns-2 : tie.Need-returns-2
 returns-2 c =
-    let drawn = c .before .before .before .before .before in
-    let arm = drawn .before .before .before in
+    let arm = c .before .before .before .before .before .before in
     let read = arm .before .before in
     let a = read .before .before .args in
-    draw-known (a .settings .now) (a .levels .now) (read .read-call .ensures) (λ s p. pointsVerdict s p (length (a .vertices .now))) pointWords
-    (arm .set .given .1) (drawn .draw-points .ensures) (c .before .before .of-points .ensures) (c .say-one2 .ensures)
+    draw-known (a .settings .now) (a .levels .now) (read .read-call .ensures) (λ s p. pointsVerdict s p (length (a .vertices .now))) pointWords (arm .set .given .1) (c .before .before .points-of .ensures)
 
 pub yoktvarim-draw-points-spec : {M : Type 1} → statement M
 yoktvarim-draw-points-spec =
@@ -55,9 +47,7 @@ yoktvarim-draw-points-spec =
     enum-known-reply
     say-one-requires
     enum-known-set
-    draw-points-requires
-    of-points-requires
-    say-one-requires-2
+    points-of-requires
     returns
     same-length
     returns-2)
