@@ -15,7 +15,7 @@ use Rattle.cover.specs.Nest.{nest, count}
 use Rattle.cover.specs.Quad.{quad, quadCount}
 use Rattle.cover.proofs.Length.{nest-length, quad-length}
 use Rattle.drawing.specs.Primitives.{triangles, primitives}
-use Rattle.drawing.specs.Counts.{primitiveCount}
+use Rattle.drawing.specs.Counts.{pointCount, primitiveCount}
 use Rattle.drawing.specs.Valid.{ValidCut, ValidLines}
 use Rattle.drawing.proofs.Counts.{primitive-count}
 
@@ -30,6 +30,10 @@ room-as F {n = n} h e = subst (λ (d : Subdivision). F d ≤ n) e h
 -- what was written for it was written for the subdivision matched on
 pub as-cut : (F : Subdivision → List ℕ) {c d : Subdivision} {xs xs′ : List ℕ} {at w : ℕ} → c ≡ d → Wrote xs at (F d) xs′ w → Wrote xs at (F c) xs′ w
 as-cut F {xs = xs} {xs′ = xs′} {at = at} {w = w} e h = subst (λ (d : Subdivision). Wrote xs at (F d) xs′ w) (sym e) h
+
+-- what was counted of it was counted of the subdivision matched on
+pub counted-as : {c d : Subdivision} {n m : ℕ} → c ≡ d → (n ≡ pointCount d) × (m ≡ primitiveCount d) → (n ≡ pointCount c) × (m ≡ primitiveCount c)
+counted-as {n = n} {m = m} e h = subst (λ (d : Subdivision). (n ≡ pointCount d) × (m ≡ primitiveCount d)) (sym e) h
 
 -- how many words that is
 pub nest-room : (turn : Bool) (a b c i : Segments) → length (primitives turn (Triangle a b c i)) ≡ 3 * count (a .count) (b .count) (c .count) (i .count)

@@ -12,9 +12,10 @@ use Rattle.job_fields.specs.Settings.{firstUnknown}
 use Rattle.tessellate.specs.declared.answer.Size.{Size}
 use Rattle.tessellate.specs.declared.answer.Size.the-variants.{Discarded, BadTop}
 use Rattle.tessellate.specs.Answers.{Told, toldSize, pointsOf, indicesOf, verdict, measured}
-use Rattle.exports.specs.Inputs.{topIn, patchIn, settingsIn}
-use Rattle.exports.specs.Replies.{unknownSetting, badTop}
-use Rattle.exports.specs.Calls.{known, pointsSay, indicesSay, measureSays, OneOf}
+use Rattle.replies.specs.Replies.{unknownSetting, badTop, OneOf}
+use Rattle.requests.specs.Inputs.{topIn, patchIn, settingsIn}
+use Rattle.requests.specs.Asked.{known}
+use Rattle.exports.specs.Calls.{pointsSay, indicesSay, measureSays}
 
 -- one of two answers
 either : (ns : List ℕ) (b : Bool) (s t : Told) → OneOf ns (s .number) → OneOf ns (t .number) → OneOf ns (cond b s t .number)

@@ -15,25 +15,16 @@ use Rattle.patch.specs.Subdivide.{discards}
 use Rattle.drawing.specs.Words.{readPoints}
 use Rattle.drawing.specs.Demand.{Demand}
 use Rattle.drawing.specs.Inside.{SpotsOnce}
-use Rattle.job_fields.specs.Settings.{firstUnknown}
 use Rattle.tessellate.specs.declared.answer.PointsAnswer.the-variants as points
 use Rattle.tessellate.specs.declared.answer.IndicesAnswer.the-variants as indices
 use Rattle.tessellate.specs.Answers.{Told, refused, drew, pointsOf, indicesOf, verdict, pointsVerdict, indicesVerdict}
 use Rattle.tessellate.specs.Draws.{Drew, pointWords, connectionWords}
 use Rattle.tessellate.proofs.Together.{together, once-together}
-use Rattle.exports.specs.Inputs.{topIn, patchIn, settingsIn}
-use Rattle.exports.specs.Replies.{unknownSetting, badTop}
-use Rattle.exports.specs.Calls.{known, Called, PointsCalled, IndicesCalled}
-
--- 0 is said by an operation, and then of what it drew
-pub known-zero : (bs : List ℕ) (t : Told) → known bs badTop unknownSetting t .number ≡ 0 → known bs badTop unknownSetting t ≡ t
-unfolding known
-known-zero bs t = go (isTop (topIn bs)) (ltb (firstUnknown bs 0) 5)
-  where
-    go : (a b : Bool) → cond a (cond b (unknownSetting (firstUnknown bs 0)) t) badTop .number ≡ 0 → cond a (cond b (unknownSetting (firstUnknown bs 0)) t) badTop ≡ t
-    go false b e = absurd (omega arith)
-    go true true e = absurd (omega arith)
-    go true false e = refl
+use Rattle.replies.specs.Replies.{unknownSetting, badTop}
+use Rattle.requests.specs.Inputs.{patchIn, settingsIn}
+use Rattle.requests.specs.Asked.{known}
+use Rattle.requests.proofs.Known.{known-zero}
+use Rattle.exports.specs.Calls.{Called, PointsCalled, IndicesCalled}
 
 pub verdict-zero : (set : Settings) (p : Patch) (short need have count : ℕ)
     → verdict set p (short + 1) need have count .number ≡ 0 → verdict set p (short + 1) need have count ≡ drew count

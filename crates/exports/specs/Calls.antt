@@ -2,23 +2,15 @@
 -- at entry and at exit, i and i′ those of the index list, and c′ the counts at exit. Assumes nothing.
 use Prim.Native.Nat.{ℕ}
 use mathlib.Core.Path.{_≡_}
-use mathlib.Core.Bool.{cond}
-use mathlib.Core.List.{List, [], _∷_}
-use mathlib.Core.Logic.{_⊎_}
-use lib.Dec.{ltb}
+use mathlib.Core.List.{List}
 use lib.Ieee.{Float}
 use lib.ListN.{length}
-use Rattle.level.specs.Top.{isTop}
-use Rattle.job_fields.specs.Settings.{firstUnknown}
 use Rattle.tessellate.specs.Answers.{Told, toldSize, pointsVerdict, indicesVerdict, measured}
 use Rattle.tessellate.specs.Draws.{after, pointWords, connectionWords}
-use Rattle.exports.specs.Inputs.{topIn, patchIn, settingsIn}
-use Rattle.exports.specs.Clamps.{sizeClamps, noClamps}
-use Rattle.exports.specs.Replies.{unknownSetting, badTop, twoWords, oneWord}
-
--- an operation's answer t is for known settings only; a bad top is told before all else, and then an 8
-unfoldable pub known : {A : Type 0} → List ℕ → A → (ℕ → A) → A → A
-known bs bad unknown t = cond (isTop (topIn bs)) (cond (ltb (firstUnknown bs 0) 5) (unknown (firstUnknown bs 0)) t) bad
+use Rattle.replies.specs.Clamps.{sizeClamps, noClamps}
+use Rattle.replies.specs.Replies.{unknownSetting, badTop, twoWords, oneWord, Says}
+use Rattle.requests.specs.Inputs.{patchIn, settingsIn}
+use Rattle.requests.specs.Asked.{known}
 
 -- what measuring has to say
 abbrev pub measureSays : List ℕ → List Float → Told
@@ -35,16 +27,6 @@ pointsSay bs xs n = known bs badTop unknownSetting (pointsVerdict (settingsIn bs
 -- what drawing the indices into a list of n words has to say
 abbrev pub indicesSay : List ℕ → List Float → ℕ → Told
 indicesSay bs xs n = known bs badTop unknownSetting (indicesVerdict (settingsIn bs) (patchIn bs xs) n)
-
--- n is one of these numbers
-abbrev pub OneOf : List ℕ → ℕ → Type 0
-OneOf [] n = ⊥
-OneOf (k ∷ ks) n = (n ≡ k) ⊎ OneOf ks n
-
--- r is an answer's number, and the counts hold the words of its values
-pub record Says (words : List ℕ → List ℕ) (t : Told) (c′ : List ℕ) (r : ℕ) : Type 0 where
-  pub number : r ≡ t .number
-  pub counts : c′ ≡ words (t .values)
 
 -- a call of measuring; k′ are the bytes of the levels at exit
 pub record MeasureCalled (bs : List ℕ) (xs : List Float) (c′ k′ : List ℕ) (r : ℕ) : Type 0 where

@@ -1,10 +1,22 @@
 // Drawing, in two calls: the points of a patch and its indices, each at the front of its own list.
-ghost use Rattle.exports.specs.Calls.{PointsCalled, IndicesCalled};
-use crate::reply::bad_top;
-use crate::reply::of_indices;
-use crate::reply::of_points;
-use crate::reply::say_one;
-use crate::reply::unknown_setting;
+ghost use lib.ListN.{length};
+ghost use Rattle.tessellate.specs.Answers.{pointsVerdict, indicesVerdict};
+ghost use Rattle.tessellate.specs.Draws.{pointWords, connectionWords};
+ghost use Rattle.exports.specs.Calls.{Called, PointsCalled, IndicesCalled};
+use patch::kinds::Patch;
+use patch::settings::Settings;
+use replies::reply::of_indices;
+use replies::reply::of_points;
+use replies::reply::say_one;
+use requests::asked::Asked;
+use requests::asked::read_call;
+
+fn points_of(patch: Patch, settings: Settings, vertices: &mut [u32], count: &mut [u32; 1]) -> u32
+    ensures { λ r. ⌜ Called (pointsVerdict settings patch (length (now (vertices .entry)))) (pointWords settings patch) (now (vertices .entry)) (now (vertices .exit)) (now (count .exit)) r ⌝ }
+{
+    let answer = tessellate::draw::draw_points(patch, settings, vertices);
+    say_one(of_points(answer), count)
+}
 
 #[no_mangle]
 pub extern "C" fn yoktvarim_draw_points(
@@ -15,21 +27,20 @@ pub extern "C" fn yoktvarim_draw_points(
 ) -> u32
     ensures { λ r. ⌜ PointsCalled (now (settings .entry)) (now (levels .entry)) (now (vertices .entry)) (now (vertices .exit)) (now (count .exit)) r ⌝ }
 {
-    let top = crate::input::top_in(settings);
-    if !level::is_top(top) {
-        return say_one(bad_top(), count);
+    match read_call(settings, levels) {
+        Asked::Refused { reply } => say_one(reply, count),
+        Asked::Known {
+            settings: set,
+            patch,
+        } => points_of(patch, set, vertices, count),
     }
-    let place = job_fields::setting::first_unknown(settings, 0);
-    if place < 5 {
-        return say_one(unknown_setting(place), count);
-    }
-    let patch = crate::input::patch_in(settings, levels);
-    let answer = tessellate::draw::draw_points(
-        patch,
-        job_fields::setting::read_settings(settings, 0, top),
-        vertices,
-    );
-    say_one(of_points(answer), count)
+}
+
+fn indices_of(patch: Patch, settings: Settings, indices: &mut [u16], count: &mut [u32; 1]) -> u32
+    ensures { λ r. ⌜ Called (indicesVerdict settings patch (length (now (indices .entry)))) (connectionWords settings patch) (now (indices .entry)) (now (indices .exit)) (now (count .exit)) r ⌝ }
+{
+    let answer = tessellate::draw::draw_indices(patch, settings, indices);
+    say_one(of_indices(answer), count)
 }
 
 #[no_mangle]
@@ -41,19 +52,11 @@ pub extern "C" fn yoktvarim_draw_indices(
 ) -> u32
     ensures { λ r. ⌜ IndicesCalled (now (settings .entry)) (now (levels .entry)) (now (indices .entry)) (now (indices .exit)) (now (count .exit)) r ⌝ }
 {
-    let top = crate::input::top_in(settings);
-    if !level::is_top(top) {
-        return say_one(bad_top(), count);
+    match read_call(settings, levels) {
+        Asked::Refused { reply } => say_one(reply, count),
+        Asked::Known {
+            settings: set,
+            patch,
+        } => indices_of(patch, set, indices, count),
     }
-    let place = job_fields::setting::first_unknown(settings, 0);
-    if place < 5 {
-        return say_one(unknown_setting(place), count);
-    }
-    let patch = crate::input::patch_in(settings, levels);
-    let answer = tessellate::draw::draw_indices(
-        patch,
-        job_fields::setting::read_settings(settings, 0, top),
-        indices,
-    );
-    say_one(of_indices(answer), count)
 }

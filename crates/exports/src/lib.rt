@@ -9,8 +9,5 @@
 // Beside 8 the first word is the place of the setting; whatever is not told is 0.
 // The answer is its number: 0 drawn (or measured), 1 discarded, 3 no room for vertices, 4 no room for indices,
 // 8 unknown setting, 11 bad top. A bad top is told before all else. Whatever is not 0 leaves the list untouched.
-mod clamps;
 pub mod draw;
-pub mod input;
 pub mod measure;
-pub mod reply;

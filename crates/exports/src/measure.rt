@@ -1,9 +1,11 @@
 // Measuring: how many points and indices drawing would write, and which levels were clamped.
 ghost use Rattle.exports.specs.Calls.{MeasureCalled};
-use crate::reply::bad_top;
-use crate::reply::of_size;
-use crate::reply::say_two;
-use crate::reply::unknown_setting;
+use replies::clamps::say_clamps;
+use replies::clamps::say_nothing;
+use replies::reply::of_size;
+use replies::reply::say_two;
+use requests::asked::Asked;
+use requests::asked::read_call;
 
 #[no_mangle]
 pub extern "C" fn yoktvarim_measure(
@@ -14,21 +16,18 @@ pub extern "C" fn yoktvarim_measure(
 ) -> u32
     ensures { λ r. ⌜ MeasureCalled (now (settings .entry)) (now (levels .entry)) (now (counts .exit)) (now (clamps .exit)) r ⌝ }
 {
-    let top = crate::input::top_in(settings);
-    if !level::is_top(top) {
-        crate::clamps::say_nothing(clamps);
-        return say_two(bad_top(), counts);
+    match read_call(settings, levels) {
+        Asked::Refused { reply } => {
+            say_nothing(clamps);
+            say_two(reply, counts)
+        }
+        Asked::Known {
+            settings: set,
+            patch,
+        } => {
+            let size = tessellate::measure::measure(patch, set);
+            say_clamps(size, clamps);
+            say_two(of_size(size), counts)
+        }
     }
-    let place = job_fields::setting::first_unknown(settings, 0);
-    if place < 5 {
-        crate::clamps::say_nothing(clamps);
-        return say_two(unknown_setting(place), counts);
-    }
-    let patch = crate::input::patch_in(settings, levels);
-    let size = tessellate::measure::measure(
-        patch,
-        job_fields::setting::read_settings(settings, 0, top),
-    );
-    crate::clamps::say_clamps(size, clamps);
-    say_two(of_size(size), counts)
 }

@@ -10,9 +10,9 @@ use Rattle.level.specs.Top.{isTop}
 use Rattle.patch.specs.Subdivide.{discards}
 use Rattle.job_fields.specs.Settings.{firstUnknown}
 use Rattle.tessellate.specs.Answers.{refused, pointsOf, indicesOf, drewBoth}
-use Rattle.exports.specs.Inputs.{topIn, patchIn, settingsIn}
-use Rattle.exports.specs.Replies.{unknownSetting, badTop}
-use Rattle.exports.specs.Calls.{known, OneOf}
+use Rattle.replies.specs.Replies.{unknownSetting, badTop, OneOf}
+use Rattle.requests.specs.Inputs.{topIn, patchIn, settingsIn}
+use Rattle.requests.specs.Asked.{known}
 use Rattle.float_drawing.specs.Answers.{floatsVerdict}
 use Rattle.float_exports.specs.Calls.{floatsSay}
 

@@ -12,9 +12,9 @@ use Rattle.patch.specs.Subdivide.{discards}
 use Rattle.drawing.specs.Words.{readPoints}
 use Rattle.drawing.specs.Demand.{Demand}
 use Rattle.tessellate.specs.Answers.{Told, refused, pointsOf, indicesOf, drewBoth}
-use Rattle.exports.specs.Inputs.{patchIn, settingsIn}
-use Rattle.exports.specs.Replies.{twoWords}
-use Rattle.exports.proofs.Together.{known-zero}
+use Rattle.replies.specs.Replies.{twoWords}
+use Rattle.requests.specs.Inputs.{patchIn, settingsIn}
+use Rattle.requests.proofs.Known.{known-zero}
 use Rattle.float_drawing.specs.declared.answer.FloatsAnswer.the-variants.{Drawn}
 use Rattle.float_drawing.specs.Answers.{floatsVerdict}
 use Rattle.float_drawing.specs.Draws.{DrewWithFloats}

@@ -7,9 +7,9 @@ use lib.Ieee.{Float}
 use lib.ListN.{length}
 use Rattle.tessellate.specs.Answers.{Told}
 use Rattle.tessellate.specs.Draws.{after, pointWords, connectionWords}
-use Rattle.exports.specs.Inputs.{patchIn, settingsIn}
-use Rattle.exports.specs.Replies.{unknownSetting, badTop, twoWords}
-use Rattle.exports.specs.Calls.{known, Says}
+use Rattle.replies.specs.Replies.{unknownSetting, badTop, twoWords, Says}
+use Rattle.requests.specs.Inputs.{patchIn, settingsIn}
+use Rattle.requests.specs.Asked.{known}
 use Rattle.float_drawing.specs.Answers.{floatsVerdict}
 use Rattle.float_drawing.specs.Draws.{floatWords}
 

@@ -6,13 +6,13 @@ use mathlib.Core.List.{List}
 use borrow.Author.Tests.{lt-ltb, le-ltb}
 use Rattle.tessellate.specs.Answers.{Told, refused}
 use Rattle.tessellate.specs.Draws.{Drew}
-use Rattle.exports.specs.Inputs.{topIn}
-use Rattle.exports.specs.Replies.{unknownSetting, badTop, oneWord}
-use Rattle.exports.specs.Calls.{Says, Called}
-use Rattle.exports.proofs.Calls.{says-as}
+use Rattle.exports.specs.Calls.{Called}
+use Rattle.replies.specs.Replies.{unknownSetting, badTop, oneWord, Says}
+use Rattle.replies.proofs.Replies.{says-as}
+use Rattle.requests.specs.Inputs.{topIn}
 use Rattle.job_fields.specs.Settings.{firstUnknown}
 use Rattle.job_fields.specs.Version.{recordSize}
-use Rattle.job_bytes.specs.Written.{takesTop}
+use Rattle.job_writer.specs.Written.{takesTop}
 use Rattle.job_writer.specs.Answers.{roomVerdict, recordVerdict}
 use Rattle.job_exports.specs.Inputs.{isVersion, versionIn, recordIn}
 use Rattle.job_exports.specs.Calls.{headerSays, recordSays}

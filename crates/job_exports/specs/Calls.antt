@@ -7,9 +7,9 @@ use mathlib.Core.List.{List, [], _∷_}
 use lib.Dec.{ltb}
 use lib.ListN.{length}
 use Rattle.tessellate.specs.Answers.{Told, refused, drew}
-use Rattle.exports.specs.Inputs.{topIn}
-use Rattle.exports.specs.Replies.{unknownSetting, badTop, oneWord}
-use Rattle.exports.specs.Calls.{Says, Called}
+use Rattle.exports.specs.Calls.{Called}
+use Rattle.replies.specs.Replies.{unknownSetting, badTop, oneWord, Says}
+use Rattle.requests.specs.Inputs.{topIn}
 use Rattle.job.specs.declared.header.Header.{Header}
 use Rattle.job.specs.declared.header.Header.the-variants.{Read, NotAJob, UnknownVersion}
 use Rattle.job_fields.specs.Settings.{firstUnknown}

@@ -2,8 +2,8 @@
 ghost use Rattle.job_exports.specs.Calls.{HeaderAsked, RecordAsked};
 use crate::found::found_at;
 use crate::reply::of_header;
-use exports::reply::say_one;
 use job::header::read_header;
+use replies::reply::say_one;
 
 #[no_mangle]
 pub extern "C" fn yoktvarim_read_header(bytes: &[u8], version: &mut [u32; 1]) -> u32

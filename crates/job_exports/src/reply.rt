@@ -1,38 +1,30 @@
 // What the writers and the reader of a header answer, as numbers with the value that is told beside them.
-ghost use mathlib.Core.Path.{_≡_};
-ghost use Rattle.exports.specs.Replies.{replyOf};
 ghost use Rattle.job_writer.specs.Answers.{toldHeader, toldRecord};
+ghost use Rattle.replies.specs.Replies.{Tells};
 ghost use Rattle.job_exports.specs.Calls.{toldRead};
-use exports::reply::Reply;
-use exports::reply::bad_top;
-use exports::reply::refusal;
 use job::header::Header;
 use job_fields::version::version_number;
 use job_writer::answer::HeaderWritten;
 use job_writer::answer::RecordWritten;
+use replies::reply::Reply;
+use replies::reply::bad_top;
+use replies::reply::refusal;
+use replies::reply::success;
 
 pub fn of_written_header(answer: HeaderWritten) -> Reply
-    ensures { λ r. ⌜ r ≡ replyOf (toldHeader answer) ⌝ }
+    ensures { λ r. ⌜ Tells (toldHeader answer) r ⌝ }
 {
     match answer {
-        HeaderWritten::Written { count } => Reply {
-            number: 0,
-            first: count,
-            second: 0,
-        },
+        HeaderWritten::Written { count } => success(count, 0),
         HeaderWritten::NoRoom => refusal(10),
     }
 }
 
 pub fn of_written_record(answer: RecordWritten) -> Reply
-    ensures { λ r. ⌜ r ≡ replyOf (toldRecord answer) ⌝ }
+    ensures { λ r. ⌜ Tells (toldRecord answer) r ⌝ }
 {
     match answer {
-        RecordWritten::Written { count } => Reply {
-            number: 0,
-            first: count,
-            second: 0,
-        },
+        RecordWritten::Written { count } => success(count, 0),
         RecordWritten::NoRoom => refusal(10),
         RecordWritten::BadTop => bad_top(),
     }
@@ -40,14 +32,10 @@ pub fn of_written_record(answer: RecordWritten) -> Reply
 
 // The version beside 0.
 pub fn of_header(header: Header) -> Reply
-    ensures { λ r. ⌜ r ≡ replyOf (toldRead header) ⌝ }
+    ensures { λ r. ⌜ Tells (toldRead header) r ⌝ }
 {
     match header {
-        Header::Read { version, next: _ } => Reply {
-            number: 0,
-            first: version_number(version),
-            second: 0,
-        },
+        Header::Read { version, next: _ } => success(version_number(version), 0),
         Header::NotAJob => refusal(5),
         Header::UnknownVersion => refusal(6),
     }

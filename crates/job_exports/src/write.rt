@@ -5,15 +5,15 @@ use crate::reply::of_written_header;
 use crate::reply::of_written_record;
 use crate::version::is_version;
 use crate::version::version_in;
-use exports::input::top_in;
-use exports::reply::bad_top;
-use exports::reply::refusal;
-use exports::reply::say_one;
-use exports::reply::unknown_setting;
-use job_bytes::top_byte::takes_top;
 use job_fields::setting::first_unknown;
 use job_writer::header::write_header;
 use job_writer::record::write_record;
+use job_writer::top_byte::takes_top;
+use replies::reply::bad_top;
+use replies::reply::refusal;
+use replies::reply::say_one;
+use replies::reply::unknown_setting;
+use requests::input::top_in;
 
 #[no_mangle]
 pub extern "C" fn yoktvarim_write_header(

@@ -1,43 +1,41 @@
--- The promise of a call, answer by answer.
+-- The promise of a call, for settings that are refused and for those that are known.
 -- Assumes nothing.
-use Prim.Native.Nat.{ℕ, _<_, _≤_}
+use Prim.Native.Nat.{ℕ}
 use mathlib.Core.Path.{_≡_, sym, ap, _∙_}
-use mathlib.Core.Bool.{true, false}
 use mathlib.Core.List.{List, [], _∷_}
-use native.Mathlib.Omega.{arith}
 use lib.Ieee.{Float}
-use Rattle.level.specs.Top.{isTop}
 use Rattle.patch.specs.declared.kinds.Patch.{Patch}
 use Rattle.patch.specs.declared.settings.Settings.{Settings}
-use Rattle.job_fields.specs.Settings.{firstUnknown}
 use Rattle.tessellate.specs.Answers.{Told}
 use Rattle.mesh_verdict.specs.declared.Verdict.{Verdict}
-use Rattle.verdict_meaning.specs.Checks.{verdict}
 use Rattle.verdict_meaning.specs.Means.{Checked}
 use Rattle.verdict_meaning.specs.Numbers.{toldVerdict}
-use Rattle.exports.specs.Inputs.{topIn, patchIn, settingsIn}
-use Rattle.exports.specs.Replies.{unknownSetting, badTop, twoWords}
-use Rattle.exports.specs.Calls.{Says}
-use Rattle.exports.proofs.Calls.{says-as, top-bad, setting-unknown, all-known}
+use Rattle.replies.specs.declared.reply.Reply.{Reply}
+use Rattle.replies.specs.Replies.{unknownSetting, badTop, twoWords, Says}
+use Rattle.replies.proofs.Replies.{says-as}
+use Rattle.requests.specs.declared.asked.Asked.{Asked}
+use Rattle.requests.specs.declared.asked.Asked.the-variants.{Refused, Known}
+use Rattle.requests.specs.Asked.{askedIn}
+use Rattle.requests.proofs.Reading.{refused-instead, known-granted, granted}
 use Rattle.mesh_exports.specs.declared.found.Found.{Found}
-use Rattle.mesh_exports.specs.Founds.{foundOf, checkSays}
+use Rattle.mesh_exports.specs.Founds.{Finds, checkSays}
 
--- how an answer is said
-pub said : {t : Told} {found : Found} {c′ : List ℕ} {r : ℕ} → found ≡ foundOf t → (r ≡ found .number) × (c′ ≡ found .first ∷ found .second ∷ [])
-    → Says twoWords t c′ r
-said is (n, w) = record { number = n ∙ ap (λ (x : Found). x .number) is; counts = w ∙ ap (λ (x : Found). x .first ∷ x .second ∷ []) is }
+module _ {found : Found} {c′ : List ℕ} {r : ℕ} (s : (r ≡ found .number) × (c′ ≡ found .first ∷ found .second ∷ [])) where
+  -- how an answer is said
+  said : {t : Told} → Finds t found → Says twoWords t c′ r
+  said f = record { number = s .0 ∙ f .number; counts = s .1 ∙ rw (f .first, f .second) }
 
--- which answer is given
-module _ (bs : List ℕ) (xs : List Float) (pw iw : List ℕ) {c′ : List ℕ} {r : ℕ} where
-  pub check-bad : isTop (topIn bs) ≡ false → Says twoWords badTop c′ r → Says twoWords (checkSays bs xs pw iw) c′ r
-  check-bad e s = says-as (top-bad bs _ _ _ e) s
+  -- which answer is given
+  module _ (bs : List ℕ) (xs : List Float) (pw iw : List ℕ) {a : Asked} (is : a ≡ askedIn bs xs) where
+    pub check-refused : {reply : Reply} → a ≡ Refused reply → (found .number ≡ reply .number) × (found .first ≡ reply .first) × (found .second ≡ reply .second)
+        → Says twoWords (checkSays bs xs pw iw) c′ r
+    check-refused e (n, f, g) =
+        let i = refused-instead bs xs is e in
+        says-as (i .answer _) (said (record { number = n ∙ i .tells .number; first = f ∙ i .tells .first; second = g ∙ i .tells .second }))
 
-  module _ {place : ℕ} (top : isTop (topIn bs) ≡ true) (first : place ≡ firstUnknown bs 0) where
-    pub check-unknown : place < 5 → Says twoWords (unknownSetting place) c′ r → Says twoWords (checkSays bs xs pw iw) c′ r
-    check-unknown h s = says-as (setting-unknown bs _ _ _ top (omega arith) ∙ ap unknownSetting (sym first)) s
-
-    pub check-known : {set : Settings} {p : Patch} {v : Verdict} → 5 ≤ place → set ≡ settingsIn bs → p ≡ patchIn bs xs → Checked set p pw iw v
-        → Says twoWords (toldVerdict v) c′ r → Says twoWords (checkSays bs xs pw iw) c′ r
-    check-known {set} {p} {v} h es ep c s =
-        let m : v ≡ verdict (settingsIn bs) (patchIn bs xs) pw iw = rw (← es, ← ep) (c .is) in
-        says-as (all-known bs _ _ _ top (omega arith) ∙ ap toldVerdict (sym m)) s
+    pub check-known : {set : Settings} {p : Patch} {v : Verdict} → a ≡ Known set p → Checked set p pw iw v → Finds (toldVerdict v) found
+        → Says twoWords (checkSays bs xs pw iw) c′ r
+    check-known e c f =
+        let g = known-granted bs xs is e in
+        let right = rw (g .settings, g .patch) at (c .is) in
+        says-as (granted g badTop unknownSetting _ ∙ ap toldVerdict (sym right)) (said f)

@@ -15,10 +15,9 @@ use Rattle.verdict_meaning.specs.Numbers.{toldVerdict}
 use Rattle.verdict_meaning.specs.Covered.{Covered}
 use Rattle.verdict_meaning.proofs.Verdicts.{checked}
 use Rattle.verdict_meaning.proofs.Accepted.{accepted-covered}
-use Rattle.exports.specs.Inputs.{patchIn, settingsIn}
-use Rattle.exports.specs.Replies.{twoWords}
-use Rattle.exports.specs.Calls.{Says}
-use Rattle.exports.proofs.Together.{known-zero}
+use Rattle.replies.specs.Replies.{twoWords, Says}
+use Rattle.requests.specs.Inputs.{patchIn, settingsIn}
+use Rattle.requests.proofs.Known.{known-zero}
 use Rattle.mesh_exports.specs.Founds.{checkSays}
 
 -- no fault has the number 0

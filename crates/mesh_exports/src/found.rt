@@ -1,11 +1,10 @@
 // Answers as numbers, each with the places that are told beside it, and how they reach the caller's memory.
 ghost use mathlib.Core.Path.{_≡_};
 ghost use mathlib.Core.List.{[], _∷_};
-ghost use Prim.Native.Nat.{_<_};
-ghost use Rattle.exports.specs.Replies.{unknownSetting, badTop};
 ghost use Rattle.verdict_meaning.specs.Numbers.{toldVerdict};
-ghost use Rattle.mesh_exports.specs.Founds.{foundOf};
+ghost use Rattle.mesh_exports.specs.Founds.{Finds};
 use mesh_verdict::Verdict;
+use replies::reply::Reply;
 
 // A place that is not told is 0.
 pub struct Found {
@@ -16,7 +15,7 @@ pub struct Found {
 
 // A number with places.
 fn told(number: u32, first: usize, second: usize) -> Found
-    ensures { λ r. ⌜ r ≡ record { number = number; first = first; second = second } ⌝ }
+    ensures { λ r. ⌜ (r .number ≡ number) × (r .first ≡ first) × (r .second ≡ second) ⌝ }
 {
     Found {
         number,
@@ -25,20 +24,15 @@ fn told(number: u32, first: usize, second: usize) -> Found
     }
 }
 
-pub fn bad_top() -> Found
-    ensures { λ r. ⌜ r ≡ foundOf badTop ⌝ }
+// A refusal's number and values.
+pub fn of_reply(reply: Reply) -> Found
+    ensures { λ r. ⌜ (r .number ≡ reply .number) × (r .first ≡ reply .first) × (r .second ≡ reply .second) ⌝ }
 {
-    told(11, 0, 0)
-}
-
-pub fn unknown_setting(place: usize) -> Found
-    ensures { λ r. ⌜ r ≡ foundOf (unknownSetting place) ⌝ }
-{
-    told(8, place, 0)
+    told(reply.number, reply.first as usize, reply.second as usize)
 }
 
 pub fn of_verdict(verdict: Verdict) -> Found
-    ensures { λ r. ⌜ r ≡ foundOf (toldVerdict verdict) ⌝ }
+    ensures { λ r. ⌜ Finds (toldVerdict verdict) r ⌝ }
 {
     match verdict {
         Verdict::Accepted => told(0, 0, 0),

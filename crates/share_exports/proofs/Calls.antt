@@ -13,11 +13,10 @@ use Rattle.patch.specs.declared.kinds.Patch.{Patch}
 use Rattle.patch.specs.declared.settings.Settings.{Settings}
 use Rattle.job_fields.specs.Settings.{firstUnknown}
 use Rattle.tessellate.specs.Answers.{Told, refused}
-use Rattle.exports.specs.declared.reply.Reply.{Reply}
-use Rattle.exports.specs.Inputs.{topIn, patchIn, settingsIn}
-use Rattle.exports.specs.Replies.{replyOf, unknownSetting, badTop, twoWords}
-use Rattle.exports.specs.Calls.{Says}
-use Rattle.exports.proofs.Calls.{said-two, says-as}
+use Rattle.replies.specs.declared.reply.Reply.{Reply}
+use Rattle.replies.specs.Replies.{Tells, unknownSetting, badTop, twoWords, Says}
+use Rattle.replies.proofs.Replies.{said-two, says-as}
+use Rattle.requests.specs.Inputs.{topIn, patchIn, settingsIn}
 use Rattle.shared_lists.specs.declared.state.Designer.{Designer}
 use Rattle.shared_lists.specs.declared.state.Quota.{Quota}
 use Rattle.shared_lists.specs.declared.state.State.{State}
@@ -98,15 +97,14 @@ stored (suc n) a b s w e = rw (ne-eqb (suc n) 0 (λ h. omega (arith, h)))
 
 -- what the operation did, told and stored
 pub drew-known : {e : Designer} {s : State} {set : Settings} {p : Patch} {w w′ v v′ i i′ c′ : List ℕ} {r : DrawResult} {reply : Reply} {n : ℕ}
-    → DidDraw e s set p v v′ i i′ r → reply ≡ replyOf (toldDraw (r .answer)) → w′ ≡ cond (eqb (reply .number) 0) (stateWords (r .state)) w
+    → DidDraw e s set p v v′ i i′ r → Tells (toldDraw (r .answer)) reply → w′ ≡ cond (eqb (reply .number) 0) (stateWords (r .state)) w
     → (n ≡ reply .number) × (c′ ≡ reply .first ∷ reply .second ∷ [])
     → Called (drawVerdict e s set p (length v) (length i)) e s set p w w′ v v′ i i′ c′ n
 drew-known {e} {s} {set} {p} {w} {r = r} {reply = reply} h is k said =
     let told = said-two is said in
-    let number = ap (λ (x : Reply). x .number) is in
     record {
       says = says-as (sym (h .answer)) told;
-      state = rw (told .number) (k ∙ ap (λ (m : ℕ). cond (eqb m 0) (stateWords (r .state)) w) number ∙ stored (toldDraw (r .answer) .number) (r .state) (drawnState e s set p) s w (h .state));
+      state = rw (told .number) (k ∙ ap (λ (m : ℕ). cond (eqb m 0) (stateWords (r .state)) w) (is .number) ∙ stored (toldDraw (r .answer) .number) (r .state) (drawnState e s set p) s w (h .state));
       vertices = rw (told .number) (h .vertices);
       indices = rw (told .number) (h .indices);
     }
@@ -116,14 +114,14 @@ called-as : (bs : List ℕ) (d : ℕ) {e e′ : Designer} {s s′ : State} {set 
     → e ≡ e′ → s ≡ s′ → set ≡ set′ → p ≡ p′ → DrawAsked bs d e s set p w w′ v v′ i i′ c′ r → DrawAsked bs d e′ s′ set′ p′ w w′ v v′ i i′ c′ r
 called-as bs d a b c f h = rw (← a, ← b, ← c, ← f) h
 
-module _ (bs : List ℕ) (xs : List Float) (d : ℕ) (w v i : List ℕ) {s : State} (state : s ≡ stateIn w) {reply : Reply} (is : reply ≡ replyOf (asked bs d (accepted (length v) (length i) s) done)) {c′ : List ℕ} {r : ℕ} where
+module _ (bs : List ℕ) (xs : List Float) (d : ℕ) (w v i : List ℕ) {s : State} (state : s ≡ stateIn w) {reply : Reply} (is : Tells (asked bs d (accepted (length v) (length i) s) done) reply) {c′ : List ℕ} {r : ℕ} where
   -- a refusal leaves everything as it was
   pub draw-refused : 0 < reply .number → (r ≡ reply .number) × (c′ ≡ reply .first ∷ reply .second ∷ []) → DrawCalled bs xs d w w v v i i c′ r
   draw-refused h said = called-as bs d refl state refl refl (go (asked bs d (accepted (length v) (length i) s) done .number) refl)
     where
       go : (n : ℕ) → asked bs d (accepted (length v) (length i) s) done .number ≡ n
           → DrawAsked bs d (designerOf d) s (settingsIn bs) (patchIn bs xs) w w v v i i c′ r
-      go zero e = let z : reply .number ≡ 0 = ap (λ (x : Reply). x .number) is ∙ e in absurd (omega arith)
+      go zero e = let z : reply .number ≡ 0 = is .number ∙ e in absurd (omega arith)
       go (suc n) e =
           let told = said-two is said in
           let z : r ≡ suc n = told .number ∙ e in
@@ -134,7 +132,7 @@ module _ (bs : List ℕ) (xs : List Float) (d : ℕ) (w v i : List ℕ) {s : Sta
       → Called (drawVerdict e s set p (length v) (length i)) e s set p w w′ v v′ i i′ c′ r → DrawCalled bs xs d w w′ v v′ i i′ c′ r
   draw-known low ed es ep h =
       let ok = accepted (length v) (length i) s in
-      let none : asked bs d ok done .number ≡ 0 = omega (arith, ap (λ (x : Reply). x .number) is) in
+      let none : asked bs d ok done .number ≡ 0 = omega (arith, is .number) in
       called-as bs d ed state es ep
       (record { says = says-as (asked-none bs d ok _ none) (h .says); state = h .state; vertices = h .vertices; indices = h .indices })
 

@@ -13,9 +13,8 @@ use Rattle.patch.specs.declared.settings.Settings.{Settings}
 use Rattle.job_fields.specs.Settings.{firstUnknown}
 use Rattle.tessellate.specs.Answers.{Told, refused}
 use Rattle.tessellate.specs.Draws.{pointWords}
-use Rattle.exports.specs.Inputs.{topIn, patchIn, settingsIn}
-use Rattle.exports.specs.Replies.{unknownSetting, badTop, twoWords}
-use Rattle.exports.specs.Calls.{Says}
+use Rattle.replies.specs.Replies.{unknownSetting, badTop, twoWords, Says}
+use Rattle.requests.specs.Inputs.{topIn, patchIn, settingsIn}
 use Rattle.shared_lists.specs.declared.state.Designer.{Designer}
 use Rattle.shared_lists.specs.declared.state.Quota.{Quota}
 use Rattle.shared_lists.specs.declared.state.State.{State}

@@ -1,7 +1,6 @@
 // Drawing into a designer's part.
-ghost use mathlib.Core.Path.{_≡_};
 ghost use lib.ListN.{length};
-ghost use Rattle.exports.specs.Replies.{replyOf};
+ghost use Rattle.replies.specs.Replies.{Tells};
 ghost use Rattle.shared_lists.specs.Answers.{done, accepted};
 ghost use Rattle.shares.specs.Answers.{drawVerdict};
 ghost use Rattle.share_exports.specs.Calls.{asked, DrawCalled, Called};
@@ -9,21 +8,21 @@ use crate::reply::of_draw;
 use crate::words::designer_of;
 use crate::words::keep;
 use crate::words::state_in;
-use exports::reply::Reply;
-use exports::reply::bad_top;
-use exports::reply::refusal;
-use exports::reply::say_two;
-use exports::reply::unknown_setting;
 use patch::kinds::Patch;
 use patch::settings::Settings;
+use replies::reply::Reply;
+use replies::reply::bad_top;
+use replies::reply::refusal;
+use replies::reply::say_two;
+use replies::reply::unknown_setting;
 use shared_lists::state::Designer;
 use shared_lists::state::State;
 
 // What stands against a call before its patch is looked at; the number 0 where nothing does.
 fn objection(state: State, designer: u32, settings: &[u8; 6], v: usize, i: usize) -> Reply
-    ensures { λ r. ⌜ r ≡ replyOf (asked (now (settings .entry)) designer (accepted v i state) done) ⌝ }
+    ensures { λ r. ⌜ Tells (asked (now (settings .entry)) designer (accepted v i state) done) r ⌝ }
 {
-    let top = exports::input::top_in(settings);
+    let top = requests::input::top_in(settings);
     if !level::is_top(top) {
         return bad_top();
     }
@@ -78,12 +77,12 @@ pub extern "C" fn yoktvarim_share_draw(
     if 0 < why.number {
         return say_two(why, counts);
     }
-    let top = exports::input::top_in(settings);
+    let top = requests::input::top_in(settings);
     draw_known(
         state,
         shared,
         designer_of(designer),
-        exports::input::patch_in(settings, levels),
+        requests::input::patch_in(settings, levels),
         job_fields::setting::read_settings(settings, 0, top),
         vertices,
         indices,

@@ -1,22 +1,17 @@
 // Answers as numbers.
-ghost use mathlib.Core.Path.{_≡_};
-ghost use lib.Dec.{eqb};
-ghost use Rattle.exports.specs.Replies.{replyOf};
+ghost use Rattle.replies.specs.Replies.{Tells};
 ghost use Rattle.shares.specs.Answers.{toldDraw};
-use exports::reply::Reply;
-use exports::reply::bad_top;
-use exports::reply::refusal;
+use replies::reply::Reply;
+use replies::reply::bad_top;
+use replies::reply::refusal;
+use replies::reply::success;
 use shares::answer::DrawAnswer;
 
 pub(crate) fn of_draw(answer: DrawAnswer) -> Reply
-    ensures { λ r. ⌜ r ≡ replyOf (toldDraw answer) ⌝ }
+    ensures { λ r. ⌜ Tells (toldDraw answer) r ⌝ }
 {
     match answer {
-        DrawAnswer::Drawn { points, indices } => Reply {
-            number: 0,
-            first: points,
-            second: indices,
-        },
+        DrawAnswer::Drawn { points, indices } => success(points, indices),
         DrawAnswer::Discarded => refusal(1),
         DrawAnswer::NoRoomForVertices => refusal(3),
         DrawAnswer::NoRoomForIndices => refusal(4),

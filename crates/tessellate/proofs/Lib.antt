@@ -1,5 +1,6 @@
 -- The laws of `tessellate`.
 pub mod Tops
 mod Counted
+mod Cutting
 pub mod Draws
 pub mod Together

@@ -3,49 +3,45 @@
 ghost use Rattle.tessellate.specs.Draws.{DrewPoints, DrewIndices};
 use crate::answer::IndicesAnswer;
 use crate::answer::PointsAnswer;
+use crate::cut::Cut;
+use crate::cut::cut_with;
 use patch::kinds::Patch;
 use patch::settings::Settings;
 
 pub fn draw_points(patch: Patch, settings: Settings, vertices: &mut [u32]) -> PointsAnswer
     ensures { λ r. ⌜ DrewPoints settings patch (now (vertices .entry)) (now (vertices .exit)) r ⌝ }
 {
-    let spacing = settings.spacing;
-    let top = settings.top;
-    if !level::is_top(top) {
-        return PointsAnswer::BadTop;
+    match cut_with(patch, settings) {
+        Cut::BadTop => PointsAnswer::BadTop,
+        Cut::Discarded => PointsAnswer::Discarded,
+        Cut::Ready { cut } => {
+            let points = cut_patch::count::point_count(cut);
+            if vertices.len() < 3 * (points as usize) {
+                return PointsAnswer::NoRoomForVertices;
+            }
+            cut_patch::place::write_points(vertices, cut);
+            PointsAnswer::Drawn { points }
+        }
     }
-    let cut = patch::subdivision::subdivide(patch, spacing, top);
-    if patch::subdivision::is_discarded(cut) {
-        return PointsAnswer::Discarded;
-    }
-    let points = cut_patch::count::point_count(cut);
-    if vertices.len() < 3 * (points as usize) {
-        return PointsAnswer::NoRoomForVertices;
-    }
-    cut_patch::place::write_points(vertices, cut);
-    PointsAnswer::Drawn { points }
 }
 
 pub fn draw_indices(patch: Patch, settings: Settings, indices: &mut [u16]) -> IndicesAnswer
     ensures { λ r. ⌜ DrewIndices settings patch (now (indices .entry)) (now (indices .exit)) r ⌝ }
 {
-    let spacing = settings.spacing;
-    let top = settings.top;
     let order = settings.order;
     let origin = settings.origin;
     let point_mode = settings.point_mode;
-    if !level::is_top(top) {
-        return IndicesAnswer::BadTop;
+    match cut_with(patch, settings) {
+        Cut::BadTop => IndicesAnswer::BadTop,
+        Cut::Discarded => IndicesAnswer::Discarded,
+        Cut::Ready { cut } => {
+            let words = cut_patch::count::index_count(cut, point_mode);
+            if indices.len() < words as usize {
+                return IndicesAnswer::NoRoomForIndices;
+            }
+            let positive = patch::settings::turns_positive(order, origin);
+            cut_patch::connect::write_indices(indices, cut, point_mode, positive);
+            IndicesAnswer::Drawn { indices: words }
+        }
     }
-    let cut = patch::subdivision::subdivide(patch, spacing, top);
-    if patch::subdivision::is_discarded(cut) {
-        return IndicesAnswer::Discarded;
-    }
-    let words = cut_patch::count::index_count(cut, point_mode);
-    if indices.len() < words as usize {
-        return IndicesAnswer::NoRoomForIndices;
-    }
-    let positive = patch::settings::turns_positive(order, origin);
-    cut_patch::connect::write_indices(indices, cut, point_mode, positive);
-    IndicesAnswer::Drawn { indices: words }
 }

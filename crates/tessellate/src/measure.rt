@@ -3,6 +3,8 @@
 ghost use mathlib.Core.Path.{_≡_};
 ghost use Rattle.tessellate.specs.Answers.{measured};
 use crate::answer::Size;
+use crate::cut::Cut;
+use crate::cut::cut_with;
 use patch::kinds::Patch;
 use patch::settings::Settings;
 
@@ -12,19 +14,18 @@ pub fn measure(patch: Patch, settings: Settings) -> Size
     let spacing = settings.spacing;
     let top = settings.top;
     let point_mode = settings.point_mode;
-    if !level::is_top(top) {
-        return Size::BadTop;
-    }
-    let cut = patch::subdivision::subdivide(patch, spacing, top);
-    if patch::subdivision::is_discarded(cut) {
-        return Size::Discarded;
-    }
-    let points = cut_patch::count::point_count(cut);
-    let indices = cut_patch::count::index_count(cut, point_mode);
-    let clamps = patch::clamps::clamps_of(patch, spacing, top);
-    Size::Counts {
-        points,
-        indices,
-        clamps,
+    match cut_with(patch, settings) {
+        Cut::BadTop => Size::BadTop,
+        Cut::Discarded => Size::Discarded,
+        Cut::Ready { cut } => {
+            let points = cut_patch::count::point_count(cut);
+            let indices = cut_patch::count::index_count(cut, point_mode);
+            let clamps = patch::clamps::clamps_of(patch, spacing, top);
+            Size::Counts {
+                points,
+                indices,
+                clamps,
+            }
+        }
     }
 }

@@ -1,84 +1,53 @@
--- `exports::draw::yoktvarim_draw_indices` meets its contract: a return for a bad top, one for an unknown setting and one for what drawing
--- answers. Assumes nothing.
+-- Meets its contract: a return for a refused call and one for what drawing answers. Assumes nothing.
 use borrow.Author.Needs.{needs}
-use mathlib.Core.Path.{ap, _∙_}
-use Rattle.level.specs.Top.{isTop}
-use Rattle.job_fields.specs.Settings.{settingsAt}
-use Rattle.tessellate.proofs.Tops.{good, bad}
-use Rattle.exports.proofs.Calls.{said-one, draw-bad, draw-unknown, draw-known}
+use lib.ListN.{length}
+use Rattle.tessellate.specs.Answers.{indicesVerdict}
+use Rattle.tessellate.specs.Draws.{connectionWords}
+use Rattle.exports.proofs.Calls.{draw-refused, draw-known}
 use Rattle.exports.proofs.draw.yoktvarim_draw_indices.Statement.{statement}
 use Rattle.exports.proofs.draw.yoktvarim_draw_indices.Tie as tie
 
-top-in-requires : tie.Need-top-in-requires
-top-in-requires c κs = search needs
+read-call-requires : tie.Need-read-call-requires
+read-call-requires c κs = search needs
 
-is-top-requires : tie.Need-is-top-requires
-is-top-requires c κs = search needs
-
-bad-top-requires : tie.Need-bad-top-requires
-bad-top-requires c κs = search needs
+enum-known-reply : tie.Need-enum-known-reply
+enum-known-reply c = search needs
 
 say-one-requires : tie.Need-say-one-requires
 say-one-requires c κs = search needs
 
+enum-known-set : tie.Need-enum-known-set
+enum-known-set c = search needs
+
+indices-of-requires : tie.Need-indices-of-requires
+indices-of-requires c κs = search needs
+
 returns : tie.Need-returns
-returns c = draw-bad _ _ _ _ (bad (c .before .before .before .before .is-top .result) (c .before .before .before .before .is-top .ensures ∙ ap isTop (c .before .before .before .before .before .top-in .ensures)) (c .before .before .before .if1 .taken)) (said-one (c .before .before .bad-top .ensures) (c .say-one .ensures))
-
-first-unknown-requires : tie.Need-first-unknown-requires
-first-unknown-requires c κs = search needs
-
-unknown-setting-requires : tie.Need-unknown-setting-requires
-unknown-setting-requires c κs = search needs
-
-say-one-requires-2 : tie.Need-say-one-requires-2
-say-one-requires-2 c κs = search needs
-
-returns-2 : tie.Need-returns-2
-returns-2 c =
-    draw-unknown _ _ _ _ (good (c .before .before .before .before .before .before .before .is-top .result) (c .before .before .before .before .before .before .before .is-top .ensures ∙ ap isTop (c .before .before .before .before .before .before .before .before .top-in .ensures)) (c .before .before .before .before .before .before .if1 .left))
-    (c .before .before .before .before .first-unknown .ensures) (c .before .before .before .if2 .taken) (said-one (c .before .before .unknown-setting .ensures) (c .say-one2 .ensures))
-
-patch-in-requires : tie.Need-patch-in-requires
-patch-in-requires c κs = search needs
-
-read-settings-requires : tie.Need-read-settings-requires
-read-settings-requires c κs = search needs
-
-draw-indices-requires : tie.Need-draw-indices-requires
-draw-indices-requires c κs = search needs
-
-of-indices-requires : tie.Need-of-indices-requires
-of-indices-requires c κs = search needs
-
-say-one-requires-3 : tie.Need-say-one-requires-3
-say-one-requires-3 c κs = search needs
+returns c =
+    let arm = c .before .before .before in
+    let read = arm .before .before in
+    let a = read .before .before .args in
+    draw-refused (a .settings .now) (a .levels .now) (read .read-call .ensures) _ (arm .reply .given .1) (c .say-one .ensures)
 
 same-length : tie.Need-same-length
 same-length c = search needs
 
-returns-3 : tie.Need-returns-3
-returns-3 c =
-    let drew = rw ((c .before .before .before .before .before .before .before .read-settings .ensures ∙ ap (settingsAt (c .before .before .before .before .before .before .before .before .before .before .before .before .before .before .before .before .before .before .args .settings .now) 0) (c .before .before .before .before .before .before .before .before .before .before .before .before .before .before .before .top-in .ensures)), c .before .before .before .before .before .before .before .before .before .patch-in .ensures) at (c .before .before .before .before .before .draw-indices .ensures) in
-    draw-known _ _ _ _ (good (c .before .before .before .before .before .before .before .before .before .before .before .before .before .before .is-top .result) (c .before .before .before .before .before .before .before .before .before .before .before .before .before .before .is-top .ensures ∙ ap isTop (c .before .before .before .before .before .before .before .before .before .before .before .before .before .before .before .top-in .ensures)) (c .before .before .before .before .before .before .before .before .before .before .before .before .before .if1 .left))
-    (c .before .before .before .before .before .before .before .before .before .before .before .first-unknown .ensures) (c .before .before .before .before .before .before .before .before .before .before .if2 .left) drew (said-one (c .before .before .of-indices .ensures) (c .say-one3 .ensures))
+returns-2 : tie.Need-returns-2
+returns-2 c =
+    let arm = c .before .before .before .before .before .before in
+    let read = arm .before .before in
+    let a = read .before .before .args in
+    draw-known (a .settings .now) (a .levels .now) (read .read-call .ensures) (λ s p. indicesVerdict s p (length (a .indices .now))) connectionWords (arm .set .given .1) (c .before .before .indices-of .ensures)
 
 pub yoktvarim-draw-indices-spec : {M : Type 1} → statement M
 yoktvarim-draw-indices-spec =
     tie.close
     (tie.spec
-    top-in-requires
-    is-top-requires
-    bad-top-requires
+    read-call-requires
+    enum-known-reply
     say-one-requires
+    enum-known-set
+    indices-of-requires
     returns
-    first-unknown-requires
-    unknown-setting-requires
-    say-one-requires-2
-    returns-2
-    patch-in-requires
-    read-settings-requires
-    draw-indices-requires
-    of-indices-requires
-    say-one-requires-3
     same-length
-    returns-3)
+    returns-2)

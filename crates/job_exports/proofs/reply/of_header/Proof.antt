@@ -1,7 +1,7 @@
 -- Meets its contract. Assumes nothing.
 use borrow.Author.Needs.{needs}
-use mathlib.Core.Path.{sym, ap, _∙_}
-use Rattle.exports.specs.Replies.{replyOf}
+use mathlib.Core.Path.{ap}
+use Rattle.replies.proofs.Replies.{tells-as, tells-one}
 use Rattle.job_exports.specs.Calls.{toldRead}
 use Rattle.job_exports.proofs.reply.of_header.Statement.{statement}
 use Rattle.job_exports.proofs.reply.of_header.Tie as tie
@@ -11,6 +11,9 @@ enum-known-header c = search needs
 
 version-number-requires : tie.Need-version-number-requires
 version-number-requires c κs = search needs
+
+success-requires : tie.Need-success-requires
+success-requires c κs = search needs
 
 enum-told : tie.Need-enum-told
 enum-told c = search needs
@@ -25,13 +28,13 @@ refusal-requires-2 : tie.Need-refusal-requires-2
 refusal-requires-2 c κs = search needs
 
 returns : tie.Need-returns
-returns c = rw (c .before .before .header .given .1, c .version-number .ensures)
+returns c = tells-as (ap toldRead (c .before .before .before .header .given .1)) (tells-one (rw (c .before .version-number .ensures) at (c .success .ensures)))
 
 returns-2 : tie.Need-returns-2
-returns-2 c = c .refusal .ensures ∙ ap (λ x. replyOf (toldRead x)) (sym (c .before .enum-told .given .1))
+returns-2 c = search needs
 
 returns-3 : tie.Need-returns-3
-returns-3 c = c .refusal2 .ensures ∙ ap (λ x. replyOf (toldRead x)) (sym (c .before .enum-told2 .given .1))
+returns-3 c = search needs
 
 pub of-header-spec : {M : Type 1} → statement M
 of-header-spec =
@@ -39,6 +42,7 @@ of-header-spec =
     (tie.spec
     enum-known-header
     version-number-requires
+    success-requires
     enum-told
     refusal-requires
     enum-told-2

@@ -1,11 +1,10 @@
 -- Meets its contract: a return for each refusal before room, and one for what writing answers. Assumes nothing.
 use borrow.Author.Needs.{needs}
 use native.Mathlib.Omega.{arith}
-use mathlib.Core.Path.{_≡_, refl, sym, ap, _∙_}
-use mathlib.Core.Bool.{true, false}
+use mathlib.Core.Path.{refl, sym, ap}
 use Rattle.tessellate.proofs.Tops.{good, bad}
-use Rattle.exports.specs.Replies.{unknownSetting}
-use Rattle.exports.proofs.Calls.{said-one}
+use Rattle.replies.specs.Replies.{unknownSetting}
+use Rattle.replies.proofs.Replies.{said-one, tells-as}
 use Rattle.job_exports.proofs.Calls.{kept, done, record-other, record-top, record-unknown, record-known}
 use Rattle.job_exports.proofs.write.yoktvarim_write_record.Statement.{statement}
 use Rattle.job_exports.proofs.write.yoktvarim_write_record.Tie as tie
@@ -72,7 +71,7 @@ returns-3 c =
     kept
     (record-unknown _ _ _ (good (version .is-version .result) (version .is-version .ensures) (known .before .if1 .left)) (good (takes .takes-top .result) taken (first .before .before .if2 .left))
     (omega (arith, is, c .before .before .before .if3 .taken)))
-    7 refl (said-one (c .before .before .unknown-setting .ensures ∙ rw is) (c .say-one3 .ensures))
+    7 refl (said-one (tells-as (ap unknownSetting (sym is)) (c .before .before .unknown-setting .ensures)) (c .say-one3 .ensures))
 
 record-in-requires : tie.Need-record-in-requires
 record-in-requires c κs = search needs

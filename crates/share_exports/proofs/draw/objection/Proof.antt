@@ -1,7 +1,7 @@
 -- Meets its contract. Assumes nothing.
-use mathlib.Core.Path.{sym, ap, _∙_}
+use mathlib.Core.Path.{ap, _∙_}
 use Rattle.level.specs.Top.{isTop}
-use Rattle.exports.specs.Replies.{replyOf}
+use Rattle.replies.proofs.Replies.{tells-as}
 use Rattle.tessellate.proofs.Tops.{good, bad}
 use Rattle.share_exports.proofs.Calls.{found-top, found-state, found-designer, found-setting, found-none}
 use borrow.Author.Needs.{needs}
@@ -18,7 +18,12 @@ bad-top-requires : tie.Need-bad-top-requires
 bad-top-requires c κs = search needs
 
 returns : tie.Need-returns
-returns c = c .bad-top .ensures ∙ ap replyOf (sym (found-top (c .before .before .before .before .before .args .settings .now) (c .before .before .before .before .before .args .designer) _ (bad (c .before .before .is-top .result) (c .before .before .is-top .ensures ∙ ap isTop (c .before .before .before .top-in .ensures)) (c .before .if1 .taken))))
+returns c =
+    let test = c .before .before in
+    let top = test .before in
+    let a = top .before .before .args in
+    let is = test .is-top .ensures ∙ ap isTop (top .top-in .ensures) in
+    tells-as (found-top (a .settings .now) (a .designer) _ (bad (test .is-top .result) is (c .before .if1 .taken))) (c .bad-top .ensures)
 
 accepts-requires : tie.Need-accepts-requires
 accepts-requires c κs = search needs
@@ -27,13 +32,28 @@ refusal-requires : tie.Need-refusal-requires
 refusal-requires c κs = search needs
 
 returns-2 : tie.Need-returns-2
-returns-2 c = c .refusal .ensures ∙ ap replyOf (sym (found-state (c .before .before .before .before .before .before .before .args .settings .now) (c .before .before .before .before .before .before .before .args .designer) _ (good (c .before .before .before .before .is-top .result) (c .before .before .before .before .is-top .ensures ∙ ap isTop (c .before .before .before .before .before .top-in .ensures)) (c .before .before .before .if1 .left)) (bad (c .before .before .accepts .result) (c .before .before .accepts .ensures) (c .before .if2 .taken))))
+returns-2 c =
+    let accepts = c .before .before in
+    let left = accepts .before in
+    let test = left .before in
+    let top = test .before in
+    let a = top .before .before .args in
+    let is = test .is-top .ensures ∙ ap isTop (top .top-in .ensures) in
+    tells-as (found-state (a .settings .now) (a .designer) _ (good (test .is-top .result) is (left .if1 .left)) (bad (accepts .accepts .result) (accepts .accepts .ensures) (c .before .if2 .taken))) (c .refusal .ensures)
 
 refusal-requires-2 : tie.Need-refusal-requires-2
 refusal-requires-2 c κs = search needs
 
 returns-3 : tie.Need-returns-3
-returns-3 c = c .refusal2 .ensures ∙ ap replyOf (sym (found-designer (c .before .before .before .before .before .before .before .before .args .settings .now) (c .before .before .before .before .before .before .before .before .args .designer) _ (good (c .before .before .before .before .before .is-top .result) (c .before .before .before .before .before .is-top .ensures ∙ ap isTop (c .before .before .before .before .before .before .top-in .ensures)) (c .before .before .before .before .if1 .left)) (good (c .before .before .before .accepts .result) (c .before .before .before .accepts .ensures) (c .before .before .if2 .left)) (c .before .if3 .taken)))
+returns-3 c =
+    let fits = c .before .before in
+    let accepts = fits .before in
+    let left = accepts .before in
+    let test = left .before in
+    let top = test .before in
+    let a = top .before .before .args in
+    let is = test .is-top .ensures ∙ ap isTop (top .top-in .ensures) in
+    tells-as (found-designer (a .settings .now) (a .designer) _ (good (test .is-top .result) is (left .if1 .left)) (good (accepts .accepts .result) (accepts .accepts .ensures) (fits .if2 .left)) (c .before .if3 .taken)) (c .refusal2 .ensures)
 
 first-unknown-requires : tie.Need-first-unknown-requires
 first-unknown-requires c κs = search needs
@@ -42,13 +62,33 @@ unknown-setting-requires : tie.Need-unknown-setting-requires
 unknown-setting-requires c κs = search needs
 
 returns-4 : tie.Need-returns-4
-returns-4 c = c .unknown-setting .ensures ∙ ap replyOf (sym (found-setting (c .before .before .before .before .before .before .before .before .before .before .before .args .settings .now) (c .before .before .before .before .before .before .before .before .before .before .before .args .designer) _ (good (c .before .before .before .before .before .before .before .before .is-top .result) (c .before .before .before .before .before .before .before .before .is-top .ensures ∙ ap isTop (c .before .before .before .before .before .before .before .before .before .top-in .ensures)) (c .before .before .before .before .before .before .before .if1 .left)) (good (c .before .before .before .before .before .before .accepts .result) (c .before .before .before .before .before .before .accepts .ensures) (c .before .before .before .before .before .if2 .left)) (c .before .before .before .before .if3 .left) (c .before .before .first-unknown .ensures) (c .before .if4 .taken)))
+returns-4 c =
+    let first = c .before .before in
+    let known = first .before .before in
+    let fits = known .before in
+    let accepts = fits .before in
+    let left = accepts .before in
+    let test = left .before in
+    let top = test .before in
+    let a = top .before .before .args in
+    let is = test .is-top .ensures ∙ ap isTop (top .top-in .ensures) in
+    tells-as (found-setting (a .settings .now) (a .designer) _ (good (test .is-top .result) is (left .if1 .left)) (good (accepts .accepts .result) (accepts .accepts .ensures) (fits .if2 .left)) (known .if3 .left) (first .first-unknown .ensures) (c .before .if4 .taken)) (c .unknown-setting .ensures)
 
 refusal-requires-3 : tie.Need-refusal-requires-3
 refusal-requires-3 c κs = search needs
 
 returns-5 : tie.Need-returns-5
-returns-5 c = c .refusal3 .ensures ∙ ap replyOf (sym (found-none (c .before .before .before .before .before .before .before .before .before .before .before .args .settings .now) (c .before .before .before .before .before .before .before .before .before .before .before .args .designer) _ (good (c .before .before .before .before .before .before .before .before .is-top .result) (c .before .before .before .before .before .before .before .before .is-top .ensures ∙ ap isTop (c .before .before .before .before .before .before .before .before .before .top-in .ensures)) (c .before .before .before .before .before .before .before .if1 .left)) (good (c .before .before .before .before .before .before .accepts .result) (c .before .before .before .before .before .before .accepts .ensures) (c .before .before .before .before .before .if2 .left)) (c .before .before .before .before .if3 .left) (c .before .before .first-unknown .ensures) (c .before .if4 .left)))
+returns-5 c =
+    let first = c .before .before in
+    let known = first .before .before in
+    let fits = known .before in
+    let accepts = fits .before in
+    let left = accepts .before in
+    let test = left .before in
+    let top = test .before in
+    let a = top .before .before .args in
+    let is = test .is-top .ensures ∙ ap isTop (top .top-in .ensures) in
+    tells-as (found-none (a .settings .now) (a .designer) _ (good (test .is-top .result) is (left .if1 .left)) (good (accepts .accepts .result) (accepts .accepts .ensures) (fits .if2 .left)) (known .if3 .left) (first .first-unknown .ensures) (c .before .if4 .left)) (c .refusal3 .ensures)
 
 pub objection-spec : {M : Type 1} → statement M
 objection-spec =

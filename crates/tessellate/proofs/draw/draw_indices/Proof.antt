@@ -1,83 +1,70 @@
--- Meets its contract. Assumes nothing.
+-- Meets its contract: a return for each refusal and one for the indices drawn. Assumes nothing.
 use borrow.Author.Needs.{needs}
 use native.Mathlib.Omega.{arith}
-use mathlib.Core.Path.{refl, sym, ap, _∙_}
+use mathlib.Core.Path.{refl, ap, _∙_}
 use mathlib.Core.Bool.{Bool}
 use Rattle.buffer.specs.Over.{over}
 use Rattle.patch.specs.declared.subdivision.Subdivision.{Subdivision}
 use Rattle.drawing.specs.Primitives.{inMode, indexWords}
 use Rattle.cut_patch.proofs.Modes.{mode-count}
-use Rattle.tessellate.proofs.Counted.{valid, flag, few, many-indices}
-use Rattle.tessellate.specs.Answers.{drew}
-use Rattle.tessellate.proofs.Tops.{good, bad, top-as}
-use Rattle.tessellate.proofs.Draws.{told-bad, told-discarded, told-short, told-drawn, untouched, written}
+use Rattle.tessellate.proofs.Cutting.{is-cut, cut-valid, cut-few, cut-indices, draw-bad, draw-discarded, draw-short, draw-done}
 use Rattle.tessellate.proofs.draw.draw_indices.Statement.{statement}
 use Rattle.tessellate.proofs.draw.draw_indices.Tie as tie
 
-is-top-requires : tie.Need-is-top-requires
-is-top-requires c κs = search needs
+cut-with-requires : tie.Need-cut-with-requires
+cut-with-requires c κs = search needs
 
-returns : tie.Need-returns
-returns c =
-    let a = c .before .before .before .args in
-    untouched 10 refl (told-bad (a .settings) (a .patch) _ _ _ _ (bad (c .before .is-top .result) (c .before .is-top .ensures) (c .if1 .taken)))
+enum-told : tie.Need-enum-told
+enum-told c = search needs
 
-subdivide-requires : tie.Need-subdivide-requires
-subdivide-requires c κs = top-as _ (good (c .before .is-top .result) (c .before .is-top .ensures) (c .if1 .left))
+enum-told-2 : tie.Need-enum-told-2
+enum-told-2 c = search needs
 
-is-discarded-requires : tie.Need-is-discarded-requires
-is-discarded-requires c κs = search needs
-
-returns-2 : tie.Need-returns-2
-returns-2 c =
-    let a = c .before .before .before .before .before .before .args in
-    let set = a .settings in
-    let p = a .patch in
-    let top = good (c .before .before .before .before .is-top .result) (c .before .before .before .before .is-top .ensures) (c .before .before .before .if1 .left) in
-    let cut = c .before .before .subdivide in
-    let drawn = flag set (top-as _ top) p (cut .result) (cut .ensures) (c .before .is-discarded .ensures) (c .if2 .taken) in
-    untouched 0 refl (told-discarded set p _ _ _ _ top drawn)
+enum-known-cut : tie.Need-enum-known-cut
+enum-known-cut c = search needs
 
 index-count-requires : tie.Need-index-count-requires
 index-count-requires c κs =
-    let a = c .before .before .before .before .before .before .args in
-    let set = a .settings in
-    let p = a .patch in
-    let top = good (c .before .before .before .before .is-top .result) (c .before .before .before .before .is-top .ensures) (c .before .before .before .if1 .left) in
-    let cut = c .before .before .subdivide in
-    valid set (top-as _ top) p (cut .result) (cut .ensures)
+    let arm = c .before in
+    let cut = arm .before .before in
+    let a = cut .before .before .args in
+    cut-valid (a .settings) (a .patch) (cut .cut-with .ensures) (arm .cut .given .1)
 
-cast-if3 : tie.Need-cast-if3
-cast-if3 c = search needs
+cast-if1 : tie.Need-cast-if1
+cast-if1 c = search needs
 
-returns-3 : tie.Need-returns-3
-returns-3 c =
-    let a = c .before .before .before .before .before .before .before .before .args in
-    let set = a .settings in
-    let p = a .patch in
-    let top = good (c .before .before .before .before .before .before .is-top .result) (c .before .before .before .before .before .before .is-top .ensures) (c .before .before .before .before .before .if1 .left) in
-    let cut = c .before .before .before .before .subdivide in
-    let drawn = flag set (top-as _ top) p (cut .result) (cut .ensures) (c .before .before .before .is-discarded .ensures) (c .before .before .if2 .left) in
-    let words = many-indices set (top-as _ top) p (cut .result) (cut .ensures) (c .before .index-count .ensures) in
-    untouched 3 refl (told-short set p _ _ _ _ top drawn (omega (arith, c .if3 .taken)))
+returns : tie.Need-returns
+returns c =
+    let arm = c .before .before .before in
+    let cut = arm .before .before in
+    let a = cut .before .before .args in
+    let e = arm .cut .given .1 in
+    draw-short (a .settings) (a .patch) (cut .cut-with .ensures) _ _ _ _ 3 e refl (omega (arith, cut-indices (a .settings) (a .patch) (cut .cut-with .ensures) e (c .before .index-count .ensures), c .if1 .taken)) refl
 
 turns-positive-requires : tie.Need-turns-positive-requires
 turns-positive-requires c κs = search needs
 
 write-indices-requires : tie.Need-write-indices-requires
 write-indices-requires c κs =
-    let a = c .before .before .before .before .before .before .before .before .before .before .args in
-    let set = a .settings in
-    let p = a .patch in
-    let top = good (c .before .before .before .before .before .before .before .before .is-top .result) (c .before .before .before .before .before .before .before .before .is-top .ensures) (c .before .before .before .before .before .before .before .if1 .left) in
-    let cut = c .before .before .before .before .before .before .subdivide in
-    let v = valid set (top-as _ top) p (cut .result) (cut .ensures) in (
-      v,
-      (
-        few set (top-as _ top) p (cut .result) (cut .ensures),
-        omega (arith, c .before .before .if3 .left, c .before .before .before .index-count .ensures, mode-count (set .«point_mode») (c .before .turns-positive .result) (cut .result) v),
-      ),
-    )
+    let arm = c .before .before .before .before .before in
+    let cut = arm .before .before in
+    let a = cut .before .before .args in
+    let e = arm .cut .given .1 in
+    let v = cut-valid (a .settings) (a .patch) (cut .cut-with .ensures) e in
+    let count = mode-count (a .settings .«point_mode») (c .before .turns-positive .result) (arm .cut .given .0 .0) v in
+    (v, (cut-few (a .settings) (a .patch) (cut .cut-with .ensures) e, omega (arith, c .before .before .if1 .left, c .before .before .before .index-count .ensures, count)))
+
+returns-2 : tie.Need-returns-2
+returns-2 c =
+    let cut = c .before .before in
+    let a = cut .before .before .args in
+    draw-bad (a .settings) (a .patch) (cut .cut-with .ensures) _ _ _ _ (c .enum-told .given .1) refl
+
+returns-3 : tie.Need-returns-3
+returns-3 c =
+    let cut = c .before .before in
+    let a = cut .before .before .args in
+    draw-discarded (a .settings) (a .patch) (cut .cut-with .ensures) _ _ _ _ (c .enum-told2 .given .1) refl
 
 same-length : tie.Need-same-length
 same-length c = search needs
@@ -85,30 +72,31 @@ same-length c = search needs
 returns-4 : tie.Need-returns-4
 unfolding indexWords
 returns-4 c =
-    let a = c .before .before .before .before .before .before .before .before .before .before .before .before .before .args in
-    let set = a .settings in
-    let p = a .patch in
-    let top = good (c .before .before .before .before .before .before .before .before .before .before .before .is-top .result) (c .before .before .before .before .before .before .before .before .before .before .before .is-top .ensures) (c .before .before .before .before .before .before .before .before .before .before .if1 .left) in
-    let cut = c .before .before .before .before .before .before .before .before .before .subdivide in
-    let drawn = flag set (top-as _ top) p (cut .result) (cut .ensures) (c .before .before .before .before .before .before .before .before .is-discarded .ensures) (c .before .before .before .before .before .before .before .if2 .left) in
-    let words = many-indices set (top-as _ top) p (cut .result) (cut .ensures) (c .before .before .before .before .before .before .index-count .ensures) in
-    written (c .before .before .before .before .before .before .index-count .result) refl (told-drawn set p _ _ _ _ top drawn (omega (arith, c .before .before .before .before .before .if3 .left)) ∙ ap drew (sym words))
-    (c .before .before .write-indices .ensures .is ∙ ap (λ (t : Bool). over (a .indices .now) 0 (inMode (set .«point_mode») t (cut .result))) (c .before .before .before .before .turns-positive .ensures)
-    ∙ ap (λ (d : Subdivision). over (a .indices .now) 0 (indexWords set d)) (cut .ensures))
+    let arm = c .before .before .before .before .before .before .before .before in
+    let cut = arm .before .before in
+    let a = cut .before .before .args in
+    let turn = c .before .before .before .before in
+    let e = arm .cut .given .1 in
+    let many = cut-indices (a .settings) (a .patch) (cut .cut-with .ensures) e (turn .before .before .index-count .ensures) in
+    let turned = ap (λ (t : Bool). over (a .indices .now) 0 (inMode (a .settings .«point_mode») t (arm .cut .given .0 .0))) (turn .turns-positive .ensures) in
+    let drawn = ap (λ (d : Subdivision). over (a .indices .now) 0 (indexWords (a .settings) d)) (is-cut (a .settings) (a .patch) (cut .cut-with .ensures) e .cut) in
+    draw-done (a .settings) (a .patch) (cut .cut-with .ensures) _ _ _ _ e (omega (arith, many, turn .before .if1 .left)) many refl
+    (c .before .before .write-indices .ensures .is ∙ turned ∙ drawn)
 
 pub draw-indices-spec : {M : Type 1} → statement M
 draw-indices-spec =
     tie.close
     (tie.spec
-    is-top-requires
-    returns
-    subdivide-requires
-    is-discarded-requires
-    returns-2
+    cut-with-requires
+    enum-told
+    enum-told-2
+    enum-known-cut
     index-count-requires
-    cast-if3
-    returns-3
+    cast-if1
+    returns
     turns-positive-requires
     write-indices-requires
+    returns-2
+    returns-3
     same-length
     returns-4)

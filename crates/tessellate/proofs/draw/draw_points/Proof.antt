@@ -1,107 +1,97 @@
--- Meets its contract. Assumes nothing.
+-- Meets its contract: a return for each refusal and one for the points drawn. Assumes nothing.
 use borrow.Author.Needs.{needs}
 use native.Mathlib.Omega.{arith}
-use mathlib.Core.Path.{refl, sym, ap, _∙_}
+use mathlib.Core.Path.{refl, ap, _∙_}
 use Rattle.buffer.specs.Over.{over}
 use Rattle.patch.specs.declared.subdivision.Subdivision.{Subdivision}
 use Rattle.mesh.specs.Words.{vertexWords}
 use Rattle.drawing.specs.Points.{points}
 use Rattle.drawing.proofs.Counts.{point-count}
-use Rattle.tessellate.proofs.Counted.{valid, flag, many-points}
-use Rattle.tessellate.specs.Answers.{drew}
-use Rattle.tessellate.proofs.Tops.{good, bad, top-as}
-use Rattle.tessellate.proofs.Draws.{told-bad, told-discarded, told-short, told-drawn, untouched, written}
+use Rattle.tessellate.proofs.Cutting.{is-cut, cut-valid, cut-points, draw-bad, draw-discarded, draw-short, draw-done}
 use Rattle.tessellate.proofs.draw.draw_points.Statement.{statement}
 use Rattle.tessellate.proofs.draw.draw_points.Tie as tie
 
-is-top-requires : tie.Need-is-top-requires
-is-top-requires c κs = search needs
+cut-with-requires : tie.Need-cut-with-requires
+cut-with-requires c κs = search needs
 
-returns : tie.Need-returns
-returns c =
-    let a = c .before .before .before .args in
-    untouched 10 refl (told-bad (a .settings) (a .patch) _ _ _ _ (bad (c .before .is-top .result) (c .before .is-top .ensures) (c .if1 .taken)))
+enum-told : tie.Need-enum-told
+enum-told c = search needs
 
-subdivide-requires : tie.Need-subdivide-requires
-subdivide-requires c κs = top-as _ (good (c .before .is-top .result) (c .before .is-top .ensures) (c .if1 .left))
+enum-told-2 : tie.Need-enum-told-2
+enum-told-2 c = search needs
 
-is-discarded-requires : tie.Need-is-discarded-requires
-is-discarded-requires c κs = search needs
-
-returns-2 : tie.Need-returns-2
-returns-2 c =
-    let a = c .before .before .before .before .before .before .args in
-    let set = a .settings in
-    let p = a .patch in
-    let top = good (c .before .before .before .before .is-top .result) (c .before .before .before .before .is-top .ensures) (c .before .before .before .if1 .left) in
-    let cut = c .before .before .subdivide in
-    let drawn = flag set (top-as _ top) p (cut .result) (cut .ensures) (c .before .is-discarded .ensures) (c .if2 .taken) in
-    untouched 0 refl (told-discarded set p _ _ _ _ top drawn)
+enum-known-cut : tie.Need-enum-known-cut
+enum-known-cut c = search needs
 
 point-count-requires : tie.Need-point-count-requires
 point-count-requires c κs =
-    let a = c .before .before .before .before .before .before .args in
-    let set = a .settings in
-    let p = a .patch in
-    let top = good (c .before .before .before .before .is-top .result) (c .before .before .before .before .is-top .ensures) (c .before .before .before .if1 .left) in
-    let cut = c .before .before .subdivide in
-    valid set (top-as _ top) p (cut .result) (cut .ensures)
+    let arm = c .before in
+    let cut = arm .before .before in
+    let a = cut .before .before .args in
+    cut-valid (a .settings) (a .patch) (cut .cut-with .ensures) (arm .cut .given .1)
 
-cast-if3 : tie.Need-cast-if3
-cast-if3 c = search needs
+cast-if1 : tie.Need-cast-if1
+cast-if1 c = search needs
 
-mul-if3 : tie.Need-mul-if3
-mul-if3 c = search needs
+mul-if1 : tie.Need-mul-if1
+mul-if1 c = search needs
 
-returns-3 : tie.Need-returns-3
-returns-3 c =
-    let a = c .before .before .before .before .before .before .before .before .args in
-    let set = a .settings in
-    let p = a .patch in
-    let top = good (c .before .before .before .before .before .before .is-top .result) (c .before .before .before .before .before .before .is-top .ensures) (c .before .before .before .before .before .if1 .left) in
-    let cut = c .before .before .before .before .subdivide in
-    let drawn = flag set (top-as _ top) p (cut .result) (cut .ensures) (c .before .before .before .is-discarded .ensures) (c .before .before .if2 .left) in
-    let many = many-points set (top-as _ top) p (cut .result) (cut .ensures) (c .before .point-count .ensures) in
-    untouched 2 refl (told-short set p _ _ _ _ top drawn (omega (arith, c .if3 .taken)))
+returns : tie.Need-returns
+returns c =
+    let arm = c .before .before .before in
+    let cut = arm .before .before in
+    let a = cut .before .before .args in
+    let e = arm .cut .given .1 in
+    draw-short (a .settings) (a .patch) (cut .cut-with .ensures) _ _ _ _ 2 e refl (omega (arith, cut-points (a .settings) (a .patch) (cut .cut-with .ensures) e (c .before .point-count .ensures), c .if1 .taken)) refl
 
 write-points-requires : tie.Need-write-points-requires
 write-points-requires c κs =
-    let a = c .before .before .before .before .before .before .before .before .before .args in
-    let set = a .settings in
-    let p = a .patch in
-    let top = good (c .before .before .before .before .before .before .before .is-top .result) (c .before .before .before .before .before .before .before .is-top .ensures) (c .before .before .before .before .before .before .if1 .left) in
-    let cut = c .before .before .before .before .before .subdivide in
-    let v = valid set (top-as _ top) p (cut .result) (cut .ensures) in
-    (v, omega (arith, c .before .if3 .left, c .before .before .point-count .ensures, point-count (cut .result) v))
+    let arm = c .before .before .before .before in
+    let cut = arm .before .before in
+    let a = cut .before .before .args in
+    let v = cut-valid (a .settings) (a .patch) (cut .cut-with .ensures) (arm .cut .given .1) in
+    (v, omega (arith, c .before .if1 .left, c .before .before .point-count .ensures, point-count (arm .cut .given .0 .0) v))
+
+returns-2 : tie.Need-returns-2
+returns-2 c =
+    let cut = c .before .before in
+    let a = cut .before .before .args in
+    draw-bad (a .settings) (a .patch) (cut .cut-with .ensures) _ _ _ _ (c .enum-told .given .1) refl
+
+returns-3 : tie.Need-returns-3
+returns-3 c =
+    let cut = c .before .before in
+    let a = cut .before .before .args in
+    draw-discarded (a .settings) (a .patch) (cut .cut-with .ensures) _ _ _ _ (c .enum-told2 .given .1) refl
 
 same-length : tie.Need-same-length
 same-length c = search needs
 
 returns-4 : tie.Need-returns-4
 returns-4 c =
-    let a = c .before .before .before .before .before .before .before .before .before .before .before .before .args in
-    let set = a .settings in
-    let p = a .patch in
-    let top = good (c .before .before .before .before .before .before .before .before .before .before .is-top .result) (c .before .before .before .before .before .before .before .before .before .before .is-top .ensures) (c .before .before .before .before .before .before .before .before .before .if1 .left) in
-    let cut = c .before .before .before .before .before .before .before .before .subdivide in
-    let drawn = flag set (top-as _ top) p (cut .result) (cut .ensures) (c .before .before .before .before .before .before .before .is-discarded .ensures) (c .before .before .before .before .before .before .if2 .left) in
-    let many = many-points set (top-as _ top) p (cut .result) (cut .ensures) (c .before .before .before .before .before .point-count .ensures) in
-    written (c .before .before .before .before .before .point-count .result) refl (told-drawn set p _ _ _ _ top drawn (omega (arith, c .before .before .before .before .if3 .left)) ∙ ap drew (sym many))
-    (c .before .before .write-points .ensures .is ∙ ap (λ (d : Subdivision). over (a .vertices .now) 0 (vertexWords (points d))) (cut .ensures))
+    let arm = c .before .before .before .before .before .before .before in
+    let cut = arm .before .before in
+    let a = cut .before .before .args in
+    let counted = c .before .before .before .before .before in
+    let e = arm .cut .given .1 in
+    let many = cut-points (a .settings) (a .patch) (cut .cut-with .ensures) e (counted .point-count .ensures) in
+    let wrote = c .before .before .write-points .ensures .is ∙ ap (λ (d : Subdivision). over (a .vertices .now) 0 (vertexWords (points d))) (is-cut (a .settings) (a .patch) (cut .cut-with .ensures) e .cut) in
+    draw-done (a .settings) (a .patch) (cut .cut-with .ensures) _ _ _ _ e (omega (arith, many, c .before .before .before .before .if1 .left)) many refl wrote
 
 pub draw-points-spec : {M : Type 1} → statement M
 draw-points-spec =
     tie.close
     (tie.spec
-    is-top-requires
-    returns
-    subdivide-requires
-    is-discarded-requires
-    returns-2
+    cut-with-requires
+    enum-told
+    enum-told-2
+    enum-known-cut
     point-count-requires
-    cast-if3
-    mul-if3
-    returns-3
+    cast-if1
+    mul-if1
+    returns
     write-points-requires
+    returns-2
+    returns-3
     same-length
     returns-4)

@@ -1,58 +1,72 @@
--- Meets its contract. Assumes nothing.
+-- Meets its contract: a return for a bad top, one for a discarded patch and one for the counts. Assumes nothing.
 use borrow.Author.Needs.{needs}
 use Rattle.tessellate.specs.Answers.{measured}
-use Rattle.tessellate.proofs.Tops.{good, bad, top-as}
-use Rattle.tessellate.proofs.Counted.{valid, flag, many-points, many-indices}
+use Rattle.tessellate.proofs.Tops.{top-as}
+use Rattle.tessellate.proofs.Cutting.{bad-top, is-discarded, is-cut, cut-valid, cut-points, cut-indices}
 use Rattle.tessellate.proofs.measure.measure.Statement.{statement}
 use Rattle.tessellate.proofs.measure.measure.Tie as tie
 
-is-top-requires : tie.Need-is-top-requires
-is-top-requires c κs = search needs
+cut-with-requires : tie.Need-cut-with-requires
+cut-with-requires c κs = search needs
+
+enum-told : tie.Need-enum-told
+enum-told c = search needs
+
+enum-told-2 : tie.Need-enum-told-2
+enum-told-2 c = search needs
+
+enum-known-cut : tie.Need-enum-known-cut
+enum-known-cut c = search needs
+
+point-count-requires : tie.Need-point-count-requires
+point-count-requires c κs =
+    let arm = c .before in
+    let cut = arm .before .before in
+    let a = cut .before .args in
+    cut-valid (a .settings) (a .patch) (cut .cut-with .ensures) (arm .cut .given .1)
+
+index-count-requires : tie.Need-index-count-requires
+index-count-requires c κs =
+    let arm = c .before .before in
+    let cut = arm .before .before in
+    let a = cut .before .args in
+    cut-valid (a .settings) (a .patch) (cut .cut-with .ensures) (arm .cut .given .1)
+
+clamps-of-requires : tie.Need-clamps-of-requires
+clamps-of-requires c κs =
+    let arm = c .before .before .before in
+    let cut = arm .before .before in
+    let a = cut .before .args in
+    top-as _ (is-cut (a .settings) (a .patch) (cut .cut-with .ensures) (arm .cut .given .1) .top)
 
 returns : tie.Need-returns
 unfolding measured
-returns c = rw (bad (c .before .is-top .result) (c .before .is-top .ensures) (c .if1 .taken))
-
-subdivide-requires : tie.Need-subdivide-requires
-subdivide-requires c κs = top-as _ (good (c .before .is-top .result) (c .before .is-top .ensures) (c .if1 .left))
-
-is-discarded-requires : tie.Need-is-discarded-requires
-is-discarded-requires c κs = search needs
+returns c =
+    let cut = c .before .before in
+    let a = cut .before .args in
+    rw (bad-top (a .settings) (a .patch) (cut .cut-with .ensures) (c .enum-told .given .1))
 
 returns-2 : tie.Need-returns-2
 unfolding measured
 returns-2 c =
-    let a = c .before .before .before .before .before .args in
-    let top = good (c .before .before .before .before .is-top .result) (c .before .before .before .before .is-top .ensures) (c .before .before .before .if1 .left) in
-    let cut = c .before .before .subdivide in
-    rw (top, flag (a .settings) (top-as _ top) (a .patch) (cut .result) (cut .ensures) (c .before .is-discarded .ensures) (c .if2 .taken))
-
-point-count-requires : tie.Need-point-count-requires
-point-count-requires c κs =
-    let a = c .before .before .before .before .before .args in
-    let top = good (c .before .before .before .before .is-top .result) (c .before .before .before .before .is-top .ensures) (c .before .before .before .if1 .left) in
-    valid (a .settings) (top-as _ top) (a .patch) (c .before .before .subdivide .result) (c .before .before .subdivide .ensures)
-
-index-count-requires : tie.Need-index-count-requires
-index-count-requires c κs =
-    let a = c .before .before .before .before .before .before .args in
-    let top = good (c .before .before .before .before .before .is-top .result) (c .before .before .before .before .before .is-top .ensures) (c .before .before .before .before .if1 .left) in
-    valid (a .settings) (top-as _ top) (a .patch) (c .before .before .before .subdivide .result) (c .before .before .before .subdivide .ensures)
-
-clamps-of-requires : tie.Need-clamps-of-requires
-clamps-of-requires c κs = top-as _ (good (c .before .before .before .before .before .before .is-top .result) (c .before .before .before .before .before .before .is-top .ensures) (c .before .before .before .before .before .if1 .left))
+    let cut = c .before .before in
+    let a = cut .before .args in
+    let d = is-discarded (a .settings) (a .patch) (cut .cut-with .ensures) (c .enum-told2 .given .1) in
+    rw (d .0, d .1)
 
 returns-3 : tie.Need-returns-3
 unfolding measured
 returns-3 c =
-    let a = c .before .before .before .before .before .before .before .before .args in
-    let top = good (c .before .before .before .before .before .before .before .is-top .result) (c .before .before .before .before .before .before .before .is-top .ensures) (c .before .before .before .before .before .before .if1 .left) in
-    let cut = c .before .before .before .before .before .subdivide in
+    let arm = c .before .before .before .before in
+    let cut = arm .before .before in
+    let a = cut .before .args in
+    let e = arm .cut .given .1 in
+    let i = is-cut (a .settings) (a .patch) (cut .cut-with .ensures) e in
     rw (
-      top,
-      flag (a .settings) (top-as _ top) (a .patch) (cut .result) (cut .ensures) (c .before .before .before .before .is-discarded .ensures) (c .before .before .before .if2 .left),
-      ← many-points (a .settings) (top-as _ top) (a .patch) (cut .result) (cut .ensures) (c .before .before .point-count .ensures),
-      ← many-indices (a .settings) (top-as _ top) (a .patch) (cut .result) (cut .ensures) (c .before .index-count .ensures),
+      i .top,
+      i .drawn,
+      ← cut-points (a .settings) (a .patch) (cut .cut-with .ensures) e (c .before .before .point-count .ensures),
+      ← cut-indices (a .settings) (a .patch) (cut .cut-with .ensures) e (c .before .index-count .ensures),
       c .clamps-of .ensures,
     )
 
@@ -60,12 +74,13 @@ pub measure-spec : {M : Type 1} → statement M
 measure-spec =
     tie.close
     (tie.spec
-    is-top-requires
-    returns
-    subdivide-requires
-    is-discarded-requires
-    returns-2
+    cut-with-requires
+    enum-told
+    enum-told-2
+    enum-known-cut
     point-count-requires
     index-count-requires
     clamps-of-requires
+    returns
+    returns-2
     returns-3)

@@ -1,0 +1,3 @@
+-- The definitions of `replies`.
+pub mod Replies
+pub mod Clamps

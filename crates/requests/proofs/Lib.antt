@@ -1,0 +1,3 @@
+-- The laws of `requests`.
+pub mod Known
+pub mod Reading

@@ -1,0 +1,3 @@
+-- The definitions of `requests`.
+pub mod Inputs
+pub mod Asked

@@ -1,0 +1,110 @@
+-- What cutting a patch tells of it, and what an operation that draws does then.
+-- Assumes nothing.
+use Prim.Native.Nat.{ℕ, suc, _≤_, _<_}
+use mathlib.Core.Path.{_≡_, refl, sym, ap, _∙_}
+use mathlib.Core.Bool.{Bool, true, false, cond}
+use mathlib.Core.List.{List}
+use native.Mathlib.Omega.{arith}
+use lib.ListN.{length}
+use Rattle.buffer.specs.Over.{over}
+use Rattle.level.specs.Top.{isTop}
+use Rattle.patch.specs.declared.kinds.Patch.{Patch}
+use Rattle.patch.specs.declared.settings.Settings.{Settings}
+use Rattle.patch.specs.declared.subdivision.Subdivision.{Subdivision}
+use Rattle.patch.specs.Subdivide.{discards, subdivision}
+use Rattle.drawing.specs.Points.{points}
+use Rattle.drawing.specs.Counts.{pointCount, countIn}
+use Rattle.drawing.specs.Valid.{ValidCut}
+use Rattle.tessellate.specs.declared.cut.Cut.{Cut}
+use Rattle.tessellate.specs.declared.cut.Cut.the-variants.{BadTop, Discarded, Ready}
+use Rattle.tessellate.specs.Answers.{Told, refused, drew, pointsOf, indicesOf, verdict}
+use Rattle.tessellate.specs.Cuts.{cutOf}
+use Rattle.tessellate.specs.Draws.{Drew}
+use Rattle.tessellate.proofs.Counted.{valid, few, many-points, many-indices}
+use Rattle.tessellate.proofs.Draws.{told-bad, told-discarded, told-short, told-drawn, untouched, written}
+use Rattle.tessellate.proofs.Tops.{top-as}
+
+-- a patch that is cut
+pub record Into (set : Settings) (p : Patch) (c : Subdivision) : Type 0 where
+  pub top : isTop (set .top) ≡ true
+  pub drawn : discards p ≡ false
+  pub cut : c ≡ subdivision (set .spacing) (set .top) p
+
+module _ (set : Settings) (p : Patch) where
+  -- ---- cutting, return by return
+  pub cut-bad : isTop (set .top) ≡ false → BadTop ≡ cutOf set p
+  unfolding cutOf
+  cut-bad e = rw e
+
+  pub cut-discarded : isTop (set .top) ≡ true → discards p ≡ true → Discarded ≡ cutOf set p
+  unfolding cutOf
+  cut-discarded e d = rw (e, d)
+
+  pub cut-ready : {c : Subdivision} → Into set p c → Ready c ≡ cutOf set p
+  unfolding cutOf
+  cut-ready i = rw (i .top, i .drawn, i .cut)
+
+  -- ---- what follows
+  abbrev found : Bool → Bool → Cut
+  found t d = cond t (cond d Discarded (Ready (subdivision (set .spacing) (set .top) p))) BadTop
+
+  module _ {a : Cut} (is : a ≡ cutOf set p) where
+    pub bad-top : a ≡ BadTop → isTop (set .top) ≡ false
+    unfolding cutOf
+    bad-top e = go (isTop (set .top)) (discards p) (sym e ∙ is)
+      where
+        go : (t d : Bool) → BadTop ≡ found t d → t ≡ false
+        go false d h = refl
+        go true true h = cc
+        go true false h = cc
+
+    pub is-discarded : a ≡ Discarded → (isTop (set .top) ≡ true) × (discards p ≡ true)
+    unfolding cutOf
+    is-discarded e = go (isTop (set .top)) (discards p) (sym e ∙ is)
+      where
+        go : (t d : Bool) → Discarded ≡ found t d → (t ≡ true) × (d ≡ true)
+        go true true h = (refl, refl)
+        go true false h = (refl, cc)
+        go false d h = let z : _≡_ {A = ℕ} 0 1 = cc in absurd (omega arith)
+
+    pub is-cut : {c : Subdivision} → a ≡ Ready c → Into set p c
+    unfolding cutOf
+    is-cut {c} e = go (isTop (set .top)) (discards p) refl refl (sym e ∙ is)
+      where
+        go : (t d : Bool) → isTop (set .top) ≡ t → discards p ≡ d → Ready c ≡ found t d → Into set p c
+        go true false f g h = record { top = f; drawn = g; cut = cc }
+        go true true f g h = let z : _≡_ {A = ℕ} 0 1 = cc in absurd (omega arith)
+        go false d f g h = let z : _≡_ {A = ℕ} 0 1 = cc in absurd (omega arith)
+
+    module _ {c : Subdivision} (e : a ≡ Ready c) where
+      pub cut-valid : ValidCut c
+      cut-valid = let i = is-cut e in valid set (top-as (set .top) (i .top)) p c (i .cut)
+
+      pub cut-few : length (points c) ≤ 65535
+      cut-few = let i = is-cut e in few set (top-as (set .top) (i .top)) p c (i .cut)
+
+      pub cut-points : {n : ℕ} → n ≡ pointCount c → n ≡ pointsOf set p
+      cut-points h = let i = is-cut e in many-points set (top-as (set .top) (i .top)) p c (i .cut) h
+
+      pub cut-indices : {n : ℕ} → n ≡ countIn (set .«point_mode») c → n ≡ indicesOf set p
+      cut-indices h = let i = is-cut e in many-indices set (top-as (set .top) (i .top)) p c (i .cut) h
+
+    -- ---- drawing: a refusal leaves the list as it was
+    module _ (short need have count : ℕ) {t : Told} {words xs : List ℕ} where
+      pub draw-bad : a ≡ BadTop → t ≡ refused 11 → Drew t (verdict set p short need have count) words xs xs
+      draw-bad e h = untouched 10 h (told-bad set p short need have count (bad-top e))
+
+      pub draw-discarded : a ≡ Discarded → t ≡ refused 1 → Drew t (verdict set p short need have count) words xs xs
+      draw-discarded e h = let d = is-discarded e in untouched 0 h (told-discarded set p short need have count (d .0) (d .1))
+
+      pub draw-short : {c : Subdivision} (k : ℕ) → a ≡ Ready c → short ≡ suc k → have < need → t ≡ refused short → Drew t (verdict set p short need have count) words xs xs
+      draw-short k e s h f =
+          let i = is-cut e in
+          untouched k (f ∙ ap refused s) (told-short set p short need have count (i .top) (i .drawn) h ∙ ap refused s)
+
+      -- and else the words stand at its front
+      pub draw-done : {c : Subdivision} {n : ℕ} {xs′ : List ℕ} → a ≡ Ready c → need ≤ have → n ≡ count → t ≡ drew n → xs′ ≡ over xs 0 words
+          → Drew t (verdict set p short need have count) words xs xs′
+      draw-done {n = n} e h m f l =
+          let i = is-cut e in
+          written n f (told-drawn set p short need have count (i .top) (i .drawn) h ∙ ap drew (sym m)) l
