@@ -51,6 +51,17 @@ module _ {A : Type 0} where
   pub over-three : (xs : List A) (at : ℕ) (x y z : A) → at + 3 ≤ length xs → set (set (set xs at x) (at + 1) y) (at + 2) z ≡ over xs at (x ∷ y ∷ z ∷ [])
   over-three xs at x y z h = rw (over-set xs at x (omega arith), over-more xs at (x ∷ []) y (omega arith), over-more xs at (x ∷ y ∷ []) z (omega arith))
 
+  -- ---- stores right after each other, as a function makes them that writes a few words
+  pub wrote-one : {xs : List A} {at : ℕ} {x : A} → at + 1 ≤ length xs → Wrote xs at (x ∷ []) (set xs at x) (at + 1)
+  wrote-one {xs} {at} {x} h = record { is = over-set xs at x (omega arith); next = refl }
+
+  pub wrote-two : {xs : List A} {at : ℕ} {x y : A} → at + 2 ≤ length xs → Wrote xs at (x ∷ y ∷ []) (set (set xs at x) (at + 1) y) (at + 2)
+  wrote-two {xs} {at} {x} {y} h = record { is = over-two xs at x y h; next = refl }
+
+  pub wrote-three : {xs : List A} {at : ℕ} {x y z : A} → at + 3 ≤ length xs
+      → Wrote xs at (x ∷ y ∷ z ∷ []) (set (set (set xs at x) (at + 1) y) (at + 2) z) (at + 3)
+  wrote-three {xs} {at} {x} {y} {z} h = record { is = over-three xs at x y z h; next = refl }
+
   -- the words at the front, read back
   pub over-front : (xs ys : List A) (n : ℕ) → n ≡ length ys → take n (over xs 0 ys) ≡ ys
   unfolding over
