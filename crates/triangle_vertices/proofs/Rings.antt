@@ -16,7 +16,7 @@ use Rattle.triangle_vertices.specs.Rings.{ringPoints, ringsOf, Inward}
 use Rattle.vertices.proofs.Words.{words-append}
 use Rattle.vertices.proofs.Parts.{Parts}
 use Rattle.vertices.proofs.Rows.{Same, AllSame, none, more, ring-same, front-length, along-at, along-same}
-use Rattle.vertices.proofs.Grids.{middle, middle-length, middle-at}
+use Rattle.vertices.proofs.Middle.{middle, middle-length, middle-at}
 
 -- ---- rings by places that are alike as far as they go
 alike-same : (n : ℕ) (p q : ℕ → ℕ) → ((i : ℕ) → i < n → p i ≡ q i) → AllSame (alike p n) (alike q n)

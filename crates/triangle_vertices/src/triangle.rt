@@ -12,10 +12,9 @@ ghost use Rattle.mesh.specs.Words.{vertexWords};
 ghost use Rattle.vertices.specs.Rows.{places, listed, whole, Clear, GoodRow, AllValid, AllStored};
 ghost use Rattle.vertices.specs.Edges.{edgePoints};
 ghost use Rattle.triangle_vertices.specs.Rings.{ringPoints, ringsOf, Inward};
-use edge::stored;
-use edge::stored::row_of;
-use edge::stored::widest;
 use level::Segments;
+use stored_rows::row_of;
+use stored_rows::widest;
 use vertices::place::triangle_place;
 
 // Edge k of the ring `depth` units in: a point for each place. `high` is 196608 - depth.
@@ -157,19 +156,19 @@ pub fn write_triangle_patch(
     let most = widest(most, e2);
     let most = widest(most, inside);
     if most <= 8 {
-        let table = stored::rows_to_8();
+        let table = stored_rows::rows_to_8();
         return write_stored(out, at, &table, e0, e1, e2, inside);
     }
     if most <= 16 {
-        let table = stored::rows_to_16();
+        let table = stored_rows::rows_to_16();
         return write_stored(out, at, &table, e0, e1, e2, inside);
     }
     if most <= 32 {
-        let table = stored::rows_to_32();
+        let table = stored_rows::rows_to_32();
         return write_stored(out, at, &table, e0, e1, e2, inside);
     }
     if most <= 64 {
-        let table = stored::rows_to_64();
+        let table = stored_rows::rows_to_64();
         return write_stored(out, at, &table, e0, e1, e2, inside);
     }
     write_divided(out, at, e0, e1, e2, inside)

@@ -8,9 +8,9 @@ use native.Mathlib.Omega.{arith}
 use Rattle.level.specs.declared.Segments.{Segments}
 use Rattle.level.specs.Segments.{Valid}
 use Rattle.edge.specs.Rows.{RowAt, Filled}
-use Rattle.edge.specs.Stored.{rowsTo, Widest}
+use Rattle.stored_rows.specs.Stored.{rowsTo, Widest}
 use Rattle.edge.proofs.Rows.{row-kept}
-use Rattle.edge.proofs.StoredRows.{row-stored}
+use Rattle.stored_rows.proofs.StoredRows.{row-stored}
 use Rattle.vertices.specs.Rows.{Stored, AllStored, AllValid}
 
 -- ---- filled in: the rows of the edges ss stand in xs, each 65 words after the one before, from word `from` on

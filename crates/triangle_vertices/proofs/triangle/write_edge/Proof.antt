@@ -1,12 +1,10 @@
 -- Meets its contract. Assumes nothing.
 use borrow.Author.Needs.{needs}
-use native.Mathlib.Omega.{arith}
 use Prim.Native.Nat.{_-_}
 use lib.ListN.{length}
-use Rattle.buffer.proofs.Laws.{count-fits}
 use Rattle.mesh.specs.TrianglePoints.{trianglePlace}
 use Rattle.vertices.specs.Rows.{places}
-use Rattle.vertices.proofs.Loops.{Points, points-start, points-step, points-done}
+use Rattle.vertices.proofs.Loops.{Points, points}
 use Rattle.triangle_vertices.proofs.triangle.write_edge.Statement.{statement}
 use Rattle.triangle_vertices.proofs.triangle.write_edge.Tie as tie
 
@@ -17,7 +15,7 @@ abbrev μ-loop : tie.MeasureT-loop
 μ-loop out₀ at row depth high k to₀ i₀ out to i = length row - i
 
 loop-holds : tie.Need-loop-holds Inv-loop μ-loop
-loop-holds c = points-start _ (c .before .before .pre .1 .1)
+loop-holds c = search points
 
 mul-triangle-place : tie.Need-mul-triangle-place Inv-loop μ-loop
 mul-triangle-place c = search needs
@@ -26,10 +24,10 @@ shared-slice-read-triangle-place : tie.Need-shared-slice-read-triangle-place Inv
 shared-slice-read-triangle-place c = search needs
 
 triangle-place-requires : tie.Need-triangle-place-requires Inv-loop μ-loop
-triangle-place-requires c κs = omega (arith, c .before .before .before .before .before .pre .1 .0 (c .before .before .loop .i) (omega arith))
+triangle-place-requires c κs = search points
 
 put3-u32-requires : tie.Need-put3-u32-requires Inv-loop μ-loop
-put3-u32-requires c κs = count-fits (omega arith) (c .before .before .before .before .loop .inv)
+put3-u32-requires c κs = search points
 
 add-i : tie.Need-add-i Inv-loop μ-loop
 add-i c = search needs
@@ -38,15 +36,13 @@ loop-less : tie.Need-loop-less Inv-loop μ-loop
 loop-less c = search needs
 
 loop-again : tie.Need-loop-again Inv-loop μ-loop
-loop-again c =
-    let l = c .before .before .before .before .before .before .before .loop in
-    points-step (omega arith) (c .before .before .before .before .triangle-place .ensures) (c .before .before .put3-u32 .ensures) (l .inv)
+loop-again c = search points
 
 same-length : tie.Need-same-length Inv-loop μ-loop
 same-length c = search needs
 
 returns : tie.Need-returns Inv-loop μ-loop
-returns c = points-done _ (c .loop-test .left) (c .before .loop .inv)
+returns c = search points
 
 pub write-edge-spec : {M : Type 1} → statement M
 write-edge-spec =

@@ -8,7 +8,7 @@ use Rattle.buffer.proofs.Laws.{Left, left-all, left-fits, left-step, left-last}
 use Rattle.mesh.specs.Words.{vertexWords}
 use Rattle.mesh.proofs.Words.{words-length}
 use Rattle.triangle_vertices.specs.Rings.{ringPoints, ringsOf, Inward}
-use Rattle.vertices.proofs.Grids.{middle-length}
+use Rattle.vertices.proofs.Middle.{middle-length}
 use Rattle.vertices.proofs.Rows.{front-length}
 use Rattle.triangle_vertices.proofs.Rings.{ring-then, ring-last, ring-clear, centre-last, next-inward}
 use Rattle.triangle_vertices.proofs.triangle.write_rings.Statement.{statement}

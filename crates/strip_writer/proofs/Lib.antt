@@ -1,0 +1,2 @@
+-- The laws that the proofs of `strip_writer` share.
+mod Pairs
