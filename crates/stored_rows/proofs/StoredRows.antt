@@ -36,13 +36,18 @@ before-length k =
     rw e (omega (arith, rows-length 1 k))
 
 -- the first w words of the table, copied into w zeros, where they are those of m rows
-pub rows-first : (m k w : ℕ) (xs : List ℕ) → 2 * w ≡ m * (m + 3) → xs ≡ rowsTo (m + k)
+rows-first : (m k w : ℕ) (xs : List ℕ) → 2 * w ≡ m * (m + 3) → xs ≡ rowsTo (m + k)
     → take w xs ++ drop (length (take w xs)) (replicate w 0) ≡ rowsTo m
 rows-first m k w xs h e =
     let l : length (rowsTo m) ≡ w = omega (arith, rows-length 1 m) in
     let cut : take w xs ≡ rowsTo m = ap (take w) (e ∙ rows-split 1 m k) ∙ take-at (rowsTo m) (rowsFrom (1 + m) k) w l in
     let none : drop (length (rowsTo m)) (replicate {A = ℕ} w 0) ≡ [] = drop-of-length-le (replicate {A = ℕ} w 0) {i = length (rowsTo m)} (omega (arith, length-replicate {A = ℕ} w 0)) in
     rw (cut, none) (append-nil (rowsTo m))
+
+pub rows-cut : (m w : ℕ) (xs ys : List ℕ) → ys ≡ take w xs ++ drop (length (take w xs)) (replicate w 0) → xs ≡ rowsTo 64 → 2 * w ≡ m * (m + 3) → m ≤ 64 → ys ≡ rowsTo m
+rows-cut m w xs ys c e h l =
+    let k : m + (64 - m) ≡ 64 = omega arith in
+    c ∙ rows-first m (64 - m) w xs h (rw k e)
 
 -- a row, between those before it and those after it
 row-split : (k j : ℕ) → rowsTo (k + suc j) ≡ rowsTo k ++ (edgeRow (suc k) (65536 * suc k) ++ rowsFrom (suc (suc k)) j)

@@ -1,7 +1,6 @@
 -- Meets its contract. Assumes nothing.
 use borrow.Author.Needs.{needs}
-use mathlib.Core.Path.{refl, _∙_}
-use Rattle.stored_rows.proofs.StoredRows.{rows-first}
+use Rattle.stored_rows.proofs.StoredRows.{rows-cut}
 use Rattle.stored_rows.proofs.rows_to_32.Statement.{statement}
 use Rattle.stored_rows.proofs.rows_to_32.Tie as tie
 
@@ -24,7 +23,7 @@ copy-requires : tie.Need-copy-requires
 copy-requires c κs = search needs
 
 returns : tie.Need-returns
-returns c = c .before .copy .ensures ∙ rows-first 32 32 560 _ refl (c .before .before .before .before .before .rows-to-64 .ensures)
+returns c = search (rows-cut, needs)
 
 pub rows-to-32-spec : {M : Type 1} → statement M
 rows-to-32-spec =

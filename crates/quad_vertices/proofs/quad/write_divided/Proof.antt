@@ -1,13 +1,7 @@
 -- Meets its contract. Assumes nothing.
 use borrow.Author.Needs.{needs}
-use native.Mathlib.Omega.{arith}
-use mathlib.Core.Path.{ap}
-use lib.ListN.{length}
-use Rattle.mesh.specs.Segmented.{run}
-use Rattle.vertices.proofs.Parts.{wrote-same}
-use Rattle.vertices.proofs.Rows.{good-row}
-use Rattle.quad_vertices.proofs.Quads.{quad-are}
-use Rattle.vertices.proofs.Laid.{none, laid-more, laid-first, laid-rest}
+use Rattle.quad_vertices.proofs.Quads.{rows-ready, rows-written}
+use Rattle.vertices.proofs.Laid.{kept}
 use Rattle.quad_vertices.proofs.quad.write_divided.Statement.{statement}
 use Rattle.quad_vertices.proofs.quad.write_divided.Tie as tie
 
@@ -57,53 +51,43 @@ row-from-requires-2 : tie.Need-row-from-requires-2
 row-from-requires-2 c κs =
     let s = c .before .before .before .before .before .before .before .before .before .before .before .before .before .before .before .before .before .before .before .before .before in
     let a = s .args in
-    let laid = laid-more (a .e0) (s .pre .0 .0 .few) (c .before .before .before .fill-row6 .ensures) (laid-more (a .e1) (s .pre .0 .1 .0 .few) (c .before .before .before .before .before .before .fill-row5 .ensures) (laid-more (a .e2) (s .pre .0 .1 .1 .0 .few) (c .before .before .before .before .before .before .before .before .before .fill-row4 .ensures) (laid-more (a .e3) (s .pre .0 .1 .1 .1 .0 .few) (c .before .before .before .before .before .before .before .before .before .before .before .before .fill-row3 .ensures) (laid-more (a .rows) (s .pre .0 .1 .1 .1 .1 .0 .few) (c .before .before .before .before .before .before .before .before .before .before .before .before .before .before .before .fill-row2 .ensures) (laid-more (a .columns) (s .pre .0 .1 .1 .1 .1 .1 .few) (c .before .before .before .before .before .before .before .before .before .before .before .before .before .before .before .before .before .before .fill-row .ensures) none))))) in
-    laid-first (laid-rest laid)
+    kept (a .e0) (s .pre .0 .0 .few) (c .before .before .before .fill-row6 .ensures) 0 (c .before .before .before .before .before .before .fill-row5 .ensures .row)
 
 row-from-requires-3 : tie.Need-row-from-requires-3
 row-from-requires-3 c κs =
     let s = c .before .before .before .before .before .before .before .before .before .before .before .before .before .before .before .before .before .before .before .before .before .before in
     let a = s .args in
-    let laid = laid-more (a .e0) (s .pre .0 .0 .few) (c .before .before .before .before .fill-row6 .ensures) (laid-more (a .e1) (s .pre .0 .1 .0 .few) (c .before .before .before .before .before .before .before .fill-row5 .ensures) (laid-more (a .e2) (s .pre .0 .1 .1 .0 .few) (c .before .before .before .before .before .before .before .before .before .before .fill-row4 .ensures) (laid-more (a .e3) (s .pre .0 .1 .1 .1 .0 .few) (c .before .before .before .before .before .before .before .before .before .before .before .before .before .fill-row3 .ensures) (laid-more (a .rows) (s .pre .0 .1 .1 .1 .1 .0 .few) (c .before .before .before .before .before .before .before .before .before .before .before .before .before .before .before .before .fill-row2 .ensures) (laid-more (a .columns) (s .pre .0 .1 .1 .1 .1 .1 .few) (c .before .before .before .before .before .before .before .before .before .before .before .before .before .before .before .before .before .before .before .fill-row .ensures) none))))) in
-    laid-first (laid-rest (laid-rest laid))
+    kept (a .e0) (s .pre .0 .0 .few) (c .before .before .before .before .fill-row6 .ensures) 65 (kept (a .e1) (s .pre .0 .1 .0 .few) (c .before .before .before .before .before .before .before .fill-row5 .ensures) 0 (c .before .before .before .before .before .before .before .before .before .before .fill-row4 .ensures .row))
 
 row-from-requires-4 : tie.Need-row-from-requires-4
 row-from-requires-4 c κs =
     let s = c .before .before .before .before .before .before .before .before .before .before .before .before .before .before .before .before .before .before .before .before .before .before .before in
     let a = s .args in
-    let laid = laid-more (a .e0) (s .pre .0 .0 .few) (c .before .before .before .before .before .fill-row6 .ensures) (laid-more (a .e1) (s .pre .0 .1 .0 .few) (c .before .before .before .before .before .before .before .before .fill-row5 .ensures) (laid-more (a .e2) (s .pre .0 .1 .1 .0 .few) (c .before .before .before .before .before .before .before .before .before .before .before .fill-row4 .ensures) (laid-more (a .e3) (s .pre .0 .1 .1 .1 .0 .few) (c .before .before .before .before .before .before .before .before .before .before .before .before .before .before .fill-row3 .ensures) (laid-more (a .rows) (s .pre .0 .1 .1 .1 .1 .0 .few) (c .before .before .before .before .before .before .before .before .before .before .before .before .before .before .before .before .before .fill-row2 .ensures) (laid-more (a .columns) (s .pre .0 .1 .1 .1 .1 .1 .few) (c .before .before .before .before .before .before .before .before .before .before .before .before .before .before .before .before .before .before .before .before .fill-row .ensures) none))))) in
-    laid-first (laid-rest (laid-rest (laid-rest laid)))
+    kept (a .e0) (s .pre .0 .0 .few) (c .before .before .before .before .before .fill-row6 .ensures) 130 (kept (a .e1) (s .pre .0 .1 .0 .few) (c .before .before .before .before .before .before .before .before .fill-row5 .ensures) 65 (kept (a .e2) (s .pre .0 .1 .1 .0 .few) (c .before .before .before .before .before .before .before .before .before .before .before .fill-row4 .ensures) 0 (c .before .before .before .before .before .before .before .before .before .before .before .before .before .before .fill-row3 .ensures .row)))
 
 row-from-requires-5 : tie.Need-row-from-requires-5
 row-from-requires-5 c κs =
     let s = c .before .before .before .before .before .before .before .before .before .before .before .before .before .before .before .before .before .before .before .before .before .before .before .before in
     let a = s .args in
-    let laid = laid-more (a .e0) (s .pre .0 .0 .few) (c .before .before .before .before .before .before .fill-row6 .ensures) (laid-more (a .e1) (s .pre .0 .1 .0 .few) (c .before .before .before .before .before .before .before .before .before .fill-row5 .ensures) (laid-more (a .e2) (s .pre .0 .1 .1 .0 .few) (c .before .before .before .before .before .before .before .before .before .before .before .before .fill-row4 .ensures) (laid-more (a .e3) (s .pre .0 .1 .1 .1 .0 .few) (c .before .before .before .before .before .before .before .before .before .before .before .before .before .before .before .fill-row3 .ensures) (laid-more (a .rows) (s .pre .0 .1 .1 .1 .1 .0 .few) (c .before .before .before .before .before .before .before .before .before .before .before .before .before .before .before .before .before .before .fill-row2 .ensures) (laid-more (a .columns) (s .pre .0 .1 .1 .1 .1 .1 .few) (c .before .before .before .before .before .before .before .before .before .before .before .before .before .before .before .before .before .before .before .before .before .fill-row .ensures) none))))) in
-    laid-first (laid-rest (laid-rest (laid-rest (laid-rest laid))))
+    kept (a .e0) (s .pre .0 .0 .few) (c .before .before .before .before .before .before .fill-row6 .ensures) 195 (kept (a .e1) (s .pre .0 .1 .0 .few) (c .before .before .before .before .before .before .before .before .before .fill-row5 .ensures) 130 (kept (a .e2) (s .pre .0 .1 .1 .0 .few) (c .before .before .before .before .before .before .before .before .before .before .before .before .fill-row4 .ensures) 65 (kept (a .e3) (s .pre .0 .1 .1 .1 .0 .few) (c .before .before .before .before .before .before .before .before .before .before .before .before .before .before .before .fill-row3 .ensures) 0 (c .before .before .before .before .before .before .before .before .before .before .before .before .before .before .before .before .before .before .fill-row2 .ensures .row))))
 
 row-from-requires-6 : tie.Need-row-from-requires-6
 row-from-requires-6 c κs =
     let s = c .before .before .before .before .before .before .before .before .before .before .before .before .before .before .before .before .before .before .before .before .before .before .before .before .before in
     let a = s .args in
-    let laid = laid-more (a .e0) (s .pre .0 .0 .few) (c .before .before .before .before .before .before .before .fill-row6 .ensures) (laid-more (a .e1) (s .pre .0 .1 .0 .few) (c .before .before .before .before .before .before .before .before .before .before .fill-row5 .ensures) (laid-more (a .e2) (s .pre .0 .1 .1 .0 .few) (c .before .before .before .before .before .before .before .before .before .before .before .before .before .fill-row4 .ensures) (laid-more (a .e3) (s .pre .0 .1 .1 .1 .0 .few) (c .before .before .before .before .before .before .before .before .before .before .before .before .before .before .before .before .fill-row3 .ensures) (laid-more (a .rows) (s .pre .0 .1 .1 .1 .1 .0 .few) (c .before .before .before .before .before .before .before .before .before .before .before .before .before .before .before .before .before .before .before .fill-row2 .ensures) (laid-more (a .columns) (s .pre .0 .1 .1 .1 .1 .1 .few) (c .before .before .before .before .before .before .before .before .before .before .before .before .before .before .before .before .before .before .before .before .before .before .fill-row .ensures) none))))) in
-    laid-first (laid-rest (laid-rest (laid-rest (laid-rest (laid-rest laid)))))
+    kept (a .e0) (s .pre .0 .0 .few) (c .before .before .before .before .before .before .before .fill-row6 .ensures) 260 (kept (a .e1) (s .pre .0 .1 .0 .few) (c .before .before .before .before .before .before .before .before .before .before .fill-row5 .ensures) 195 (kept (a .e2) (s .pre .0 .1 .1 .0 .few) (c .before .before .before .before .before .before .before .before .before .before .before .before .before .fill-row4 .ensures) 130 (kept (a .e3) (s .pre .0 .1 .1 .1 .0 .few) (c .before .before .before .before .before .before .before .before .before .before .before .before .before .before .before .before .fill-row3 .ensures) 65 (kept (a .rows) (s .pre .0 .1 .1 .1 .1 .0 .few) (c .before .before .before .before .before .before .before .before .before .before .before .before .before .before .before .before .before .before .before .fill-row2 .ensures) 0 (c .before .before .before .before .before .before .before .before .before .before .before .before .before .before .before .before .before .before .before .before .before .before .fill-row .ensures .row)))))
 
 write-rows-requires : tie.Need-write-rows-requires
 write-rows-requires c κs =
     let s = c .before .before .before .before .before .before .before .before .before .before .before .before .before .before .before .before .before .before .before .before .before .before .before .before .before .before .before in
     let a = s .args in
-    let same = quad-are (run (a .e0)) (run (a .e1)) (run (a .e2)) (run (a .e3)) (run (a .rows)) (run (a .columns)) (c .before .before .before .before .before .before .row-from .ensures) (c .before .before .before .before .before .row-from2 .ensures) (c .before .before .before .before .row-from3 .ensures) (c .before .before .before .row-from4 .ensures) (c .before .before .row-from5 .ensures) (c .before .row-from6 .ensures) in
-    ((good-row (a .e0) (s .pre .0 .0) (c .before .before .before .before .before .before .row-from .ensures), good-row (a .e1) (s .pre .0 .1 .0) (c .before .before .before .before .before .row-from2 .ensures), good-row (a .e2) (s .pre .0 .1 .1 .0) (c .before .before .before .before .row-from3 .ensures), good-row (a .e3) (s .pre .0 .1 .1 .1 .0) (c .before .before .before .row-from4 .ensures), good-row (a .rows) (s .pre .0 .1 .1 .1 .1 .0) (c .before .before .row-from5 .ensures), good-row (a .columns) (s .pre .0 .1 .1 .1 .1 .1) (c .before .row-from6 .ensures)), omega (arith, ap length same))
+    rows-ready (a .e0) (a .e1) (a .e2) (a .e3) (a .rows) (a .columns) (c .before .before .before .before .before .before .row-from .ensures) (c .before .before .before .before .before .row-from2 .ensures) (c .before .before .before .before .row-from3 .ensures) (c .before .before .before .row-from4 .ensures) (c .before .before .row-from5 .ensures) (c .before .row-from6 .ensures) (s .pre .0) (a .out .now) (a .at) (s .pre .1)
 
 same-length : tie.Need-same-length
 same-length c = search needs
 
 returns : tie.Need-returns
-returns c =
-    let s = c .before .before .before .before .before .before .before .before .before .before .before .before .before .before .before .before .before .before .before .before .before .before .before .before .before .before .before .before .before .before in
-    let a = s .args in
-    let same = quad-are (run (a .e0)) (run (a .e1)) (run (a .e2)) (run (a .e3)) (run (a .rows)) (run (a .columns)) (c .before .before .before .before .before .before .before .before .before .row-from .ensures) (c .before .before .before .before .before .before .before .before .row-from2 .ensures) (c .before .before .before .before .before .before .before .row-from3 .ensures) (c .before .before .before .before .before .before .row-from4 .ensures) (c .before .before .before .before .before .row-from5 .ensures) (c .before .before .before .before .row-from6 .ensures) in
-    wrote-same same (c .before .before .write-rows .ensures)
+returns c = search (rows-written, needs)
 
 pub write-divided-spec : {M : Type 1} → statement M
 write-divided-spec =
