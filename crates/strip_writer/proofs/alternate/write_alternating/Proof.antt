@@ -12,7 +12,7 @@ use Rattle.buffer.proofs.Laws.{wrote-then}
 use Rattle.strip.specs.Triangles.{indices}
 use Rattle.strip.specs.Lines.{vertex}
 use Rattle.strip.specs.Strips.{stepTriangle}
-use Rattle.strip_writer.proofs.Pairs.{pairs-length, halves, fan}
+use Rattle.strip_pairs.proofs.Pairs.{pairs-length, halves, fan}
 use Rattle.strip_writer.proofs.alternate.write_alternating.Statement.{statement}
 use Rattle.strip_writer.proofs.alternate.write_alternating.Tie as tie
 

@@ -3,8 +3,8 @@ use borrow.Author.Needs.{needs}
 use native.Mathlib.Omega.{arith}
 use Rattle.buffer.proofs.Laws.{wrote-then}
 use Rattle.strip.specs.Triangles.{indices}
-use Rattle.strip_writer.proofs.alternate.put_two.Statement.{statement}
-use Rattle.strip_writer.proofs.alternate.put_two.Tie as tie
+use Rattle.strip_pairs.proofs.put_two.Statement.{statement}
+use Rattle.strip_pairs.proofs.put_two.Tie as tie
 
 put-triangle-requires : tie.Need-put-triangle-requires
 put-triangle-requires c κs = search needs

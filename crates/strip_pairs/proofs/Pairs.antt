@@ -12,7 +12,7 @@ use Rattle.buffer.proofs.Laws.{flat-length, flat-last}
 use Rattle.strip.specs.Triangles.{indices}
 use Rattle.strip.specs.Rule.{outerNext}
 use Rattle.strip.specs.Strips.{stepTriangle, stripFrom, strip}
-use Rattle.strip_writer.specs.Pairs.{pair, pairWords}
+use Rattle.strip_pairs.specs.Pairs.{pair, pairWords}
 use Rattle.strip.proofs.Rule.{inner-ended, level-outer, ahead-inner, ahead-outer, two-ahead-inner}
 use Rattle.strip.proofs.Strips.{indices-length}
 

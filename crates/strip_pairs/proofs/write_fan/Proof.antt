@@ -1,7 +1,7 @@
 -- Meets its contract. Assumes nothing.
 use borrow.Author.Needs.{needs}
-use Rattle.strip_writer.proofs.alternate.write_fan.Statement.{statement}
-use Rattle.strip_writer.proofs.alternate.write_fan.Tie as tie
+use Rattle.strip_pairs.proofs.write_fan.Statement.{statement}
+use Rattle.strip_pairs.proofs.write_fan.Tie as tie
 
 vertex-at-requires : tie.Need-vertex-at-requires
 vertex-at-requires c κs = search needs

@@ -9,8 +9,8 @@ use Rattle.strip.specs.declared.triangle.Triangle.{Triangle}
 use Rattle.strip.specs.Triangles.{indices}
 use Rattle.strip.specs.Lines.{vertex}
 use Rattle.strip.proofs.Strips.{indices-length}
-use Rattle.strip_writer.proofs.alternate.write_last.Statement.{statement}
-use Rattle.strip_writer.proofs.alternate.write_last.Tie as tie
+use Rattle.strip_pairs.proofs.write_last.Statement.{statement}
+use Rattle.strip_pairs.proofs.write_last.Tie as tie
 
 next-requires : tie.Need-next-requires
 next-requires c κs = search needs

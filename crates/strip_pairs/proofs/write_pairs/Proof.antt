@@ -6,10 +6,10 @@ use mathlib.Core.Path.{_≡_, ap, _∙_}
 use Rattle.buffer.proofs.Laws.{Counting, count-start, count-fits, count-step, count-done}
 use Rattle.strip.specs.Triangles.{indices}
 use Rattle.strip.specs.Lines.{vertex}
-use Rattle.strip_writer.specs.Pairs.{pair, pairWords}
-use Rattle.strip_writer.proofs.Pairs.{pair-length, pairs-length}
-use Rattle.strip_writer.proofs.alternate.write_pairs.Statement.{statement}
-use Rattle.strip_writer.proofs.alternate.write_pairs.Tie as tie
+use Rattle.strip_pairs.specs.Pairs.{pair, pairWords}
+use Rattle.strip_pairs.proofs.Pairs.{pair-length, pairs-length}
+use Rattle.strip_pairs.proofs.write_pairs.Statement.{statement}
+use Rattle.strip_pairs.proofs.write_pairs.Tie as tie
 
 abbrev Inv-loop : tie.InvT-loop
 Inv-loop out₀ at outer inner a b n first second positive x₀ y₀ to₀ i₀ out x y to i =

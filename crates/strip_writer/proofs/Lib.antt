@@ -1,2 +1,0 @@
--- The laws that the proofs of `strip_writer` share.
-mod Pairs

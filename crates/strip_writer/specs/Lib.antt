@@ -1,2 +1,0 @@
--- The definitions of `strip_writer`.
-pub mod Pairs
