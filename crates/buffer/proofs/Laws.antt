@@ -5,6 +5,7 @@ use Prim.Native.Nat.{ℕ, zero, suc, _+_, _-_, _*_, _≤_, _<_, zero-le}
 use native.Mathlib.Nat.{add-assoc, add-comm, add-zero, mul-zero, mul-suc, sub-zero}
 use native.Mathlib.Numerals.{add-one}
 use native.Mathlib.Omega.{arith}
+use borrow.Author.Needs.{needs}
 use lib.ListN.{length, take, drop, set, length-append, length-take, length-drop, take-append-drop}
 use lib.Seq.{set-split, take-append-add, drop-append-add, take-append-seam, drop-drop}
 use Rattle.buffer.specs.Over.{over, Wrote, flat}
@@ -50,6 +51,17 @@ module _ {A : Type 0} where
   -- three stores
   pub over-three : (xs : List A) (at : ℕ) (x y z : A) → at + 3 ≤ length xs → set (set (set xs at x) (at + 1) y) (at + 2) z ≡ over xs at (x ∷ y ∷ z ∷ [])
   over-three xs at x y z h = rw (over-set xs at x (omega arith), over-more xs at (x ∷ []) y (omega arith), over-more xs at (x ∷ y ∷ []) z (omega arith))
+
+  -- ---- stores right after each other, as a function makes them that writes a few words
+  pub wrote-one : {xs : List A} {at : ℕ} {x : A} → at + 1 ≤ length xs → Wrote xs at (x ∷ []) (set xs at x) (at + 1)
+  wrote-one {xs} {at} {x} h = record { is = over-set xs at x (omega arith); next = refl }
+
+  pub wrote-two : {xs : List A} {at : ℕ} {x y : A} → at + 2 ≤ length xs → Wrote xs at (x ∷ y ∷ []) (set (set xs at x) (at + 1) y) (at + 2)
+  wrote-two {xs} {at} {x} {y} h = record { is = over-two xs at x y h; next = refl }
+
+  pub wrote-three : {xs : List A} {at : ℕ} {x y z : A} → at + 3 ≤ length xs
+      → Wrote xs at (x ∷ y ∷ z ∷ []) (set (set (set xs at x) (at + 1) y) (at + 2) z) (at + 3)
+  wrote-three {xs} {at} {x} {y} {z} h = record { is = over-three xs at x y z h; next = refl }
 
   -- the words at the front, read back
   pub over-front : (xs ys : List A) (n : ℕ) → n ≡ length ys → take n (over xs 0 ys) ≡ ys
@@ -169,11 +181,23 @@ module _ {A : Type 0} where
   pub count-start : {f : ℕ → List A} {n : ℕ} {xs : List A} {at : ℕ} → at + length (flat f 0 n) ≤ length xs → Counting f 0 n xs at xs at
   count-start {f} {n} h = record { within = zero-le; left = left-all (flat-all f n) h }
 
+  -- where all pieces have one length
+  pub count-begin : {f : ℕ → List A} {n : ℕ} (c : ℕ) {xs : List A} {at : ℕ} → ((j : ℕ) → length (f j) ≡ c) → at + c * n ≤ length xs → Counting f 0 n xs at xs at
+  count-begin {f} {n} c e h = count-start (omega (arith, flat-length f c 0 n e))
+
   pub count-fits : {f : ℕ → List A} {i n : ℕ} {out : List A} {w : ℕ} {xs : List A} {at : ℕ} → i < n → Counting f i n out w xs at → w + length (f i) ≤ length out
   count-fits {f} {i} {n} h c = left-fits (f i) (flat f (i + 1) (n - (i + 1))) (flat-step f i n h) (c .left)
+
+  -- where all pieces have one length
+  pub count-room : {f : ℕ → List A} {i n c : ℕ} {out : List A} {w : ℕ} {xs : List A} {at : ℕ} → Counting f i n out w xs at → i < n → ((j : ℕ) → length (f j) ≡ c)
+      → w + c ≤ length out
+  count-room {i = i} p h e = omega (arith, count-fits h p, e i)
 
   pub count-step : {f : ℕ → List A} {i n : ℕ} {out out′ : List A} {w w′ : ℕ} {xs : List A} {at : ℕ} → i < n → Wrote out w (f i) out′ w′ → Counting f i n out w xs at → Counting f (i + 1) n out′ w′ xs at
   count-step {f} {i} {n} h p c = record { within = omega arith; left = left-step p (flat-step f i n h) (c .left) }
 
   pub count-done : {f : ℕ → List A} {i n : ℕ} {out : List A} {w : ℕ} {xs : List A} {at : ℕ} → n ≤ i → Counting f i n out w xs at → Wrote xs at (flat f 0 n) out w
   count-done {f} {i} {n} h c = left-none (flat-done f i n h) (c .left)
+
+-- all that the needs of such a loop ask
+pub ruleset counting = (count-start, count-begin, count-fits, count-room, count-step, count-done, needs)

@@ -47,7 +47,7 @@ fn quad_outline(e0: Segments, e1: Segments, e2: Segments, e3: Segments) -> Outli
         scaled: 65536,
     };
     let mut words = [0u32; 768];
-    let count = vertices::quad::write_quad_patch(&mut words, 0, e0, e1, e2, e3, one, one);
+    let count = quad_vertices::quad::write_quad_patch(&mut words, 0, e0, e1, e2, e3, one, one);
     OutlineWords { words, count }
 }
 

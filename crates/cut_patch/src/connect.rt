@@ -39,7 +39,7 @@ fn write_primitives(out: &mut [u16], cut: Subdivision, positive: bool) -> usize
             edge1,
             edge2,
             inside,
-        } => indices::nest::write_nest(
+        } => ring_indices::nest::write_nest(
             out,
             0,
             edge0.count,

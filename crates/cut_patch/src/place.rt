@@ -20,7 +20,7 @@ pub fn write_points(out: &mut [u32], cut: Subdivision) -> usize
             edge2,
             inside,
         } => triangle_vertices::triangle::write_triangle_patch(out, 0, edge0, edge1, edge2, inside),
-        Subdivision::PlainQuad => vertices::quad::write_plain_quad(out, 0),
+        Subdivision::PlainQuad => quad_vertices::quad::write_plain_quad(out, 0),
         Subdivision::Quad {
             edge0,
             edge1,
@@ -28,8 +28,17 @@ pub fn write_points(out: &mut [u32], cut: Subdivision) -> usize
             edge3,
             rows,
             columns,
-        } => vertices::quad::write_quad_patch(out, 0, edge0, edge1, edge2, edge3, rows, columns),
-        Subdivision::Lines { lines, along } => vertices::isoline::write_isolines(
+        } => quad_vertices::quad::write_quad_patch(
+            out,
+            0,
+            edge0,
+            edge1,
+            edge2,
+            edge3,
+            rows,
+            columns,
+        ),
+        Subdivision::Lines { lines, along } => isoline_vertices::isoline::write_isolines(
             out,
             0,
             lines,

@@ -1,4 +1,4 @@
--- The laws of an edge's positions, of rows of them and of `table`, for the crates above; `Outward`, `Carries`, `Reach` and `Same` serve this crate only.
+-- The laws of an edge's positions, of rows of them and of `table`, for the crates above; `Outward`, `Carries` and `Reach` serve this crate only.
 pub mod Table
 pub mod Entries
 pub mod Ends
@@ -6,8 +6,6 @@ pub mod Mirrored
 pub mod Rises
 pub mod Near
 pub mod Rows
-pub mod StoredRows
 mod Outward
 mod Carries
 mod Reach
-mod Same

@@ -1,18 +1,17 @@
 -- Rows of positions in lists of words. Assumes nothing.
-use mathlib.Core.Path.{_≡_, sym, ap, _∙_}
+use mathlib.Core.Path.{_≡_, sym, _∙_}
 use mathlib.Core.Logic.{_⊎_, inl, inr, ⊎-elim}
-use mathlib.Core.List.{List, _++_}
+use mathlib.Core.List.{List}
 use Prim.Native.Nat.{ℕ, suc, _+_, _-_, _≤_, _<_}
 use native.Mathlib.Decide.{decLe}
 use native.Mathlib.Nat.{zero-add}
-use native.Mathlib.Numerals.{add-one}
 use native.Mathlib.Omega.{arith}
-use lib.ListN.{length, getD, take, drop, set, replicate, length-append, length-take, length-drop, length-replicate, getD-replicate, List·getD-append}
-use lib.Seq.{getD-take, getD-drop, getD-append-add, paste-suc}
+use lib.ListN.{length, getD, take, drop, replicate, length-take, length-drop, length-replicate, getD-replicate}
+use lib.Seq.{getD-take, getD-drop}
 use Rattle.edge.specs.Positions.{position, entry}
 use Rattle.edge.specs.Rows.{edgeRow, RowAt, Filled}
 use Rattle.edge.specs.Table.{table}
-use Rattle.edge.proofs.Table.{length-table, get-table, is-table}
+use Rattle.edge.proofs.Table.{is-table}
 use Rattle.edge.proofs.Entries.{entry-point, entry-past}
 
 -- a row, cut out of its list
@@ -30,7 +29,7 @@ row-kept f apart r = record {
 }
 
 -- a row, and 0 past its last point, 65 words in all
-is-row : (n L : ℕ) (xs : List ℕ) → length xs ≡ 65 → ((i : ℕ) → i ≤ n → getD xs i 0 ≡ position n L i) → ((i : ℕ) → i < 65 → n < i → getD xs i 0 ≡ 0)
+pub is-row : (n L : ℕ) (xs : List ℕ) → length xs ≡ 65 → ((i : ℕ) → i ≤ n → getD xs i 0 ≡ position n L i) → ((i : ℕ) → i < 65 → n < i → getD xs i 0 ≡ 0)
     → xs ≡ table (entry n L) 65
 is-row n L xs size near far = is-table (entry n L) 65 0 xs size at
   where
@@ -45,32 +44,3 @@ pub row-filled : (n L : ℕ) (xs : List ℕ) → Filled (replicate 65 0) 0 n L x
 row-filled n L xs f =
     is-row n L xs (f .same ∙ length-replicate {A = ℕ} 65 0) (λ i h. rw (zero-add i) at (f .row .at i h))
     (λ i h k. f .other i (inr (omega arith)) ∙ getD-replicate {A = ℕ} 65 i 0 0 h)
-
--- copied over 65 zeros
-pub row-copied : (n L : ℕ) (xs : List ℕ) → n ≤ 64 → xs ≡ edgeRow n L → xs ++ drop (length xs) (replicate 65 0) ≡ table (entry n L) 65
-row-copied n L xs few e =
-    is-row n L (xs ++ zeros)
-    (length-append xs zeros ∙ omega (arith, l, length-drop {A = ℕ} (length xs) (replicate 65 0), length-replicate {A = ℕ} 65 0)) near far
-  where
-    zeros : List ℕ
-    zeros = drop (length xs) (replicate 65 0)
-
-    l : length xs ≡ suc n
-    l = ap length e ∙ length-table (position n L) (suc n)
-
-    near : (i : ℕ) → i ≤ n → getD (xs ++ zeros) i 0 ≡ position n L i
-    near i h =
-        List·getD-append xs zeros 0 i (omega (arith, l)) ∙ ap (λ (r : List ℕ). getD r i 0) e ∙ get-table (position n L) (suc n) 0 i (omega arith)
-
-    far : (i : ℕ) → i < 65 → n < i → getD (xs ++ zeros) i 0 ≡ 0
-    far i h k =
-        let j = i - length xs in
-        let m : i ≡ length xs + j = omega (arith, l) in
-        ap (λ (k : ℕ). getD (xs ++ zeros) k 0) m ∙ getD-append-add xs zeros j 0 ∙ getD-drop (length xs) (replicate 65 0) j 0
-        ∙ getD-replicate {A = ℕ} 65 (length xs + j) 0 0 (omega arith)
-
--- words copied to the front of a list, one after the other
-pub copy-more : (xs ys : List ℕ) (i : ℕ) → i < length xs → i < length ys
-    → set (take i xs ++ drop i ys) i (getD xs i 0) ≡ take (i + 1) xs ++ drop (i + 1) ys
-copy-more xs ys i h k =
-    rw (add-one i) (rw (zero-add i, zero-add (suc i)) at (paste-suc ys 0 xs i 0 (omega arith) h))

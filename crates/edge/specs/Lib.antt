@@ -3,5 +3,4 @@ pub mod Positions
 pub mod Near
 pub mod Table
 pub mod Rows
-pub mod Stored
 pub mod Carries

@@ -1,6 +1,5 @@
 // Where the points of an edge lie: the row of positions of an edge's segments.
 mod carry;
-pub mod stored;
 
 ghost use mathlib.Core.Path.{_≡_};
 ghost use Prim.Native.Nat.{_+_, _≤_, _<_, min};
@@ -55,15 +54,4 @@ pub fn divided_row(s: Segments) -> [u32; 65]
     let mut out = [0u32; 65];
     fill_row(&mut out, 0, s);
     out
-}
-
-// The same, from the table where the segments are equal.
-pub fn row(s: Segments) -> [u32; 65]
-    requires { ⌜ Valid (s .count) (s .scaled) ⌝ }
-    ensures { λ r. ⌜ r ≡ table (entry (s .count) (s .scaled)) 65 ⌝ }
-{
-    if s.scaled == 65536 * s.count {
-        return stored::stored_row(s.count);
-    }
-    divided_row(s)
 }

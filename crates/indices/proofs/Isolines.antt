@@ -10,9 +10,9 @@ use lib.ListN.{length}
 use Rattle.buffer.specs.Over.{flat}
 use Rattle.buffer.proofs.Laws.{flat-length}
 use Rattle.cover.specs.Lines.{isolines}
-use Rattle.indices.specs.Copies.{shifted, copy}
+use Rattle.copies.specs.Copies.{shifted, copy}
 use Rattle.indices.specs.Isolines.{lineWords}
-use Rattle.indices.proofs.Shifts.{flat-shifted, flat-below}
+use Rattle.copies.proofs.Shifts.{flat-shifted, flat-below}
 
 pub line-length : (first n : ℕ) → length (lineWords first n) ≡ 2 * n
 unfolding lineWords

@@ -1,7 +1,3 @@
-mod Rings
-mod Shifts
-mod Bands
-mod Nests
-mod Grids
+-- The laws that the proofs of `indices` share.
 mod Quads
 mod Isolines

@@ -12,8 +12,8 @@ use Rattle.strip.proofs.Strips.{strip-length, indices-length, indices-append}
 use Rattle.cover.specs.Ring.{ringAt}
 use Rattle.cover.specs.Band.{bandFrom, band}
 use Rattle.cover.specs.Quad.{gridAt, cells, gridEdges, quad}
-use Rattle.indices.specs.declared.grid.Grid.{Grid}
-use Rattle.indices.specs.Grids.{GridFits}
+use Rattle.grid_indices.specs.declared.grid.Grid.{Grid}
+use Rattle.grid_indices.specs.Grids.{GridFits}
 
 -- the inner grid of a patch whose outline has `total` points and whose inner levels give m and n
 abbrev pub gridOf : ℕ → ℕ → ℕ → Grid

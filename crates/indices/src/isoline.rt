@@ -30,5 +30,5 @@ pub fn write_isolines(out: &mut [u16], at: usize, m: u32, n: u32) -> usize
     }
     write_line(out, at, 0, n);
     let words = 2 * (n as usize);
-    crate::copies::write_copies(out, at, words, m as usize, (n + 1) as usize)
+    copies::write_copies(out, at, words, m as usize, (n + 1) as usize)
 }

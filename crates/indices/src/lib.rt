@@ -1,8 +1,4 @@
-// The indices of every patch: which vertices make up each triangle, line and dot.
-mod copies;
+// The indices of quad patches, isolines and point mode: which vertices make up each triangle, line and dot.
 pub mod dot;
-pub mod grid;
 pub mod isoline;
-pub mod nest;
 pub mod quad;
-pub mod ring;

@@ -7,9 +7,9 @@ ghost use Rattle.strip.specs.Triangles.{indices};
 ghost use Rattle.cover.specs.Ring.{ringAt};
 ghost use Rattle.cover.specs.Band.{band};
 ghost use Rattle.cover.specs.Quad.{gridAt, gridEdges, quad, quadCount};
-ghost use Rattle.indices.specs.Grids.{GridFits};
-use crate::grid::Grid;
-use crate::ring::Ring;
+ghost use Rattle.grid_indices.specs.Grids.{GridFits};
+use grid_indices::grid::Grid;
+use ring_indices::ring::Ring;
 
 // The strips from an outline whose edges have c0 to c3 segments to the nearest line of the grid, in walk order.
 fn write_frame(
@@ -57,5 +57,5 @@ pub fn write_quad(
         b: n - 2,
     };
     let w = write_frame(out, at, c0, c1, c2, c3, grid, positive);
-    crate::grid::write_cells(out, w, grid, positive)
+    grid_indices::cells::write_cells(out, w, grid, positive)
 }

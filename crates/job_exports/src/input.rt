@@ -1,8 +1,8 @@
 // The record that a caller's settings and patterns stand for.
 ghost use mathlib.Core.Path.{_≡_};
 ghost use Rattle.job_exports.specs.Inputs.{bitsIn, recordIn};
-use job_fields::levels::LevelBits;
 use job::record::Record;
+use job_fields::levels::LevelBits;
 use job_fields::setting::kind_of;
 use job_fields::setting::read_settings;
 use job_writer::level_bits::record_of_bits;

@@ -19,6 +19,6 @@ pub fn put_mesh(
     ensures { λ r. ⌜ Wrote (now (out .entry)) at (listText width (now (vertices .entry)) (now (indices .entry)) points words) (now (out .exit)) r ⌝ }
 {
     let a = text::put_drawn(out, at, points, words);
-    let b = text::put_points(out, a, vertices, 0, points as usize);
-    text::put_primitives(out, b, indices, width, 0, words as usize / width)
+    let b = list_text::put_points(out, a, vertices, 0, points as usize);
+    list_text::put_primitives(out, b, indices, width, 0, words as usize / width)
 }

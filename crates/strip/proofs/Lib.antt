@@ -2,8 +2,6 @@ pub mod Lines
 pub mod Ties
 pub mod Rule
 pub mod Order
-pub mod Walks
 pub mod Strips
-pub mod Pairs
 pub mod Reached
 pub mod Mirror

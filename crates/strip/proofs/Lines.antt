@@ -1,12 +1,13 @@
 -- Laws of the vertices along a line.
 -- Assumes nothing.
-use mathlib.Core.Path.{_≡_, sym, _∙_}
+use mathlib.Core.Path.{_≡_, refl, sym, ap, _∙_}
 use Prim.Native.Nat.{ℕ, suc, _+_, _*_, _%_, _≤_, _<_}
 use native.Mathlib.Nat.{mul-suc, mul-le-mul}
 use native.Mathlib.Omega.{arith}
+use native.Mathlib.Decide.{decLe}
 use borrow.Author.Tests.{eq-eqb, ne-eqb}
 use Rattle.strip.specs.declared.line.Line.{Line}
-use Rattle.strip.specs.Lines.{vertex}
+use Rattle.strip.specs.Lines.{vertex, Follows}
 
 module _ (l : Line) where
   -- the last point has a number of its own
@@ -28,3 +29,17 @@ module _ (l : Line) where
   -- the products of a line's vertices are small
   pub small : (i : ℕ) → i ≤ 64 → l .step ≤ 65535 → l .step * i ≤ 4194240
   small i h s = mul-le-mul s h
+
+-- a line that goes on from its first vertex by its step, and whose last vertex is given
+pub follows-line : (first step n last : ℕ) (G : ℕ → ℕ) → ((i : ℕ) → i < n → (first + step * i) % 65536 ≡ G i) → last ≡ G n
+    → Follows (record { first = first; step = step; count = n; last = last }) G n
+follows-line first step n last G before end = record { count = refl; at = at }
+  where
+    line : Line
+    line = record { first = first; step = step; count = n; last = last }
+
+    at : (i : ℕ) → i ≤ n → vertex line i ≡ G i
+    at i h = elim (decLe n i) [
+      | yes l ↦ let same : i ≡ n = omega arith in sym (at-last line i same) ∙ end ∙ ap G (sym same)
+      | no l ↦ sym (at-more line i (λ k. omega arith)) ∙ before i (omega arith)
+    ]

@@ -2,6 +2,4 @@ pub mod Triangles
 pub mod Lines
 pub mod Rule
 pub mod Strips
-pub mod Walks
-pub mod Pairs
 pub mod Mirror

@@ -3,7 +3,6 @@ mod bytes;
 mod head;
 mod line;
 mod number;
-mod row;
 
 pub use bytes::put_bytes;
 pub use head::put_discarded;
@@ -16,5 +15,3 @@ pub use line::put_line2;
 pub use line::put_line3;
 pub use number::put_long;
 pub use number::put_number;
-pub use row::put_points;
-pub use row::put_primitives;

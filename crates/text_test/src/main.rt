@@ -3,30 +3,26 @@ ghost use Prim.Native.Nat.{_+_, _≤_};
 ghost use lib.ListN.{length};
 use libc::STDOUT_FILENO;
 
+// Three words a point.
+#[rattlefmt::skip]
+const VERTICES: [u32; 12] = [
+    0, 196608, 0,
+    0, 0, 196608,
+    196608, 0, 0,
+    65536, 65536, 65536,
+];
+
 // A triangle patch of four points and three triangles, after the title.
 fn put_record(out: &mut [u8], at: usize) -> usize
     requires { ⌜ at + 229 ≤ length (now out) ⌝ }
     ensures { λ r. ⌜ r ≤ at + 229 ⌝ }
 {
-    let vertices = [
-        0u32,
-        196608,
-        0,
-        0,
-        0,
-        196608,
-        196608,
-        0,
-        0,
-        65536,
-        65536,
-        65536,
-    ];
+    let vertices = VERTICES;
     let indices = [0u16, 1, 3, 1, 2, 3, 2, 0, 3];
     let a = text::put_title(out, at, 1);
     let b = text::put_drawn(out, a, 4, 9);
-    let c = text::put_points(out, b, &vertices, 0, 4);
-    text::put_primitives(out, c, &indices, 3, 0, 3)
+    let c = list_text::put_points(out, b, &vertices, 0, 4);
+    list_text::put_primitives(out, c, &indices, 3, 0, 3)
 }
 
 // A number as a line of its own.
@@ -72,8 +68,8 @@ fn put_rest(out: &mut [u8], at: usize) -> usize
     let indices = [5u16, 65535, 12, 345];
     let a = text::put_discarded(out, at);
     let b = text::put_refused(out, a, 8);
-    let c = text::put_primitives(out, b, &indices, 1, 1, 3);
-    let d = text::put_primitives(out, c, &indices, 2, 0, 2);
+    let c = list_text::put_primitives(out, b, &indices, 1, 1, 3);
+    let d = list_text::put_primitives(out, c, &indices, 2, 0, 2);
     text::put_title(out, d, 2)
 }
 

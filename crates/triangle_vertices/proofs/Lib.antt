@@ -1,2 +1,2 @@
--- The laws of rings.
-mod Rings
+-- The laws that the proofs of `triangle_vertices` share.
+mod Triangles

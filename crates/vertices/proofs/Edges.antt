@@ -41,3 +41,16 @@ module _ {place : ℕ → ℕ → ℕ → Point} {d k : ℕ} {e : Run} {out : Li
       → EdgesLeft place d k (e ∷ []) out w xs at ys → Wrote xs at ys out′ w′
   unfolding ring
   edges-last p l = left-last p (ap vertexWords (append-nil (edgePoints place k e d))) (l .left)
+
+-- ---- a whole ring of three edges, or of four
+module _ (place : ℕ → ℕ → ℕ → Point) (d : ℕ) (e0 e1 e2 : Run) {xs xs₁ xs₂ xs₃ : List ℕ} {at w₁ w₂ w₃ : ℕ} where
+  pub three-edges : at + 3 * length (ring place 0 (e0 ∷ e1 ∷ e2 ∷ []) d) ≤ length xs → Wrote xs at (vertexWords (edgePoints place 0 e0 d)) xs₁ w₁
+      → Wrote xs₁ w₁ (vertexWords (edgePoints place 1 e1 d)) xs₂ w₂ → Wrote xs₂ w₂ (vertexWords (edgePoints place 2 e2 d)) xs₃ w₃
+      → Wrote xs at (vertexWords (ring place 0 (e0 ∷ e1 ∷ e2 ∷ []) d)) xs₃ w₃
+  three-edges room p q r = edges-last {e = e2} r (edges-step {e = e1} q (edges-step {e = e0} p (edges-start place d (e0 ∷ e1 ∷ e2 ∷ []) xs at room)))
+
+  pub four-edges : (e3 : Run) {xs₄ : List ℕ} {w₄ : ℕ} → at + 3 * length (ring place 0 (e0 ∷ e1 ∷ e2 ∷ e3 ∷ []) d) ≤ length xs → Wrote xs at (vertexWords (edgePoints place 0 e0 d)) xs₁ w₁
+      → Wrote xs₁ w₁ (vertexWords (edgePoints place 1 e1 d)) xs₂ w₂ → Wrote xs₂ w₂ (vertexWords (edgePoints place 2 e2 d)) xs₃ w₃
+      → Wrote xs₃ w₃ (vertexWords (edgePoints place 3 e3 d)) xs₄ w₄ → Wrote xs at (vertexWords (ring place 0 (e0 ∷ e1 ∷ e2 ∷ e3 ∷ []) d)) xs₄ w₄
+  four-edges e3 room p q r t =
+      edges-last {e = e3} t (edges-step {e = e2} r (edges-step {e = e1} q (edges-step {e = e0} p (edges-start place d (e0 ∷ e1 ∷ e2 ∷ e3 ∷ []) xs at room))))

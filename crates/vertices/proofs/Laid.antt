@@ -8,31 +8,15 @@ use native.Mathlib.Omega.{arith}
 use Rattle.level.specs.declared.Segments.{Segments}
 use Rattle.level.specs.Segments.{Valid}
 use Rattle.edge.specs.Rows.{RowAt, Filled}
-use Rattle.edge.specs.Stored.{rowsTo, Widest}
+use Rattle.stored_rows.specs.Stored.{rowsTo, Widest}
 use Rattle.edge.proofs.Rows.{row-kept}
-use Rattle.edge.proofs.StoredRows.{row-stored}
+use Rattle.stored_rows.proofs.StoredRows.{row-stored}
 use Rattle.vertices.specs.Rows.{Stored, AllStored, AllValid}
 
--- ---- filled in: the rows of the edges ss stand in xs, each 65 words after the one before, from word `from` on
-pub data Laid (xs : List ℕ) : ℕ → List Segments → Type 0 where
-  none : {from : ℕ} → Laid xs from []
-  more : {from : ℕ} {s : Segments} {ss : List Segments} → RowAt xs from (s .count) (s .scaled) → Laid xs (from + 65) ss → Laid xs from (s ∷ ss)
-
-laid-kept : {xs ys : List ℕ} {from n L to : ℕ} {ss : List Segments} → Filled xs from n L ys → from + n + 1 ≤ to → Laid xs to ss → Laid ys to ss
-laid-kept f h none = none
-laid-kept f h (more r l) = more (row-kept f (inr (omega arith)) r) (laid-kept f (omega arith) l)
-
--- one row more, before the others
-pub laid-more : {xs ys : List ℕ} {from : ℕ} (s : Segments) {ss : List Segments} → s .count ≤ 64 → Filled xs from (s .count) (s .scaled) ys
-    → Laid xs (from + 65) ss → Laid ys from (s ∷ ss)
-laid-more s h f l = more (f .row) (laid-kept f (omega arith) l)
-
-module _ {xs : List ℕ} {from : ℕ} {s : Segments} {ss : List Segments} where
-  pub laid-first : Laid xs from (s ∷ ss) → RowAt xs from (s .count) (s .scaled)
-  laid-first (more r l) = r
-
-  pub laid-rest : Laid xs from (s ∷ ss) → Laid xs (from + 65) ss
-  laid-rest (more r l) = l
+-- ---- filled in: a row stays where the row of s is filled in 65 words or more before it
+pub kept : (s : Segments) → s .count ≤ 64 → {xs ys : List ℕ} {from : ℕ} → Filled xs from (s .count) (s .scaled) ys → (k : ℕ) {n L : ℕ} → RowAt xs (from + 65 + k) n L
+    → RowAt ys (from + 65 + k) n L
+kept s few f k r = row-kept f (inr (omega arith)) r
 
 -- ---- in the table, of which m rows are taken
 -- the widest of each edge and those before it

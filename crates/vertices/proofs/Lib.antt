@@ -4,6 +4,6 @@ pub mod Loops
 pub mod Parts
 pub mod Edges
 pub mod Rows
-pub mod Grids
+pub mod Middle
 pub mod Laid
 pub mod Raised

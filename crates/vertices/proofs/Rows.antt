@@ -50,7 +50,21 @@ ring-same place k d (more {e = e} {f = f} s t) =
     rw (s .count) (table-same (λ i. place k (e .q i) d) (λ i. place k (f .q i) d) (f .c) (λ i l. ap (λ x. place k x d) (s .at i l))) in
     rw (edge, ring-same place (suc k) d t)
 
--- a row without its end
+-- a good row can be cut at both ends
+module _ {row : List ℕ} (g : GoodRow row) where
+  pub row-some : 1 ≤ length row
+  row-some = omega (arith, g .some)
+
+  pub row-more : 1 ≤ length row - 1
+  row-more = omega (arith, g .some)
+
+-- a row without its end, as the writers cut it
+abbrev pub front : List ℕ → List ℕ
+front row = take (length row - 1 - 0) row
+
+pub front-size : (row : List ℕ) → length row - 1 - 0 ≡ length row - 1
+front-size row = omega arith
+
 module _ (row : List ℕ) (n : ℕ) (e : n ≡ length row - 1) where
   pub front-length : length (take n row) ≡ n
   front-length = length-take n row ∙ omega arith

@@ -4,7 +4,7 @@ use Prim.Native.Nat.{ℕ, _+_, _-_, _≤_, _<_}
 use mathlib.Core.List.{List, [], _∷_}
 use lib.ListN.{length, getD}
 use Rattle.edge.specs.Rows.{RowAt}
-use Rattle.edge.specs.Stored.{start}
+use Rattle.stored_rows.specs.Stored.{start}
 use Rattle.level.specs.declared.Segments.{Segments}
 use Rattle.level.specs.Segments.{Valid}
 use Rattle.mesh.specs.Edge.{Run, GoodRun}

@@ -1,5 +1,4 @@
-// The points of quad patches and isolines, as words of a list, three a point, and what all kinds of patches share.
+// Points as words of a list, three a point, and what the writers of every kind of patch share: the point at a place along an edge,
+// and points in rows.
 pub mod grid;
-pub mod isoline;
 pub mod place;
-pub mod quad;

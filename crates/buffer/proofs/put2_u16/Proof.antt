@@ -1,9 +1,8 @@
 -- Meets its contract. Assumes nothing.
 use borrow.Author.Needs.{needs}
 use native.Mathlib.Omega.{arith}
-use mathlib.Core.Path.{refl}
 use lib.ListN.{length-set}
-use Rattle.buffer.proofs.Laws.{over-two}
+use Rattle.buffer.proofs.Laws.{wrote-two}
 use Rattle.buffer.proofs.put2_u16.Statement.{statement}
 use Rattle.buffer.proofs.put2_u16.Tie as tie
 
@@ -29,7 +28,7 @@ same-length : tie.Need-same-length
 same-length c = search needs
 
 returns : tie.Need-returns
-returns c = let a = c .args in record { is = over-two (a .out .now) (a .at) (a .x) (a .y) (c .pre); next = refl }
+returns c = wrote-two (c .pre)
 
 pub put2-u16-spec : {M : Type 1} → statement M
 put2-u16-spec =

@@ -1,9 +1,8 @@
 -- Meets its contract. Assumes nothing.
 use borrow.Author.Needs.{needs}
 use native.Mathlib.Omega.{arith}
-use mathlib.Core.Path.{refl}
 use lib.ListN.{length-set}
-use Rattle.buffer.proofs.Laws.{over-three}
+use Rattle.buffer.proofs.Laws.{wrote-three}
 use Rattle.buffer.proofs.put3_u32.Statement.{statement}
 use Rattle.buffer.proofs.put3_u32.Tie as tie
 
@@ -38,7 +37,7 @@ same-length : tie.Need-same-length
 same-length c = search needs
 
 returns : tie.Need-returns
-returns c = let a = c .args in record { is = over-three (a .out .now) (a .at) (a .u) (a .v) (a .w) (c .pre); next = refl }
+returns c = wrote-three (c .pre)
 
 pub put3-u32-spec : {M : Type 1} → statement M
 put3-u32-spec =

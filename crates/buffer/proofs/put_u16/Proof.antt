@@ -1,8 +1,6 @@
 -- Meets its contract. Assumes nothing.
 use borrow.Author.Needs.{needs}
-use native.Mathlib.Omega.{arith}
-use mathlib.Core.Path.{refl}
-use Rattle.buffer.proofs.Laws.{over-set}
+use Rattle.buffer.proofs.Laws.{wrote-one}
 use Rattle.buffer.proofs.put_u16.Statement.{statement}
 use Rattle.buffer.proofs.put_u16.Tie as tie
 
@@ -19,7 +17,7 @@ same-length : tie.Need-same-length
 same-length c = search needs
 
 returns : tie.Need-returns
-returns c = let a = c .args in record { is = over-set (a .out .now) (a .at) (a .x) (omega arith); next = refl }
+returns c = wrote-one (c .pre)
 
 pub put-u16-spec : {M : Type 1} → statement M
 put-u16-spec = tie.close (tie.spec mul-out slice-write-out add-result same-length returns)

@@ -29,7 +29,7 @@ divide-requires-2 : tie.Need-divide-requires-2 Inv-loop μ-loop
 divide-requires-2 c κs = search needs
 
 add-left : tie.Need-add-left Inv-loop μ-loop
-add-left c = search needs
+add-left c = omega arith
 
 loop-holds : tie.Need-loop-holds Inv-loop μ-loop
 loop-holds c =
@@ -38,19 +38,19 @@ loop-holds c =
     (omega arith, subst (λ (d : ℕ). Divides (2147483648 * d) (a .s .scaled) (c .divide2 .result)) (omega arith) (c .divide2 .ensures), outward-none (a .rows .now) (a .from) n (a .s .scaled) (n / 2 + 1) (omega arith))
 
 sub-left : tie.Need-sub-left Inv-loop μ-loop
-sub-left c = search needs
+sub-left c = omega arith
 
 at-most-half-requires : tie.Need-at-most-half-requires Inv-loop μ-loop
 at-most-half-requires c κs = search needs
 
 sub-rows : tie.Need-sub-rows Inv-loop μ-loop
-sub-rows c = search needs
+sub-rows c = omega arith
 
 cast-rows : tie.Need-cast-rows Inv-loop μ-loop
 cast-rows c = search needs
 
 add-rows : tie.Need-add-rows Inv-loop μ-loop
-add-rows c = search needs
+add-rows c = omega arith
 
 mul-rows : tie.Need-mul-rows Inv-loop μ-loop
 mul-rows c = search needs
@@ -59,16 +59,16 @@ slice-write-rows : tie.Need-slice-write-rows Inv-loop μ-loop
 slice-write-rows c = search needs
 
 add-rows-2 : tie.Need-add-rows-2 Inv-loop μ-loop
-add-rows-2 c = search needs
+add-rows-2 c = omega arith
 
 sub-rows-2 : tie.Need-sub-rows-2 Inv-loop μ-loop
-sub-rows-2 c = search needs
+sub-rows-2 c = omega arith
 
 cast-rows-2 : tie.Need-cast-rows-2 Inv-loop μ-loop
 cast-rows-2 c = search needs
 
 add-rows-3 : tie.Need-add-rows-3 Inv-loop μ-loop
-add-rows-3 c = search needs
+add-rows-3 c = omega arith
 
 mul-rows-2 : tie.Need-mul-rows-2 Inv-loop μ-loop
 mul-rows-2 c = search needs
@@ -86,7 +86,7 @@ sum-requires c κs =
     (omega arith, omega arith)
 
 loop-less : tie.Need-loop-less Inv-loop μ-loop
-loop-less c = search needs
+loop-less c = omega arith
 
 loop-again : tie.Need-loop-again Inv-loop μ-loop
 loop-again c =

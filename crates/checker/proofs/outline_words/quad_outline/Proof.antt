@@ -12,7 +12,7 @@ use Rattle.checker.proofs.outline_words.quad_outline.Statement.{stateme
 use Rattle.checker.proofs.outline_words.quad_outline.Tie as tie
 use Rattle.checker.proofs.outline_words.quad_outline.Reads as reads
 use Rattle.checker.proofs.outline_words.quad_outline.Lts as lts
-use Rattle.vertices.proofs.quad.write_quad_patch.Reads as write-quad-patch-reads
+use Rattle.quad_vertices.proofs.quad.write_quad_patch.Reads as write-quad-patch-reads
 
 slice-aggregate-write-quad-patch : tie.Need-slice-aggregate-write-quad-patch
 slice-aggregate-write-quad-patch c = search needs

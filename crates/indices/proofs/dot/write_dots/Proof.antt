@@ -3,7 +3,7 @@ use borrow.Author.Needs.{needs}
 use native.Mathlib.Omega.{arith}
 use Prim.Native.Nat.{_-_}
 use mathlib.Core.List.{[], _∷_}
-use Rattle.buffer.proofs.Laws.{Counting, count-start, count-fits, count-step, count-done}
+use Rattle.buffer.proofs.Laws.{Counting, counting, count-start}
 use Rattle.cover.specs.Lines.{dots}
 use Rattle.cover.proofs.Length.{dots-length}
 use Rattle.indices.proofs.dot.write_dots.Statement.{statement}
@@ -23,7 +23,7 @@ cast-put-u16 : tie.Need-cast-put-u16 Inv-loop μ-loop
 cast-put-u16 c = search needs
 
 put-u16-requires : tie.Need-put-u16-requires Inv-loop μ-loop
-put-u16-requires c κs = omega (arith, count-fits (omega arith) (c .before .before .loop .inv))
+put-u16-requires c κs = search counting
 
 add-i : tie.Need-add-i Inv-loop μ-loop
 add-i c = search needs
@@ -32,14 +32,14 @@ loop-less : tie.Need-loop-less Inv-loop μ-loop
 loop-less c = search needs
 
 loop-again : tie.Need-loop-again Inv-loop μ-loop
-loop-again c = count-step (omega arith) (c .before .before .put-u16 .ensures) (c .before .before .before .before .before .loop .inv)
+loop-again c = search counting
 
 same-length : tie.Need-same-length Inv-loop μ-loop
 same-length c = search needs
 
 returns : tie.Need-returns Inv-loop μ-loop
 unfolding dots
-returns c = count-done (c .loop-test .left) (c .before .loop .inv)
+returns c = search counting
 
 pub write-dots-spec : {M : Type 1} → statement M
 write-dots-spec =

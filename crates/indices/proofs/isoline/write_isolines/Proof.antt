@@ -9,7 +9,7 @@ use Rattle.buffer.proofs.Laws.{wrote-none, wrote-as}
 use Rattle.cover.specs.Lines.{isolines}
 use Rattle.indices.specs.Isolines.{lineWords}
 use Rattle.indices.proofs.Isolines.{line, line-length, line-copied, isolines-are}
-use Rattle.indices.proofs.Shifts.{copies-wrote}
+use Rattle.copies.proofs.Shifts.{copies-wrote}
 use Rattle.indices.proofs.isoline.write_isolines.Statement.{statement}
 use Rattle.indices.proofs.isoline.write_isolines.Tie as tie
 

@@ -3,7 +3,7 @@ use borrow.Author.Needs.{needs}
 use native.Mathlib.Omega.{arith}
 use Prim.Native.Nat.{_+_, _-_}
 use mathlib.Core.List.{[], _∷_}
-use Rattle.buffer.proofs.Laws.{Counting, count-start, count-fits, count-step, count-done}
+use Rattle.buffer.proofs.Laws.{Counting, counting}
 use Rattle.indices.specs.Isolines.{lineWords}
 use Rattle.indices.proofs.Isolines.{line-length}
 use Rattle.indices.proofs.isoline.write_line.Statement.{statement}
@@ -17,7 +17,7 @@ abbrev μ-loop : tie.MeasureT-loop
 
 loop-holds : tie.Need-loop-holds Inv-loop μ-loop
 unfolding lineWords
-loop-holds c = count-start (omega (arith, line-length (c .before .args .first) (c .before .args .n)))
+loop-holds c = search counting
 
 add-x : tie.Need-add-x Inv-loop μ-loop
 add-x c = search needs
@@ -32,7 +32,7 @@ cast-put2-u16-2 : tie.Need-cast-put2-u16-2 Inv-loop μ-loop
 cast-put2-u16-2 c = search needs
 
 put2-u16-requires : tie.Need-put2-u16-requires Inv-loop μ-loop
-put2-u16-requires c κs = omega (arith, count-fits (omega arith) (c .before .before .loop .inv))
+put2-u16-requires c κs = search counting
 
 add-c : tie.Need-add-c Inv-loop μ-loop
 add-c c = search needs
@@ -41,14 +41,14 @@ loop-less : tie.Need-loop-less Inv-loop μ-loop
 loop-less c = search needs
 
 loop-again : tie.Need-loop-again Inv-loop μ-loop
-loop-again c = count-step (omega arith) (c .before .before .put2-u16 .ensures) (c .before .before .before .before .before .loop .inv)
+loop-again c = search counting
 
 same-length : tie.Need-same-length Inv-loop μ-loop
 same-length c = search needs
 
 returns : tie.Need-returns Inv-loop μ-loop
 unfolding lineWords
-returns c = count-done (c .loop-test .left) (c .before .loop .inv)
+returns c = search counting
 
 pub write-line-spec : {M : Type 1} → statement M
 write-line-spec =

@@ -7,7 +7,7 @@ use mathlib.Core.List.{[], _∷_}
 use Rattle.cover.specs.Ring.{ringAt}
 use Rattle.cover.specs.Band.{from, Edge}
 use Rattle.cover.specs.Quad.{gridAt}
-use Rattle.indices.proofs.Bands.{side-next, band-step, band-last}
+use Rattle.ring_indices.proofs.Bands.{side-next, band-step, band-last}
 use Rattle.indices.proofs.quad.write_frame.Statement.{statement}
 use Rattle.indices.proofs.quad.write_frame.Tie as tie
 

@@ -1,13 +1,7 @@
 -- Meets its contract. Assumes nothing.
 use borrow.Author.Needs.{needs}
-use native.Mathlib.Omega.{arith}
-use mathlib.Core.Path.{ap}
-use lib.ListN.{length}
-use Rattle.mesh.specs.Segmented.{run}
-use Rattle.vertices.proofs.Parts.{wrote-same}
-use Rattle.vertices.proofs.Rows.{along-length, good-row}
-use Rattle.triangle_vertices.proofs.Rings.{triangle-are}
-use Rattle.vertices.proofs.Laid.{none, laid-more, laid-first, laid-rest}
+use Rattle.triangle_vertices.proofs.Triangles.{rows-ready, rows-written}
+use Rattle.vertices.proofs.Laid.{kept}
 use Rattle.triangle_vertices.proofs.triangle.write_divided.Statement.{statement}
 use Rattle.triangle_vertices.proofs.triangle.write_divided.Tie as tie
 
@@ -45,39 +39,31 @@ row-from-requires-2 : tie.Need-row-from-requires-2
 row-from-requires-2 c κs =
     let s = c .before .before .before .before .before .before .before .before .before .before .before .before .before .before .before in
     let a = s .args in
-    let laid = laid-more (a .e0) (s .pre .0 .0 .0 .few) (c .before .before .before .fill-row4 .ensures) (laid-more (a .e1) (s .pre .0 .0 .1 .0 .few) (c .before .before .before .before .before .before .fill-row3 .ensures) (laid-more (a .e2) (s .pre .0 .0 .1 .1 .0 .few) (c .before .before .before .before .before .before .before .before .before .fill-row2 .ensures) (laid-more (a .inside) (s .pre .0 .0 .1 .1 .1 .few) (c .before .before .before .before .before .before .before .before .before .before .before .before .fill-row .ensures) none))) in
-    laid-first (laid-rest laid)
+    kept (a .e0) (s .pre .0 .0 .0 .few) (c .before .before .before .fill-row4 .ensures) 0 (c .before .before .before .before .before .before .fill-row3 .ensures .row)
 
 row-from-requires-3 : tie.Need-row-from-requires-3
 row-from-requires-3 c κs =
     let s = c .before .before .before .before .before .before .before .before .before .before .before .before .before .before .before .before in
     let a = s .args in
-    let laid = laid-more (a .e0) (s .pre .0 .0 .0 .few) (c .before .before .before .before .fill-row4 .ensures) (laid-more (a .e1) (s .pre .0 .0 .1 .0 .few) (c .before .before .before .before .before .before .before .fill-row3 .ensures) (laid-more (a .e2) (s .pre .0 .0 .1 .1 .0 .few) (c .before .before .before .before .before .before .before .before .before .before .fill-row2 .ensures) (laid-more (a .inside) (s .pre .0 .0 .1 .1 .1 .few) (c .before .before .before .before .before .before .before .before .before .before .before .before .before .fill-row .ensures) none))) in
-    laid-first (laid-rest (laid-rest laid))
+    kept (a .e0) (s .pre .0 .0 .0 .few) (c .before .before .before .before .fill-row4 .ensures) 65 (kept (a .e1) (s .pre .0 .0 .1 .0 .few) (c .before .before .before .before .before .before .before .fill-row3 .ensures) 0 (c .before .before .before .before .before .before .before .before .before .before .fill-row2 .ensures .row))
 
 row-from-requires-4 : tie.Need-row-from-requires-4
 row-from-requires-4 c κs =
     let s = c .before .before .before .before .before .before .before .before .before .before .before .before .before .before .before .before .before in
     let a = s .args in
-    let laid = laid-more (a .e0) (s .pre .0 .0 .0 .few) (c .before .before .before .before .before .fill-row4 .ensures) (laid-more (a .e1) (s .pre .0 .0 .1 .0 .few) (c .before .before .before .before .before .before .before .before .fill-row3 .ensures) (laid-more (a .e2) (s .pre .0 .0 .1 .1 .0 .few) (c .before .before .before .before .before .before .before .before .before .before .before .fill-row2 .ensures) (laid-more (a .inside) (s .pre .0 .0 .1 .1 .1 .few) (c .before .before .before .before .before .before .before .before .before .before .before .before .before .before .fill-row .ensures) none))) in
-    laid-first (laid-rest (laid-rest (laid-rest laid)))
+    kept (a .e0) (s .pre .0 .0 .0 .few) (c .before .before .before .before .before .fill-row4 .ensures) 130 (kept (a .e1) (s .pre .0 .0 .1 .0 .few) (c .before .before .before .before .before .before .before .before .fill-row3 .ensures) 65 (kept (a .e2) (s .pre .0 .0 .1 .1 .0 .few) (c .before .before .before .before .before .before .before .before .before .before .before .fill-row2 .ensures) 0 (c .before .before .before .before .before .before .before .before .before .before .before .before .before .before .fill-row .ensures .row)))
 
 write-rows-requires : tie.Need-write-rows-requires
 write-rows-requires c κs =
     let s = c .before .before .before .before .before .before .before .before .before .before .before .before .before .before .before .before .before .before .before in
     let a = s .args in
-    let same = triangle-are (run (a .e0)) (run (a .e1)) (run (a .e2)) (run (a .inside)) (c .before .before .before .before .row-from .ensures) (c .before .before .before .row-from2 .ensures) (c .before .before .row-from3 .ensures) (c .before .row-from4 .ensures) in
-    ((good-row (a .e0) (s .pre .0 .0 .0) (c .before .before .before .before .row-from .ensures), good-row (a .e1) (s .pre .0 .0 .1 .0) (c .before .before .before .row-from2 .ensures), good-row (a .e2) (s .pre .0 .0 .1 .1 .0) (c .before .before .row-from3 .ensures), good-row (a .inside) (s .pre .0 .0 .1 .1 .1) (c .before .row-from4 .ensures), omega (arith, ap length (c .before .row-from4 .ensures), along-length (run (a .inside)))), omega (arith, ap length same))
+    rows-ready (a .e0) (a .e1) (a .e2) (a .inside) (c .before .before .before .before .row-from .ensures) (c .before .before .before .row-from2 .ensures) (c .before .before .row-from3 .ensures) (c .before .row-from4 .ensures) (s .pre .0) (a .out .now) (a .at) (s .pre .1)
 
 same-length : tie.Need-same-length
 same-length c = search needs
 
 returns : tie.Need-returns
-returns c =
-    let s = c .before .before .before .before .before .before .before .before .before .before .before .before .before .before .before .before .before .before .before .before .before .before in
-    let a = s .args in
-    let same = triangle-are (run (a .e0)) (run (a .e1)) (run (a .e2)) (run (a .inside)) (c .before .before .before .before .before .before .before .row-from .ensures) (c .before .before .before .before .before .before .row-from2 .ensures) (c .before .before .before .before .before .row-from3 .ensures) (c .before .before .before .before .row-from4 .ensures) in
-    wrote-same same (c .before .before .write-rows .ensures)
+returns c = search (rows-written, needs)
 
 pub write-divided-spec : {M : Type 1} → statement M
 write-divided-spec =

@@ -1,12 +1,6 @@
 -- Meets its contract. Assumes nothing.
 use borrow.Author.Needs.{needs}
-use native.Mathlib.Omega.{arith}
-use mathlib.Core.Path.{ap}
-use lib.ListN.{length}
-use Rattle.mesh.specs.Segmented.{run}
-use Rattle.vertices.proofs.Parts.{wrote-same}
-use Rattle.vertices.proofs.Rows.{along-length, good-row}
-use Rattle.triangle_vertices.proofs.Rings.{triangle-are}
+use Rattle.triangle_vertices.proofs.Triangles.{rows-ready, rows-written}
 use Rattle.triangle_vertices.proofs.triangle.write_stored.Statement.{statement}
 use Rattle.triangle_vertices.proofs.triangle.write_stored.Tie as tie
 
@@ -26,18 +20,13 @@ write-rows-requires : tie.Need-write-rows-requires
 write-rows-requires c κs =
     let s = c .before .before .before .before .before .before .before in
     let a = s .args in
-    let same = triangle-are (run (a .e0)) (run (a .e1)) (run (a .e2)) (run (a .inside)) (c .before .before .before .before .row-of .ensures) (c .before .before .before .row-of2 .ensures) (c .before .before .row-of3 .ensures) (c .before .row-of4 .ensures) in
-    ((good-row (a .e0) (s .pre .0 .0 .0) (c .before .before .before .before .row-of .ensures), good-row (a .e1) (s .pre .0 .0 .1 .0) (c .before .before .before .row-of2 .ensures), good-row (a .e2) (s .pre .0 .0 .1 .1 .0) (c .before .before .row-of3 .ensures), good-row (a .inside) (s .pre .0 .0 .1 .1 .1) (c .before .row-of4 .ensures), omega (arith, ap length (c .before .row-of4 .ensures), along-length (run (a .inside)))), omega (arith, ap length same))
+    rows-ready (a .e0) (a .e1) (a .e2) (a .inside) (c .before .before .before .before .row-of .ensures) (c .before .before .before .row-of2 .ensures) (c .before .before .row-of3 .ensures) (c .before .row-of4 .ensures) (s .pre .0) (a .out .now) (a .at) (s .pre .1 .1)
 
 same-length : tie.Need-same-length
 same-length c = search needs
 
 returns : tie.Need-returns
-returns c =
-    let s = c .before .before .before .before .before .before .before .before .before .before in
-    let a = s .args in
-    let same = triangle-are (run (a .e0)) (run (a .e1)) (run (a .e2)) (run (a .inside)) (c .before .before .before .before .before .before .before .row-of .ensures) (c .before .before .before .before .before .before .row-of2 .ensures) (c .before .before .before .before .before .row-of3 .ensures) (c .before .before .before .before .row-of4 .ensures) in
-    wrote-same same (c .before .before .write-rows .ensures)
+returns c = search (rows-written, needs)
 
 pub write-stored-spec : {M : Type 1} → statement M
 write-stored-spec =

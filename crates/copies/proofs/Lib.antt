@@ -1,0 +1,2 @@
+-- The laws of copies, for the crates above.
+pub mod Shifts

@@ -1,0 +1,2 @@
+-- The definitions of `copies`.
+pub mod Copies

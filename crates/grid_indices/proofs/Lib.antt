@@ -1,0 +1,2 @@
+-- The laws that the proofs of `grid_indices` share.
+mod Grids

@@ -1,0 +1,2 @@
+-- The definitions of `grid_indices`.
+pub mod Grids

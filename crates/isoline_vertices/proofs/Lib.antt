@@ -1,0 +1,2 @@
+-- The laws that the proofs of `isoline_vertices` share.
+mod Lines

@@ -1,0 +1,2 @@
+// The points of isolines.
+pub mod isoline;

@@ -1,0 +1,2 @@
+-- The law that the proofs of `list_text` share.
+mod Listed

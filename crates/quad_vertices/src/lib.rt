@@ -1,0 +1,2 @@
+// The points of quad patches.
+pub mod quad;

@@ -1,0 +1,23 @@
+-- Lines of vertices along an edge of a ring.
+-- Assumes nothing.
+use Prim.Native.Nat.{ℕ, _+_, _≤_, _<_}
+use mathlib.Core.Path.{_≡_, subst}
+use mathlib.Core.Logic.{⊎-elim}
+use native.Mathlib.Omega.{arith}
+use Rattle.strip.specs.declared.line.Line.{Line}
+use Rattle.strip.specs.Lines.{Follows}
+use Rattle.strip.proofs.Lines.{follows-line}
+use Rattle.cover.specs.Ring.{ringAt}
+use Rattle.cover.specs.Band.{from}
+use Rattle.cover.proofs.Ring.{ring-point}
+
+-- along a ring it counts up by one, and its last vertex is the ring's
+pub follows-ring : (base total o n last : ℕ) → o + n ≤ total → base + total < 65536 → last ≡ ringAt base total (o + n)
+    → Follows (record { first = base + o; step = 1; count = n; last = last }) (from o (ringAt base total)) n
+follows-ring base total o n last fits small =
+    follows-line (base + o) 1 n last (from o (ringAt base total))
+    (λ i h. ⊎-elim (λ w. absurd (omega arith)) (λ w. omega arith) (ring-point base total (o + i)))
+
+-- the same line, by another name of its start
+pub follows-from : {l : Line} (F : ℕ → ℕ) (a b n : ℕ) → a ≡ b → Follows l (from a F) n → Follows l (from b F) n
+follows-from {l} F a b n e h = subst (λ (k : ℕ). Follows l (from k F) n) e h

@@ -1,0 +1,60 @@
+// A closed ring of vertices, and the line along one of its edges.
+ghost use mathlib.Core.Path.{_≡_};
+ghost use Prim.Native.Nat.{_+_, _*_, _≤_, _<_};
+ghost use lib.ListN.{length};
+ghost use Rattle.buffer.specs.Over.{Wrote};
+ghost use Rattle.strip.specs.Triangles.{indices};
+ghost use Rattle.strip.specs.Lines.{vertex, Follows};
+ghost use Rattle.strip.specs.Strips.{strip};
+ghost use Rattle.cover.specs.Band.{from};
+ghost use Rattle.cover.specs.Ring.{ringAt};
+use strip::line::Line;
+
+// `total` vertices numbered from base; a ring of none is the one vertex at its centre.
+pub struct Ring {
+    pub base: u32,
+    pub total: u32,
+}
+
+impl Ring {
+    // The line from the ring's o-th vertex over n segments; it closes where the ring does.
+    pub fn line(self, o: u32, n: u32) -> Line
+        requires { ⌜ o + n ≤ self .total ⌝ ∗ ⌜ self .base + self .total < 65536 ⌝ }
+        ensures { λ r. ⌜ Follows r (from o (ringAt (self .base) (self .total))) n ⌝ }
+    {
+        let base = self.base;
+        let end = o + n;
+        if end == self.total {
+            Line {
+                first: (base + o) as u16,
+                step: 1,
+                count: n,
+                last: base as u16,
+            }
+        } else {
+            Line {
+                first: (base + o) as u16,
+                step: 1,
+                count: n,
+                last: (base + end) as u16,
+            }
+        }
+    }
+
+    // The strip from p segments of the ring, its o-th vertex first, to a line inside it.
+    pub fn write_strip(
+        self,
+        out: &mut [u16],
+        at: usize,
+        o: u32,
+        p: u32,
+        inner: Line,
+        positive: bool,
+    ) -> usize
+        requires { ⌜ (p ≤ 64) × (inner .count ≤ 64) × (o + p ≤ self .total) × (self .base + self .total < 65536) ⌝ ∗ ⌜ at + 3 * (p + inner .count) ≤ length (now out) ⌝ }
+        ensures { λ w. ⌜ Wrote (now (out .entry)) at (indices positive (strip (from o (ringAt (self .base) (self .total))) (vertex inner) p (inner .count))) (now (out .exit)) w ⌝ }
+    {
+        let outer = self.line(o, p);
+        strip_writer::write_strip(out, at, outer, inner, positive)
+    }
+}

@@ -1,0 +1,2 @@
+-- The definitions that the contracts and laws of `stored_rows` cite.
+pub mod Stored

@@ -1,0 +1,2 @@
+-- The laws of pairs of steps, for the crate above.
+pub mod Pairs

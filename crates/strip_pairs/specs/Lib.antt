@@ -1,0 +1,2 @@
+-- The definitions of `strip_pairs`.
+pub mod Pairs

@@ -1,0 +1,2 @@
+-- The law that the proofs of `strip_walk` share.
+mod Walks

@@ -1,0 +1,2 @@
+-- The definitions of `strip_walk`.
+pub mod Walks

@@ -1,0 +1,2 @@
+-- The laws of rings, for the crates above.
+pub mod Rings

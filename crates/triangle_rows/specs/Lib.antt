@@ -1,0 +1,2 @@
+-- The definitions of `triangle_rows`.
+pub mod Rings

@@ -1,2 +1,0 @@
--- The definitions of `triangle_vertices`.
-pub mod Rings
