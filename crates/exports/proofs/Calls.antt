@@ -2,12 +2,13 @@
 use Prim.Native.Nat.{ℕ, suc}
 use mathlib.Core.Path.{_≡_, sym, ap, _∙_}
 use mathlib.Core.List.{List, [], _∷_}
+use lib.ListN.{length}
 use lib.Ieee.{Float}
 use Rattle.patch.specs.declared.kinds.Patch.{Patch}
 use Rattle.patch.specs.declared.settings.Settings.{Settings}
 use Rattle.tessellate.specs.declared.answer.Size.{Size}
-use Rattle.tessellate.specs.Answers.{Told, toldSize, measured}
-use Rattle.tessellate.specs.Draws.{Drew}
+use Rattle.tessellate.specs.Answers.{Told, toldSize, measured, pointsVerdict, indicesVerdict}
+use Rattle.tessellate.specs.Draws.{Drew, pointWords, connectionWords}
 use Rattle.replies.specs.declared.reply.Reply.{Reply}
 use Rattle.replies.specs.Clamps.{noClamps, sizeClamps}
 use Rattle.replies.specs.Replies.{Tells, unknownSetting, badTop, twoWords, Says}
@@ -17,7 +18,7 @@ use Rattle.requests.specs.declared.asked.Asked.the-variants.{Refused, Known}
 use Rattle.requests.specs.Inputs.{patchIn, settingsIn}
 use Rattle.requests.specs.Asked.{known, askedIn}
 use Rattle.requests.proofs.Reading.{refused-instead, known-granted, granted}
-use Rattle.exports.specs.Calls.{MeasureCalled, Called}
+use Rattle.exports.specs.Calls.{MeasureCalled, Called, PointsCalled, IndicesCalled}
 
 module _ (bs : List ℕ) (xs : List Float) {a : Asked} (is : a ≡ askedIn bs xs) where
   -- ---- measuring
@@ -48,13 +49,21 @@ module _ (bs : List ℕ) (xs : List Float) {a : Asked} (is : a ≡ askedIn bs xs
       record { says = says-as (i .answer right) said; list = rw z }
 
   -- known settings: what the operation has to say, and which words it draws, of settings and a patch
-  pub draw-known : (right : Settings → Patch → Told) (words : Settings → Patch → List ℕ) {l l′ c′ : List ℕ} {r : ℕ} {set : Settings} {p : Patch} → a ≡ Known set p
+  draw-known : (right : Settings → Patch → Told) (words : Settings → Patch → List ℕ) {l l′ c′ : List ℕ} {r : ℕ} {set : Settings} {p : Patch} → a ≡ Known set p
       → Called (right set p) (words set p) l l′ c′ r
       → Called (known bs badTop unknownSetting (right (settingsIn bs) (patchIn bs xs))) (words (settingsIn bs) (patchIn bs xs)) l l′ c′ r
   draw-known right words e d =
       let g = known-granted bs xs is e in
       let drew = rw (g .settings, g .patch) at d in
       record { says = says-as (granted g badTop unknownSetting _) (drew .says); list = drew .list }
+
+  pub points-known : {l l′ c′ : List ℕ} {r : ℕ} {set : Settings} {p : Patch} → a ≡ Known set p → Called (pointsVerdict set p (length l)) (pointWords set p) l l′ c′ r
+      → PointsCalled bs xs l l′ c′ r
+  points-known {l = l} e d = draw-known (λ s p. pointsVerdict s p (length l)) pointWords e d
+
+  pub indices-known : {l l′ c′ : List ℕ} {r : ℕ} {set : Settings} {p : Patch} → a ≡ Known set p → Called (indicesVerdict set p (length l)) (connectionWords set p) l l′ c′ r
+      → IndicesCalled bs xs l l′ c′ r
+  indices-known {l = l} e d = draw-known (λ s p. indicesVerdict s p (length l)) connectionWords e d
 
 -- what an operation drew and told is what its call did
 pub drew-called : {told right : Told} {words l l′ c′ : List ℕ} {r : ℕ} {reply : Reply} → Drew told right words l l′ → Tells told reply

@@ -12,7 +12,7 @@ use Rattle.replies.proofs.Replies.{says-as}
 use Rattle.requests.specs.Inputs.{topIn}
 use Rattle.job_fields.specs.Settings.{firstUnknown}
 use Rattle.job_fields.specs.Version.{recordSize}
-use Rattle.job_writer.specs.Written.{takesTop}
+use Rattle.job_bytes.specs.Written.{takesTop}
 use Rattle.job_writer.specs.Answers.{roomVerdict, recordVerdict}
 use Rattle.job_exports.specs.Inputs.{isVersion, versionIn, recordIn}
 use Rattle.job_exports.specs.Calls.{headerSays, recordSays}

@@ -10,7 +10,7 @@ use Rattle.job_fields.specs.declared.version.Version.{Version}
 use Rattle.job_fields.specs.declared.version.Version.the-variants.{One, Two}
 use Rattle.job_fields.specs.declared.levels.LevelBits.{LevelBits}
 use Rattle.job.specs.declared.record.Record.{Record}
-use Rattle.job_writer.specs.Patterns.{recordOfBits}
+use Rattle.job_bytes.specs.Patterns.{recordOfBits}
 use Rattle.requests.specs.Inputs.{settingsIn}
 
 -- 6 applies to every other number

@@ -2,10 +2,10 @@
 ghost use mathlib.Core.Path.{_≡_};
 ghost use Rattle.job_exports.specs.Inputs.{bitsIn, recordIn};
 use job::record::Record;
+use job_bytes::level_bits::record_of_bits;
 use job_fields::levels::LevelBits;
 use job_fields::setting::kind_of;
 use job_fields::setting::read_settings;
-use job_writer::level_bits::record_of_bits;
 use requests::input::top_in;
 
 fn bits_in(patterns: &[u32; 6]) -> LevelBits

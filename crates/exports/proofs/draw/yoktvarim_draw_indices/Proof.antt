@@ -1,9 +1,6 @@
 -- Meets its contract: a return for a refused call and one for what drawing answers. Assumes nothing.
 use borrow.Author.Needs.{needs}
-use lib.ListN.{length}
-use Rattle.tessellate.specs.Answers.{indicesVerdict}
-use Rattle.tessellate.specs.Draws.{connectionWords}
-use Rattle.exports.proofs.Calls.{draw-refused, draw-known}
+use Rattle.exports.proofs.Calls.{draw-refused, indices-known}
 use Rattle.exports.proofs.draw.yoktvarim_draw_indices.Statement.{statement}
 use Rattle.exports.proofs.draw.yoktvarim_draw_indices.Tie as tie
 
@@ -23,21 +20,13 @@ indices-of-requires : tie.Need-indices-of-requires
 indices-of-requires c κs = search needs
 
 returns : tie.Need-returns
-returns c =
-    let arm = c .before .before .before in
-    let read = arm .before .before in
-    let a = read .before .before .args in
-    draw-refused (a .settings .now) (a .levels .now) (read .read-call .ensures) _ (arm .reply .given .1) (c .say-one .ensures)
+returns c = search (draw-refused, needs)
 
 same-length : tie.Need-same-length
 same-length c = search needs
 
 returns-2 : tie.Need-returns-2
-returns-2 c =
-    let arm = c .before .before .before .before .before .before in
-    let read = arm .before .before in
-    let a = read .before .before .args in
-    draw-known (a .settings .now) (a .levels .now) (read .read-call .ensures) (λ s p. indicesVerdict s p (length (a .indices .now))) connectionWords (arm .set .given .1) (c .before .before .indices-of .ensures)
+returns-2 c = search (indices-known, needs)
 
 pub yoktvarim-draw-indices-spec : {M : Type 1} → statement M
 yoktvarim-draw-indices-spec =

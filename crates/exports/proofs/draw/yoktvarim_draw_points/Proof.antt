@@ -1,9 +1,6 @@
 -- Meets its contract: a return for a refused call and one for what drawing answers. Assumes nothing.
 use borrow.Author.Needs.{needs}
-use lib.ListN.{length}
-use Rattle.tessellate.specs.Answers.{pointsVerdict}
-use Rattle.tessellate.specs.Draws.{pointWords}
-use Rattle.exports.proofs.Calls.{draw-refused, draw-known}
+use Rattle.exports.proofs.Calls.{draw-refused, points-known}
 use Rattle.exports.proofs.draw.yoktvarim_draw_points.Statement.{statement}
 use Rattle.exports.proofs.draw.yoktvarim_draw_points.Tie as tie
 
@@ -23,21 +20,13 @@ points-of-requires : tie.Need-points-of-requires
 points-of-requires c κs = search needs
 
 returns : tie.Need-returns
-returns c =
-    let arm = c .before .before .before in
-    let read = arm .before .before in
-    let a = read .before .before .args in
-    draw-refused (a .settings .now) (a .levels .now) (read .read-call .ensures) _ (arm .reply .given .1) (c .say-one .ensures)
+returns c = search (draw-refused, needs)
 
 same-length : tie.Need-same-length
 same-length c = search needs
 
 returns-2 : tie.Need-returns-2
-returns-2 c =
-    let arm = c .before .before .before .before .before .before in
-    let read = arm .before .before in
-    let a = read .before .before .args in
-    draw-known (a .settings .now) (a .levels .now) (read .read-call .ensures) (λ s p. pointsVerdict s p (length (a .vertices .now))) pointWords (arm .set .given .1) (c .before .before .points-of .ensures)
+returns-2 c = search (points-known, needs)
 
 pub yoktvarim-draw-points-spec : {M : Type 1} → statement M
 yoktvarim-draw-points-spec =

@@ -38,13 +38,13 @@ same-length-2 : tie.Need-same-length-2
 same-length-2 c = search needs
 
 returns-2 : tie.Need-returns-2
-returns-2 c = wrote-as startText (c .before .before .before .before .enum-told .given .1) (c .before .before .put-refused .ensures .0)
+returns-2 c = search (wrote-as startText, needs)
 
 same-length-3 : tie.Need-same-length-3
 same-length-3 c = search needs
 
 returns-3 : tie.Need-returns-3
-returns-3 c = wrote-as startText (c .before .before .before .before .enum-told2 .given .1) (c .before .before .put-refused2 .ensures .0)
+returns-3 c = search (wrote-as startText, needs)
 
 pub put-header-spec : {M : Type 1} → statement M
 put-header-spec =

@@ -46,13 +46,13 @@ same-length-4 : tie.Need-same-length-4
 same-length-4 c = search needs
 
 returns-3 : tie.Need-returns-3
-returns-3 c = wrote-as reply (c .before .before .before .before .enum-told2 .given .1) (c .before .before .put-refused .ensures .0)
+returns-3 c = search (wrote-as reply, needs)
 
 same-length-5 : tie.Need-same-length-5
 same-length-5 c = search needs
 
 returns-4 : tie.Need-returns-4
-returns-4 c = wrote-as reply (c .before .before .before .before .enum-told3 .given .1) (c .before .before .put-refused2 .ensures .0)
+returns-4 c = search (wrote-as reply, needs)
 
 pub put-reply-spec : {M : Type 1} → statement M
 put-reply-spec =

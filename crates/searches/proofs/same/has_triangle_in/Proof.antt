@@ -1,12 +1,11 @@
 -- Meets its contract: no triangle from `from` up to i is the one looked for. Assumes nothing.
 use native.Mathlib.Omega.{arith}
 use Prim.Native.Nat.{_-_}
-use mathlib.Core.Path.{sym}
 use mathlib.Core.Bool.{true≢false}
 use Rattle.drawing.specs.Words.{readTriangles}
 use Rattle.searches.specs.Triangles.{triangleAt}
 use Rattle.searches.specs.Same.{sameTriangle}
-use Rattle.searches.proofs.Skips.{Clear, clear-begins, clear-more}
+use Rattle.searches.proofs.Skips.{Clear, clear-begins, clear-more, held-missed}
 use Rattle.searches.proofs.Corners.{without-same}
 use borrow.Author.Needs.{needs}
 use Rattle.searches.proofs.same.has_triangle_in.Statement.{statement}
@@ -53,7 +52,7 @@ loop-again c =
     (rw (← c .before .before .before .triangle-at .ensures, ← c .before .before .same-triangle .ensures) (c .before .if1 .left)) (c .next-touching2 .ensures)
 
 returns-2 : tie.Need-returns-2 Inv-loop μ-loop
-returns-2 c = record { yes = λ e. absurd (true≢false (sym e)); no = λ e k p q. c .before .loop .inv .none k p (omega arith) }
+returns-2 c = held-missed (c .before .loop .inv) (omega arith)
 
 pub has-triangle-in-spec : {M : Type 1} → statement M
 has-triangle-in-spec =
