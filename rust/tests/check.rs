@@ -143,19 +143,24 @@ fn the_largest_mesh_is_accepted() {
     );
 }
 
+/// The settings of drawing with this spacing, triangles turning counter-clockwise and every level taken.
+fn plain_settings(spacing: reference::Spacing) -> reference::Settings {
+    reference::Settings {
+        spacing,
+        vertex_order: reference::VertexOrder::CounterClockwise,
+        domain_origin: reference::DomainOrigin::LowerLeft,
+        point_mode: false,
+        top: 64,
+    }
+}
+
 /// The mesh of a quad patch with one level, with so many triangles split in three by a point inside, and unused points up to `points`.
 fn refined(level: f32, splits: usize, points: usize) -> DamagedMesh {
     let patch = reference::Patch::Quads {
         outer: [level; 4],
         inner: [level; 2],
     };
-    let settings = reference::Settings {
-        spacing: reference::Spacing::Equal,
-        vertex_order: reference::VertexOrder::CounterClockwise,
-        domain_origin: reference::DomainOrigin::LowerLeft,
-        point_mode: false,
-        top: 64,
-    };
+    let settings = plain_settings(reference::Spacing::Equal);
     let drawn = mesh(&patch_here(&patch), &settings_here(&settings))
         .expect("a good top")
         .expect("not discarded");
@@ -209,16 +214,77 @@ fn meshes_around_the_sizes_of_the_tables() {
     }
 }
 
+/// Patches whose outline has about 64 points, or as many as there can be: whole, and with each triangle at the outline missing.
+#[test]
+fn outlines_around_the_sizes_of_their_lists() {
+    use reference::Patch::{Quads, Triangles};
+    use reference::Spacing::{Equal, FractionalEven, FractionalOdd};
+    let triangles = |outer| Triangles { outer, inner: 2.0 };
+    let quads = |outer| Quads {
+        outer,
+        inner: [2.0; 2],
+    };
+    for patch in [
+        triangles([21.0; 3]),
+        triangles([22.0, 21.0, 21.0]),
+        triangles([22.0, 22.0, 21.0]),
+        triangles([64.0; 3]),
+        quads([16.0, 16.0, 16.0, 15.0]),
+        quads([16.0; 4]),
+        quads([16.0, 16.0, 16.0, 17.0]),
+        quads([64.0; 4]),
+    ] {
+        for spacing in [Equal, FractionalEven, FractionalOdd] {
+            let settings = plain_settings(spacing);
+            let drawn = mesh(&patch_here(&patch), &settings_here(&settings))
+                .expect("a good top")
+                .expect("not discarded");
+            let whole = DamagedMesh {
+                patch,
+                settings,
+                points: drawn.points.concat(),
+                indices: drawn.indices,
+            };
+            assert_eq!(compare(&whole), Verdict::Accepted, "{patch:?}");
+            for start in (0..whole.indices.len()).step_by(3) {
+                let mut open = whole.clone();
+                open.indices.drain(start..start + 3);
+                assert_ne!(compare(&open), Verdict::Accepted, "{patch:?}");
+            }
+        }
+    }
+}
+
+/// Few points and so many triangles, no two of which have a side in common, that more sides are open than an outline has pieces.
+#[test]
+fn more_open_sides_than_an_outline_has_pieces() {
+    let mut mesh = refined(4.0, 16, 64);
+    let points: Vec<[i64; 2]> = mesh
+        .points
+        .chunks(3)
+        .map(|point| [i64::from(point[0]), i64::from(point[1])])
+        .collect();
+    let mut sides = std::collections::BTreeSet::new();
+    mesh.indices.clear();
+    let triples = (0..64).flat_map(|a| (0..64).flat_map(move |b| (0..64).map(move |c| [a, b, c])));
+    for triple in triples {
+        let [[pu, pv], [qu, qv], [ru, rv]] = triple.map(|corner: u16| points[usize::from(corner)]);
+        let turns = (qu - pu) * (rv - pv) > (ru - pu) * (qv - pv);
+        let [a, b, c] = triple;
+        let around = [[a, b], [b, c], [c, a]].map(|[x, y]| [x.min(y), x.max(y)]);
+        if turns && around.iter().all(|side| !sides.contains(side)) {
+            sides.extend(around);
+            mesh.indices.extend(triple);
+        }
+    }
+    assert!(mesh.indices.len() > 256 + 4 * 64, "{}", mesh.indices.len());
+    assert_eq!(name(compare(&mesh)), "OpenSide");
+}
+
 /// Lists of every short length, with words around every limit, and long ones of a single word.
 #[test]
 fn lists_of_any_length_and_content() {
-    let settings = reference::Settings {
-        spacing: reference::Spacing::Equal,
-        vertex_order: reference::VertexOrder::CounterClockwise,
-        domain_origin: reference::DomainOrigin::LowerLeft,
-        point_mode: false,
-        top: 64,
-    };
+    let settings = plain_settings(reference::Spacing::Equal);
     let triangles = reference::Patch::Triangles {
         outer: [1.0; 3],
         inner: 1.0,

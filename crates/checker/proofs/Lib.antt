@@ -1,3 +1,2 @@
 -- The laws of mesh checking.
-pub mod Fronts
 pub mod Arms

@@ -83,10 +83,8 @@ fn patch_fault(
     ensures { λ r. ⌜ r ≡ meshFault (isTriangles patch) positive (outline spacing top patch) (now (points .entry)) (now (indices .entry)) ⌝ }
 {
     let triangles = is_triangles(patch);
-    let outline = crate::outline_words::outline_of(patch, spacing, top);
-    let words = outline.words;
-    let count = outline.count;
-    mesh_verdict::fault::mesh_fault(&words[0..count], points, indices, triangles, positive)
+    let edges = outline::edges::edges_of(patch, spacing, top);
+    crate::fault::fault_within(edges, triangles, positive, points, indices)
 }
 
 // The points are three words each and the indices three a triangle, as drawing writes them.

@@ -1,3 +1,3 @@
 // The check of a mesh that anybody made for a patch: accepted, or its first kind of fault.
 pub mod check;
-pub mod outline_words;
+mod fault;

@@ -1,2 +1,2 @@
 -- The laws of sides that meet.
-pub mod Pieces
+pub mod Joins

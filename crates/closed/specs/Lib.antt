@@ -1,2 +1,2 @@
--- What the sides of a mesh meet, and a mesh that closes.
-pub mod Joints
+-- A mesh that closes.
+pub mod Closing

@@ -13,7 +13,7 @@ use Rattle.mesh_verdict.specs.Faults.{orElse, sideTwice, outlineFault}
 use Rattle.strip.specs.declared.triangle.Triangle.{Triangle}
 use Rattle.mesh.specs.declared.Point.{Point}
 use Rattle.searches.specs.Triangles.{firstReused}
-use Rattle.closed.specs.Joints.{Closed}
+use Rattle.closed.specs.Closing.{Closed}
 
 -- found at r
 pub found : (f : ℕ → Verdict) (rest : Verdict) {r x m n : ℕ} → r ≡ x → n ≡ m → r < m → f r ≡ orElse x n (f x) rest

@@ -1,48 +1,31 @@
 -- Meets its contract. Assumes nothing.
-use native.Mathlib.Omega.{arith}
-use mathlib.Core.Path.{_∙_}
-use Rattle.mesh_verdict.specs.Faults.{meshFault}
-use Rattle.checker.proofs.Fronts.{outline-read}
+use Rattle.outline.proofs.Around.{edges-valid, edges-outline}
 use borrow.Author.Needs.{needs}
 use Rattle.checker.proofs.check.patch_fault.Statement.{statement}
 use Rattle.checker.proofs.check.patch_fault.Tie as tie
 use Rattle.checker.proofs.check.patch_fault.Reads as reads
 use Rattle.checker.proofs.check.patch_fault.Lts as lts
 use Rattle.checker.proofs.check.is_triangles.Reads as is-triangles-reads
-use Rattle.checker.proofs.outline_words.outline_of.Reads as outline-of-reads
-use Rattle.mesh_verdict.proofs.fault.mesh_fault.Reads as mesh-fault-reads
+use Rattle.checker.proofs.fault.fault_within.Reads as fault-within-reads
+use Rattle.outline.proofs.edges.edges_of.Reads as edges-of-reads
 
 is-triangles-requires : tie.Need-is-triangles-requires
 is-triangles-requires c κs = search needs
 
-outline-of-requires : tie.Need-outline-of-requires
-outline-of-requires c κs = search needs
+edges-of-requires : tie.Need-edges-of-requires
+edges-of-requires c κs = search needs
 
-sub-mesh-fault : tie.Need-sub-mesh-fault
-sub-mesh-fault c = search needs
-
-part-mesh-fault-start : tie.Need-part-mesh-fault-start
-part-mesh-fault-start c = search needs
-
-part-mesh-fault-end : tie.Need-part-mesh-fault-end
-part-mesh-fault-end c = omega (arith, c .before .before .outline-of .ensures .fits)
-
-mesh-fault-requires : tie.Need-mesh-fault-requires
-mesh-fault-requires c κs = search needs
+fault-within-requires : tie.Need-fault-within-requires
+fault-within-requires c κs =
+    let s = c .before .before .before .before in
+    rw (c .edges-of .ensures) (edges-valid (s .args .spacing) (s .args .top) (s .args .patch) (s .pre))
 
 returns : tie.Need-returns
 returns c =
-    let e = outline-read (c .before .before .before .before .outline-of .ensures) in
-    rw (← c .before .before .before .before .before .is-triangles .ensures, ← e) (c .mesh-fault .ensures)
+    let e = c .before in
+    let a = e .before .before .before .before .args in
+    rw (← e .before .is-triangles .ensures, ← edges-outline (a .spacing) (a .top) (a .patch), ← e .edges-of .ensures) (c .fault-within .ensures)
 
 pub patch-fault-spec : {M : Type 1} → statement M
 patch-fault-spec =
-    tie.close
-    (tie.spec
-    is-triangles-requires
-    outline-of-requires
-    sub-mesh-fault
-    part-mesh-fault-start
-    part-mesh-fault-end
-    mesh-fault-requires
-    returns)
+    tie.close (tie.spec is-triangles-requires edges-of-requires fault-within-requires returns)

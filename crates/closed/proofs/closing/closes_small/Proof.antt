@@ -1,10 +1,15 @@
 -- Meets its contract. Assumes nothing.
 use native.Mathlib.Omega.{arith}
+use mathlib.Core.Path.{refl}
 use Rattle.searches.proofs.Read.{points-count}
-use Rattle.side_table.proofs.Table.{zeros-all}
+use Rattle.side_chains.proofs.Table.{zeros-all}
+use Rattle.sides.proofs.Forms.{bits-cleared, bits-room, bits-vertices}
 use borrow.Author.Needs.{needs}
 use Rattle.closed.proofs.closing.closes_small.Statement.{statement}
 use Rattle.closed.proofs.closing.closes_small.Tie as tie
+use Rattle.closed.proofs.closing.closes_small.Reads as reads
+use Rattle.closed.proofs.closing.closes_small.Lts as lts
+use Rattle.closed.proofs.closing.closes_by.Reads as closes-by-reads
 
 slice-aggregate-closes-by : tie.Need-slice-aggregate-closes-by
 slice-aggregate-closes-by c = search needs
@@ -12,10 +17,13 @@ slice-aggregate-closes-by c = search needs
 slice-aggregate-closes-by-2 : tie.Need-slice-aggregate-closes-by-2
 slice-aggregate-closes-by-2 c = search needs
 
+slice-aggregate-closes-by-3 : tie.Need-slice-aggregate-closes-by-3
+slice-aggregate-closes-by-3 c = search needs
+
 closes-by-requires : tie.Need-closes-by-requires
 closes-by-requires c κs =
-    let x = c .before .before .before .before .before in
-    (zeros-all 64, (x .pre .0, (omega (arith, points-count (x .args .points .now), x .pre .1 .0), (x .pre .1 .1, omega arith))))
+    let s = c .before .before .before .before .before .before in
+    (bits-cleared _ _ (zeros-all 64) refl, (bits-room _ _, (s .pre .0, (bits-vertices _ _ (omega (arith, points-count (s .args .points .now), s .pre .1 .0)), omega (arith, s .pre .1 .1)))))
 
 returns : tie.Need-returns
 returns c = search needs
@@ -23,4 +31,9 @@ returns c = search needs
 pub closes-small-spec : {M : Type 1} → statement M
 closes-small-spec =
     tie.close
-    (tie.spec slice-aggregate-closes-by slice-aggregate-closes-by-2 closes-by-requires returns)
+    (tie.spec
+    slice-aggregate-closes-by
+    slice-aggregate-closes-by-2
+    slice-aggregate-closes-by-3
+    closes-by-requires
+    returns)

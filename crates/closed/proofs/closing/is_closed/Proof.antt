@@ -4,6 +4,10 @@ use mathlib.Core.Bool.{true≢false}
 use borrow.Author.Needs.{needs}
 use Rattle.closed.proofs.closing.is_closed.Statement.{statement}
 use Rattle.closed.proofs.closing.is_closed.Tie as tie
+use Rattle.closed.proofs.closing.is_closed.Reads as reads
+use Rattle.closed.proofs.closing.is_closed.Lts as lts
+use Rattle.closed.proofs.closing.closes_large.Reads as closes-large-reads
+use Rattle.closed.proofs.closing.closes_small.Reads as closes-small-reads
 
 returns : tie.Need-returns
 returns c = λ h. absurd (true≢false (sym h))
@@ -17,27 +21,13 @@ closes-large-requires c κs = search needs
 returns-3 : tie.Need-returns-3
 returns-3 c = search needs
 
-closes-large-requires-2 : tie.Need-closes-large-requires-2
-closes-large-requires-2 c κs = search needs
+closes-small-requires : tie.Need-closes-small-requires
+closes-small-requires c κs = search needs
 
 returns-4 : tie.Need-returns-4
 returns-4 c = search needs
 
-closes-small-requires : tie.Need-closes-small-requires
-closes-small-requires c κs = search needs
-
-returns-5 : tie.Need-returns-5
-returns-5 c = search needs
-
 pub is-closed-spec : {M : Type 1} → statement M
 is-closed-spec =
     tie.close
-    (tie.spec
-    returns
-    returns-2
-    closes-large-requires
-    returns-3
-    closes-large-requires-2
-    returns-4
-    closes-small-requires
-    returns-5)
+    (tie.spec returns returns-2 closes-large-requires returns-3 closes-small-requires returns-4)

@@ -1,0 +1,23 @@
+-- Meets its contract. Assumes nothing.
+use native.Mathlib.Omega.{arith}
+use Rattle.outline.proofs.Around.{around-most}
+use borrow.Author.Needs.{needs}
+use Rattle.checker.proofs.fault.large_fault.Statement.{statement}
+use Rattle.checker.proofs.fault.large_fault.Tie as tie
+use Rattle.checker.proofs.fault.large_fault.Reads as reads
+use Rattle.checker.proofs.fault.large_fault.Lts as lts
+use Rattle.checker.proofs.fault.fault_in.Reads as fault-in-reads
+
+slice-aggregate-fault-in : tie.Need-slice-aggregate-fault-in
+slice-aggregate-fault-in c = search needs
+
+fault-in-requires : tie.Need-fault-in-requires
+fault-in-requires c κs =
+    let s = c .before .before .before in
+    (s .pre, omega (arith, around-most (s .args .edges) (s .pre)))
+
+returns : tie.Need-returns
+returns c = search needs
+
+pub large-fault-spec : {M : Type 1} → statement M
+large-fault-spec = tie.close (tie.spec slice-aggregate-fault-in fault-in-requires returns)

@@ -1,2 +1,0 @@
--- The definitions of mesh checking.
-pub mod Outlines

@@ -1,0 +1,71 @@
+// The first kind of fault of a mesh by the outer edges of its patch.
+ghost use mathlib.Core.Path.{_≡_};
+ghost use Prim.Native.Nat.{_+_, _*_, _≤_, _<_};
+ghost use lib.ListN.{length};
+ghost use Rattle.mesh_verdict.specs.Faults.{meshFault};
+ghost use Rattle.outline.specs.Outlines.{outlineBy, ValidEdges};
+use mesh_verdict::Verdict;
+use outline::edges::OuterEdges;
+
+// With a list that is lent for the outline's words.
+fn fault_in(
+    words: &mut [u32],
+    edges: OuterEdges,
+    triangles: bool,
+    positive: bool,
+    points: &[u32],
+    indices: &[u16],
+) -> Verdict
+    requires { ⌜ ValidEdges edges ⌝ ∗ ⌜ 3 * length (outlineBy edges) + 3 ≤ length (now words) ⌝ }
+    ensures { λ r. ⌜ r ≡ meshFault triangles positive (outlineBy edges) (now (points .entry)) (now (indices .entry)) ⌝ }
+{
+    let count = outline::words::write_outline(words, edges);
+    mesh_verdict::fault::mesh_fault(&words[0..count], points, indices, triangles, positive)
+}
+
+// With words for an outline of up to 63 points: clearing those of the largest would cost a small patch more than a fifth of its check.
+fn small_fault(
+    edges: OuterEdges,
+    triangles: bool,
+    positive: bool,
+    points: &[u32],
+    indices: &[u16],
+) -> Verdict
+    requires { ⌜ ValidEdges edges ⌝ ∗ ⌜ length (outlineBy edges) < 64 ⌝ }
+    ensures { λ r. ⌜ r ≡ meshFault triangles positive (outlineBy edges) (now (points .entry)) (now (indices .entry)) ⌝ }
+{
+    let mut words = [0u32; 192];
+    fault_in(&mut words, edges, triangles, positive, points, indices)
+}
+
+// With words for the largest outline, which has 4 * 64 points.
+fn large_fault(
+    edges: OuterEdges,
+    triangles: bool,
+    positive: bool,
+    points: &[u32],
+    indices: &[u16],
+) -> Verdict
+    requires { ⌜ ValidEdges edges ⌝ }
+    ensures { λ r. ⌜ r ≡ meshFault triangles positive (outlineBy edges) (now (points .entry)) (now (indices .entry)) ⌝ }
+{
+    let mut words = [0u32; 771];
+    fault_in(&mut words, edges, triangles, positive, points, indices)
+}
+
+// The fault, with as many words as the outline asks for.
+pub(crate) fn fault_within(
+    edges: OuterEdges,
+    triangles: bool,
+    positive: bool,
+    points: &[u32],
+    indices: &[u16],
+) -> Verdict
+    requires { ⌜ ValidEdges edges ⌝ }
+    ensures { λ r. ⌜ r ≡ meshFault triangles positive (outlineBy edges) (now (points .entry)) (now (indices .entry)) ⌝ }
+{
+    if outline::edges::points_around(edges) < 64 {
+        return small_fault(edges, triangles, positive, points, indices);
+    }
+    large_fault(edges, triangles, positive, points, indices)
+}

@@ -1,0 +1,40 @@
+-- A mesh whose sides all meet, with its outline whole, and what shows it.
+-- Assumes nothing.
+use Prim.Native.Nat.{ℕ, _*_, _<_}
+use mathlib.Core.Path.{_≡_}
+use mathlib.Core.Bool.{Bool, true}
+use mathlib.Core.List.{List}
+use lib.ListN.{length, getD}
+use Rattle.strip.specs.declared.triangle.Triangle.{Triangle}
+use Rattle.mesh.specs.declared.Point.{Point}
+use Rattle.mesh.specs.Cover.{piece}
+use Rattle.searches.specs.Triangles.{firstReused}
+use Rattle.mesh_faults.specs.Outline.{sameEnds, sideBetween, closes, isDrawn, firstOpen, firstMissing}
+use Rattle.side_chains.specs.Sides.{sideStart, sideEnd}
+
+-- piece number k of the outline is side number m
+pub record IsPiece (positive : Bool) (outline ps : List Point) (ts : List Triangle) (m k : ℕ) : Type 0 where
+  pub within : k < length outline
+  pub same : sameEnds (piece positive outline k) (sideBetween ps (sideStart ts m) (sideEnd ts m)) ≡ true
+
+-- every piece that has a mark is drawn
+pub record Marked (positive : Bool) (outline ps : List Point) (ts : List Triangle) (marks : List ℕ) : Type 0 where
+  pub drawn : (k : ℕ) → k < length outline → 0 < getD marks k 0 → isDrawn ps ts (piece positive outline k) ≡ true
+
+-- the first n marks are there
+pub record AllMarked (marks : List ℕ) (n : ℕ) : Type 0 where
+  pub each : (k : ℕ) → k < n → 0 < getD marks k 0
+
+-- the first n sides of a list meet their reverse or are pieces of the outline
+pub record Joins (positive : Bool) (outline ps : List Point) (ts : List Triangle) (opens : List ℕ) (n : ℕ) : Type 0 where
+  pub each : (i : ℕ) → i < n → closes positive outline ps ts (getD opens i 0) ≡ true
+
+-- all sides do
+pub record Joined (positive : Bool) (outline ps : List Point) (ts : List Triangle) : Type 0 where
+  pub each : (m : ℕ) → m < length ts * 3 → closes positive outline ps ts m ≡ true
+
+-- none of the faults that sides and the outline show
+pub record Closed (positive : Bool) (outline ps : List Point) (ts : List Triangle) : Type 0 where
+  pub once : firstReused ts ≡ length ts
+  pub joined : firstOpen positive outline ps ts ≡ length ts * 3
+  pub bounded : firstMissing positive outline ps ts ≡ length outline

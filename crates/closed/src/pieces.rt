@@ -1,0 +1,111 @@
+// The sides that are pieces of the outline, and the marks of those pieces.
+ghost use mathlib.Core.Path.{_≡_};
+ghost use mathlib.Core.Bool.{true};
+ghost use Prim.Native.Nat.{_*_, _/_, _≤_, _<_};
+ghost use lib.ListN.{length, set};
+ghost use Rattle.mesh.specs.Cover.{piece};
+ghost use Rattle.drawing.specs.Words.{readPoints, readTriangles};
+ghost use Rattle.mesh_faults.specs.Turns.{AllNumbered};
+ghost use Rattle.mesh_faults.specs.Outline.{sameEnds, closes};
+ghost use Rattle.sides.specs.Opens.{Listed};
+ghost use Rattle.closed.specs.Closing.{Marked, AllMarked, Joined};
+use mesh::Point;
+use mesh_faults::outline::is_piece_at;
+use searches::point::point_at;
+use side_chains::number::end_at;
+
+// A piece of the outline that goes from p to q, number `near` looked at first, or the number of pieces where none was found.
+fn find_piece(outline: &[u32], near: usize, positive: bool, p: Point, q: Point) -> usize
+    ensures { λ r. ⌜ (r < length (readPoints (now (outline .entry))) → sameEnds (piece positive (readPoints (now (outline .entry))) r) (record { start = p; end = q }) ≡ true) ⌝ }
+{
+    let count = outline.len() / 3;
+    if near < count {
+        if is_piece_at(outline, near, positive, p, q) {
+            return near;
+        }
+    }
+    let mut k = 0;
+    while k < count {
+        if is_piece_at(outline, k, positive, p, q) {
+            return k;
+        }
+        k += 1;
+    }
+    k
+}
+
+// Sets mark number k, if there is one.
+fn set_mark(marks: &mut [u16], k: usize)
+    ensures { λ r. ⌜ now (marks .exit) ≡ set (now (marks .entry)) k 1 ⌝ }
+{
+    if k < marks.len() {
+        marks[k] = 1;
+    }
+}
+
+// The piece that side number m is, whose mark is set, or the number of pieces where none was found; number `near` is looked at first.
+fn mark_piece(
+    outline: &[u32],
+    points: &[u32],
+    indices: &[u16],
+    marks: &mut [u16],
+    positive: bool,
+    near: usize,
+    m: usize,
+) -> usize
+    requires { ⌜ AllNumbered (length (readPoints (now points))) (now indices) ⌝ ∗ ⌜ m < length (now indices) / 3 * 3 ⌝ ∗ ⌜ Marked positive (readPoints (now outline)) (readPoints (now points)) (readTriangles (now indices)) (now marks) ⌝ }
+    ensures { λ r. ⌜ (r < length (readPoints (now (outline .entry))) → closes positive (readPoints (now (outline .entry))) (readPoints (now (points .entry))) (readTriangles (now (indices .entry))) m ≡ true) ⌝ ∗ ⌜ Marked positive (readPoints (now (outline .entry))) (readPoints (now (points .entry))) (readTriangles (now (indices .entry))) (now (marks .exit)) ⌝ }
+{
+    let p = point_at(points, indices[m] as usize);
+    let q = point_at(points, end_at(indices, m) as usize);
+    let k = find_piece(outline, near, positive, p, q);
+    if k < outline.len() / 3 {
+        set_mark(marks, k);
+    }
+    k
+}
+
+// Whether the first `count` sides of a list are pieces of the outline, where every other side meets its reverse; their pieces are marked.
+pub(crate) fn all_pieces(
+    outline: &[u32],
+    points: &[u32],
+    indices: &[u16],
+    opens: &[u16],
+    count: usize,
+    marks: &mut [u16],
+    positive: bool,
+) -> bool
+    requires { ⌜ AllNumbered (length (readPoints (now points))) (now indices) ⌝ ∗ ⌜ count ≤ length (now opens) ⌝ ∗ ⌜ Listed (readTriangles (now indices)) (length (readTriangles (now indices)) * 3) (now opens) count ⌝ ∗ ⌜ Marked positive (readPoints (now outline)) (readPoints (now points)) (readTriangles (now indices)) (now marks) ⌝ }
+    ensures { λ r. ⌜ (r ≡ true → Joined positive (readPoints (now (outline .entry))) (readPoints (now (points .entry))) (readTriangles (now (indices .entry)))) ⌝ ∗ ⌜ Marked positive (readPoints (now (outline .entry))) (readPoints (now (points .entry))) (readTriangles (now (indices .entry))) (now (marks .exit)) ⌝ }
+{
+    let pieces = outline.len() / 3;
+    let mut near = 0;
+    let mut k = 0;
+    while k < count {
+        let m = opens[k] as usize;
+        let piece = mark_piece(outline, points, indices, marks, positive, near, m);
+        if pieces <= piece {
+            return false;
+        }
+        near = piece + 1;
+        k += 1;
+    }
+    true
+}
+
+// Whether the first `count` marks are all there.
+pub(crate) fn all_marked(marks: &[u16], count: usize) -> bool
+    ensures { λ r. ⌜ (r ≡ true → AllMarked (now (marks .entry)) count) ⌝ }
+{
+    if marks.len() < count {
+        return false;
+    }
+    let mut k = 0;
+    while k < count {
+        if marks[k] == 0 {
+            return false;
+        }
+        k += 1;
+    }
+    true
+}

@@ -1,0 +1,3 @@
+-- The laws of a patch's outline.
+pub mod Around
+pub mod Fronts

@@ -1,0 +1,2 @@
+-- The definitions of a patch's outline.
+pub mod Outlines

@@ -1,0 +1,36 @@
+-- A table of sides: from each vertex to the last side that starts there, and from each side to the one before it.
+-- Assumes nothing.
+use Prim.Native.Nat.{ℕ, zero, suc, _+_, _*_, _≤_, _<_}
+use mathlib.Core.Path.{_≡_}
+use mathlib.Core.Bool.{cond, false}
+use mathlib.Core.List.{List}
+use lib.Dec.{eqb}
+use lib.ListN.{length, getD}
+use Rattle.strip.specs.declared.triangle.Triangle.{Triangle}
+use Rattle.side_chains.specs.Sides.{sideStart, sideEnd, isSide}
+
+-- one more than the number of the last of the first n sides that starts at x, or 0 where none does
+unfoldable pub lastFrom : List Triangle → ℕ → ℕ → ℕ
+lastFrom ts zero x = 0
+lastFrom ts (suc n) x = cond (eqb (sideStart ts n) x) (suc n) (lastFrom ts n x)
+
+-- the link of side m: the side before it, and where it ends
+abbrev pub linkOf : List Triangle → ℕ → ℕ
+linkOf ts m = lastFrom ts m (sideStart ts m) * 65536 + sideEnd ts m
+
+-- the table of the first n sides
+pub record Linked (ts : List Triangle) (n : ℕ) (heads links : List ℕ) : Type 0 where
+  pub room : n ≤ length links
+  pub head : (x : ℕ) → x < length heads → getD heads x 0 ≡ lastFrom ts n x
+  pub link : (m : ℕ) → m < n → getD links m 0 ≡ linkOf ts m
+  pub small : (m : ℕ) → m < n → sideEnd ts m < 65536
+
+-- a look at the sides of the table that start at x, back to the one before number k, has not met x→y
+pub record Walked (ts : List Triangle) (n x y k : ℕ) : Type 0 where
+  pub most : k ≤ n
+  pub here : (j : ℕ) → k ≡ suc j → sideStart ts j ≡ x
+  pub passed : (m : ℕ) → k ≤ m → m < n → isSide ts x y m ≡ false
+
+-- a list of zeros
+pub record Zeros (xs : List ℕ) : Type 0 where
+  pub at : (k : ℕ) → k < length xs → getD xs k 0 ≡ 0

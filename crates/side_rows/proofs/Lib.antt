@@ -1,0 +1,3 @@
+-- The laws of the table of sides by rows of bits.
+pub mod Bits
+pub mod Rows

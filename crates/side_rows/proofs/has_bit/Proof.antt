@@ -1,0 +1,18 @@
+-- Meets its contract. Assumes nothing.
+use mathlib.Core.Path.{refl}
+use Rattle.side_rows.specs.Rows.{bit}
+use borrow.Author.Needs.{needs}
+use Rattle.side_rows.proofs.has_bit.Statement.{statement}
+use Rattle.side_rows.proofs.has_bit.Tie as tie
+use Rattle.side_rows.proofs.has_bit.Reads as reads
+use Rattle.side_rows.proofs.has_bit.Lts as lts
+
+shr-result : tie.Need-shr-result
+shr-result c = search needs
+
+returns : tie.Need-returns
+unfolding bit
+returns c = refl
+
+pub has-bit-spec : {M : Type 1} → statement M
+has-bit-spec = tie.close (tie.spec shr-result returns)

@@ -1,0 +1,18 @@
+-- Meets its contract. Assumes nothing.
+use mathlib.Core.Path.{ap}
+use lib.Bits.{bitOr}
+use Rattle.side_rows.proofs.Bits.{power-fits}
+use borrow.Author.Needs.{needs}
+use Rattle.side_rows.proofs.with_bit.Statement.{statement}
+use Rattle.side_rows.proofs.with_bit.Tie as tie
+use Rattle.side_rows.proofs.with_bit.Reads as reads
+use Rattle.side_rows.proofs.with_bit.Lts as lts
+
+shl-result : tie.Need-shl-result
+shl-result c = search needs
+
+returns : tie.Need-returns
+returns c = ap (bitOr (c .args .row)) (power-fits (c .args .k) (c .pre))
+
+pub with-bit-spec : {M : Type 1} → statement M
+with-bit-spec = tie.close (tie.spec shl-result returns)

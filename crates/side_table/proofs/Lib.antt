@@ -1,4 +1,0 @@
--- The laws of the table of sides, lowest first.
-pub mod Numbers
-pub mod Table
-pub mod Repeats

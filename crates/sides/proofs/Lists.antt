@@ -1,0 +1,62 @@
+-- The list of sides that have no reverse.
+-- Assumes nothing.
+use Prim.Native.Nat.{ℕ, suc, _+_, _*_, _≤_, _<_}
+use mathlib.Core.Path.{_≡_, refl, sym, _∙_}
+use mathlib.Core.Bool.{true}
+use mathlib.Core.List.{List}
+use mathlib.Core.Logic.{_⊎_, inl, inr}
+use native.Mathlib.Omega.{arith}
+use native.Mathlib.Decide.{decLe}
+use lib.ListN.{length, getD, set}
+use lib.Seq.{getD-set-same, getD-set-other}
+use Rattle.strip.specs.declared.triangle.Triangle.{Triangle}
+use Rattle.sides.specs.Opens.{meets, Among, Listed, Opens}
+
+-- no side yet
+pub opens-none : (ts : List Triangle) (opens : List ℕ) → Opens ts 0 opens 0
+opens-none ts opens = record { listed = λ l. record { sides = λ k b. absurd (omega arith); each = λ m b. absurd (omega arith) } }
+
+-- the same number of sides
+pub opens-as : {ts : List Triangle} {n m count : ℕ} {opens : List ℕ} → n ≡ m → Opens ts n opens count → Opens ts m opens count
+opens-as e o = rw (sym e) o
+
+-- a side that has its reverse
+pub opens-met : {ts : List Triangle} {m count : ℕ} {opens : List ℕ} → Opens ts m opens count → meets ts m ≡ true → Opens ts (m + 1) opens count
+opens-met {m = m} o h = record {
+  listed = λ l. record {
+    sides = o .listed l .sides;
+    each = λ i b. elim (decLe m i) [ yes p ↦ (let d : i ≡ m = omega arith in rw d (inl h)) | no p ↦ o .listed l .each i (omega arith) ];
+  };
+}
+
+-- one that has none, with room for it
+module _ (ts : List Triangle) (m count : ℕ) (opens : List ℕ) (l : count < length opens) (b : m < length ts * 3) where
+  kept : (i : ℕ) → Among opens count i → Among (set opens count m) (count + 1) i
+  kept i a = record {
+    place = a .place;
+    within = omega (arith, a .within);
+    is = getD-set-other opens count (a .place) m 0 (λ d. omega (arith, a .within, d)) ∙ a .is;
+  }
+
+  old-or-kept : {i : ℕ} → (meets ts i ≡ true) ⊎ Among opens count i → (meets ts i ≡ true) ⊎ Among (set opens count m) (count + 1) i
+  old-or-kept (inl h) = inl h
+  old-or-kept {i = i} (inr a) = inr (kept i a)
+
+  new : Among (set opens count m) (count + 1) m
+  new = record { place = count; within = omega arith; is = getD-set-same opens count m 0 l }
+
+  pub opens-more : Opens ts m opens count → Opens ts (m + 1) (set opens count m) (count + 1)
+  opens-more o =
+      let before = o .listed (omega (arith, l)) in record {
+        listed = λ h. record {
+          sides = λ k c. elim (decLe count k) [
+            | yes p ↦ (let d : k ≡ count = omega arith in rw (d, getD-set-same opens count m 0 l) b)
+            | no p ↦ rw (getD-set-other opens count k m 0 (λ d. p (omega (arith, d)))) (before .sides k (omega arith))
+          ];
+          each = λ i c. elim (decLe m i) [ yes p ↦ (let d : i ≡ m = omega arith in rw d (inr new)) | no p ↦ old-or-kept (before .each i (omega arith)) ];
+        };
+      }
+
+-- and without room
+pub opens-full : (ts : List Triangle) (n : ℕ) (opens : List ℕ) → Opens ts n opens (length opens + 1)
+opens-full ts n opens = record { listed = λ h. absurd (omega arith) }

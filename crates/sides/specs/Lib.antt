@@ -1,0 +1,3 @@
+-- The definitions of the sides of a mesh.
+pub mod Tables
+pub mod Opens

@@ -1,0 +1,42 @@
+-- A table of sides: rows of bits for a small mesh, which leaves the chains alone, and chains for another.
+-- Assumes nothing.
+use Prim.Native.Nat.{ℕ, _≤_, _<_}
+use mathlib.Core.Path.{_≡_}
+use mathlib.Core.Bool.{Bool, true, false}
+use mathlib.Core.List.{List}
+use lib.ListN.{length}
+use Rattle.strip.specs.declared.triangle.Triangle.{Triangle}
+use Rattle.side_chains.specs.Sides.{sideStart, sideEnd, Once}
+use Rattle.side_chains.specs.Links.{Linked, Zeros}
+use Rattle.side_rows.specs.Rows.{Rowed}
+
+-- how many vertices there is room for
+unfoldable pub vertices : Bool → List ℕ → ℕ
+vertices true heads = 64
+vertices false heads = length heads
+
+-- side number m goes from x to y, for which there is room
+pub record SideAt (small : Bool) (ts : List Triangle) (heads : List ℕ) (m x y : ℕ) : Type 0 where
+  pub start : x ≡ sideStart ts m
+  pub end : y ≡ sideEnd ts m
+  pub start-fits : x < vertices small heads
+  pub end-fits : y < vertices small heads
+
+-- room for n sides
+pub record Room (small : Bool) (n : ℕ) (links : List ℕ) : Type 0 where
+  pub chains : small ≡ false → (n ≤ length links) × (length links < 65536)
+
+-- nothing is there yet
+pub record Cleared (small : Bool) (rows heads : List ℕ) : Type 0 where
+  pub bits : small ≡ true → Zeros rows × (length rows ≡ 64)
+  pub chains : small ≡ false → Zeros heads
+
+-- the table of the first n sides
+pub record Tabled (small : Bool) (ts : List Triangle) (n : ℕ) (rows heads links : List ℕ) : Type 0 where
+  pub bits : small ≡ true → Rowed ts n rows
+  pub chains : small ≡ false → Linked ts n heads links
+
+-- the same, with no side that is there twice
+pub record Filled (small : Bool) (ts : List Triangle) (n : ℕ) (rows heads links : List ℕ) : Type 0 where
+  pub table : Tabled small ts n rows heads links
+  pub once : Once ts n

@@ -1,0 +1,77 @@
+// The table of all sides of a mesh, unless one is there twice.
+ghost use mathlib.Core.Path.{_≡_};
+ghost use mathlib.Core.Bool.{true};
+ghost use Prim.Native.Nat.{_+_, _*_, _/_, _<_};
+ghost use lib.ListN.{length};
+ghost use Rattle.drawing.specs.Words.{readTriangles};
+ghost use Rattle.mesh_faults.specs.Turns.{AllNumbered};
+ghost use Rattle.sides.specs.Tables.{vertices, SideAt, Room, Cleared, Filled};
+use crate::table::add_side;
+use crate::table::has_side;
+use searches::triangle::triangle_at;
+
+// Adds side number m, from x to y, unless it is there already; whether it was new.
+fn add_new(
+    indices: &[u16],
+    m: usize,
+    small: bool,
+    rows: &mut [u64],
+    heads: &mut [u16],
+    links: &mut [u32],
+    x: u16,
+    y: u16,
+) -> bool
+    requires { ⌜ Filled small (readTriangles (now indices)) m (now rows) (now heads) (now links) ⌝ ∗ ⌜ SideAt small (readTriangles (now indices)) (now heads) m x y ⌝ ∗ ⌜ Room small (m + 1) (now links) ⌝ }
+    ensures { λ r. ⌜ (r ≡ true → Filled small (readTriangles (now (indices .entry))) (m + 1) (now (rows .exit)) (now (heads .exit)) (now (links .exit))) ⌝ }
+{
+    if has_side(indices, m, small, rows, heads, links, x, y) {
+        return false;
+    }
+    add_side(indices, m, small, rows, heads, links, x, y);
+    true
+}
+
+// Adds the sides of triangle number k unless one is there already; whether they were new.
+fn add_triangle(
+    indices: &[u16],
+    k: usize,
+    small: bool,
+    rows: &mut [u64],
+    heads: &mut [u16],
+    links: &mut [u32],
+) -> bool
+    requires { ⌜ Filled small (readTriangles (now indices)) (k * 3) (now rows) (now heads) (now links) ⌝ ∗ ⌜ AllNumbered (vertices small (now heads)) (now indices) ⌝ ∗ ⌜ Room small (length (now indices)) (now links) ⌝ ∗ ⌜ (k < length (now indices) / 3) × (length (now indices) < 65536) ⌝ }
+    ensures { λ r. ⌜ (r ≡ true → Filled small (readTriangles (now (indices .entry))) (k * 3 + 3) (now (rows .exit)) (now (heads .exit)) (now (links .exit))) ⌝ }
+{
+    let t = triangle_at(indices, k);
+    let m = k * 3;
+    if !add_new(indices, m, small, rows, heads, links, t.a, t.b) {
+        return false;
+    }
+    if !add_new(indices, m + 1, small, rows, heads, links, t.b, t.c) {
+        return false;
+    }
+    add_new(indices, m + 2, small, rows, heads, links, t.c, t.a)
+}
+
+// Fills the table; whether no side was there twice.
+pub fn fill(
+    indices: &[u16],
+    small: bool,
+    rows: &mut [u64],
+    heads: &mut [u16],
+    links: &mut [u32],
+) -> bool
+    requires { ⌜ Cleared small (now rows) (now heads) ⌝ ∗ ⌜ AllNumbered (vertices small (now heads)) (now indices) ⌝ ∗ ⌜ Room small (length (now indices)) (now links) ⌝ ∗ ⌜ length (now indices) < 65536 ⌝ }
+    ensures { λ r. ⌜ (r ≡ true → Filled small (readTriangles (now (indices .entry))) (length (readTriangles (now (indices .entry))) * 3) (now (rows .exit)) (now (heads .exit)) (now (links .exit))) ⌝ }
+{
+    let count = indices.len() / 3;
+    let mut k = 0;
+    while k < count {
+        if !add_triangle(indices, k, small, rows, heads, links) {
+            return false;
+        }
+        k += 1;
+    }
+    true
+}
