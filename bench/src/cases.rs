@@ -16,7 +16,10 @@ const TRIANGLES: u8 = 0;
 const QUADS: u8 = 1;
 const ISOLINES: u8 = 2;
 const EQUAL: u8 = 0;
+const EVEN: u8 = 1;
 const ODD: u8 = 2;
+const CLOCKWISE: u8 = 0;
+const COUNTER_CLOCKWISE: u8 = 1;
 /// The top that Mesa's counts are for.
 const TOP: u8 = 64;
 
@@ -30,10 +33,21 @@ const fn case(
 ) -> Case {
     Case {
         name,
-        settings: [kind, spacing, 1, 1, 0, TOP],
+        settings: [kind, spacing, COUNTER_CLOCKWISE, 1, 0, TOP],
         levels,
         mesa,
         goal,
+    }
+}
+
+/// A patch with all levels 4, whose check has a goal of its own.
+const fn small(name: &'static str, kind: u8, spacing: u8, order: u8) -> Case {
+    Case {
+        name,
+        settings: [kind, spacing, order, 1, 0, TOP],
+        levels: [4.0; 6],
+        mesa: None,
+        goal: None,
     }
 }
 
@@ -81,4 +95,18 @@ pub const CASES: [Case; 8] = [
         None,
         Some(25_000),
     ),
+];
+
+/// The other small patches that are checked, so that both kinds with triangles come with each spacing and both turns.
+pub const SMALL: [Case; 10] = [
+    small("triangles 4 turned", TRIANGLES, EQUAL, CLOCKWISE),
+    small("triangles even 4", TRIANGLES, EVEN, COUNTER_CLOCKWISE),
+    small("triangles even 4 turned", TRIANGLES, EVEN, CLOCKWISE),
+    small("triangles odd 4", TRIANGLES, ODD, COUNTER_CLOCKWISE),
+    small("triangles odd 4 turned", TRIANGLES, ODD, CLOCKWISE),
+    small("quads 4 turned", QUADS, EQUAL, CLOCKWISE),
+    small("quads even 4", QUADS, EVEN, COUNTER_CLOCKWISE),
+    small("quads even 4 turned", QUADS, EVEN, CLOCKWISE),
+    small("quads odd 4", QUADS, ODD, COUNTER_CLOCKWISE),
+    small("quads odd 4 turned", QUADS, ODD, CLOCKWISE),
 ];

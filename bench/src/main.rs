@@ -1,11 +1,12 @@
 //! Speed of drawing: `bench` prints times as ratios, `bench draw CASE TIMES` draws one case for an instruction counter. A draw
 //! is both calls, that for points and that for indices; `bench floats CASE TIMES` draws by the one call with floats.
-//! `bench check CASE TIMES` draws once and checks that mesh, and `bench shuffled CASE TIMES` the same with its triangles shuffled.
+//! `bench check CASE TIMES` draws once and checks that mesh, and `bench shuffled CASE TIMES` the same with its triangles shuffled;
+//! `bench checks` lists their cases, which are more than those for drawing.
 
 mod cases;
 mod proved;
 
-use cases::{Case, CASES};
+use cases::{Case, CASES, SMALL};
 use proved::Lists;
 use reference::{DomainOrigin, Patch, Settings, Spacing, VertexOrder};
 use std::hint::black_box;
@@ -118,9 +119,18 @@ fn shuffle(indices: &mut [u16]) {
     }
 }
 
+/// The cases that are checked, with their numbers: isolines have no triangles.
+fn checked() -> impl Iterator<Item = (usize, &'static Case)> {
+    let all = CASES.iter().chain(&SMALL).enumerate();
+    all.filter(|(_, case)| case.settings[0] < 2)
+}
+
 /// Draws case number `case` once and checks the mesh so many times.
 fn repeat_check(case: &str, times: &str, shuffled: bool) {
-    let case = &CASES[case.parse::<usize>().expect("a case")];
+    let number = case.parse().expect("a case");
+    let (_, case) = checked()
+        .find(|(own, _)| *own == number)
+        .expect("a case with triangles");
     let mut lists = Lists::new();
     let (points, indices) = proved::draw(case, &mut lists);
     if shuffled {
@@ -152,10 +162,13 @@ fn main() {
     match words.iter().map(String::as_str).collect::<Vec<_>>()[..] {
         [] => ratios(),
         ["list"] => list(),
+        ["checks"] => checked().for_each(|(number, case)| println!("{number};{}", case.name)),
         ["draw", case, times] => repeat(proved::draw, case, times),
         ["floats", case, times] => repeat(proved::draw_with_floats, case, times),
         ["check", case, times] => repeat_check(case, times, false),
         ["shuffled", case, times] => repeat_check(case, times, true),
-        _ => panic!("usage: bench | bench list | bench draw|floats|check|shuffled CASE TIMES"),
+        _ => {
+            panic!("usage: bench | bench list|checks | bench draw|floats|check|shuffled CASE TIMES")
+        }
     }
 }

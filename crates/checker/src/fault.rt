@@ -23,7 +23,7 @@ fn fault_in(
     mesh_verdict::fault::mesh_fault(&words[0..count], points, indices, triangles, positive)
 }
 
-// With words for an outline of up to 63 points: clearing those of the largest would cost a small patch more than a fifth of its check.
+// With words for an outline of up to 63 points, so that a small patch does not pay for clearing those of the largest.
 fn small_fault(
     edges: OuterEdges,
     triangles: bool,

@@ -24,15 +24,6 @@ pub enum OuterEdges {
     None,
 }
 
-// The segments of an outer level.
-fn edge_of(level: f32, spacing: Spacing, top: u32) -> Segments
-    requires { ⌜ Top top ⌝ }
-    ensures { λ r. ⌜ r ≡ segmentsOf spacing top level ⌝ }
-{
-    let clamped = level::segments_of(level, spacing, top);
-    clamped.segments
-}
-
 // The outer edges of a patch.
 pub fn edges_of(patch: Patch, spacing: Spacing, top: u32) -> OuterEdges
     requires { ⌜ Top top ⌝ }
@@ -88,4 +79,13 @@ pub fn points_around(edges: OuterEdges) -> u32
         } => edge0.count + edge1.count + edge2.count + edge3.count,
         OuterEdges::None => 0,
     }
+}
+
+// The segments of an outer level.
+fn edge_of(level: f32, spacing: Spacing, top: u32) -> Segments
+    requires { ⌜ Top top ⌝ }
+    ensures { λ r. ⌜ r ≡ segmentsOf spacing top level ⌝ }
+{
+    let clamped = level::segments_of(level, spacing, top);
+    clamped.segments
 }
