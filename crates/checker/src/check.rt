@@ -1,6 +1,5 @@
 // The check of a mesh: accepted, or its first kind of fault.
 ghost use mathlib.Core.Path.{_≡_};
-ghost use lib.ListN.{length};
 ghost use Rattle.level.specs.Top.{Top};
 ghost use Rattle.drawing.specs.Demand.{outline};
 ghost use Rattle.mesh_verdict.specs.Faults.{meshFault};

@@ -1,16 +1,16 @@
 -- The list of sides that have no reverse.
 -- Assumes nothing.
-use Prim.Native.Nat.{ℕ, suc, _+_, _*_, _≤_, _<_}
-use mathlib.Core.Path.{_≡_, refl, sym, _∙_}
+use Prim.Native.Nat.{ℕ, _+_, _*_, _<_}
+use mathlib.Core.Path.{_≡_, sym, _∙_}
 use mathlib.Core.Bool.{true}
 use mathlib.Core.List.{List}
 use mathlib.Core.Logic.{_⊎_, inl, inr}
 use native.Mathlib.Omega.{arith}
 use native.Mathlib.Decide.{decLe}
-use lib.ListN.{length, getD, set}
+use lib.ListN.{length, set}
 use lib.Seq.{getD-set-same, getD-set-other}
 use Rattle.strip.specs.declared.triangle.Triangle.{Triangle}
-use Rattle.sides.specs.Opens.{meets, Among, Listed, Opens}
+use Rattle.sides.specs.Opens.{meets, Among, Opens}
 
 -- no side yet
 pub opens-none : (ts : List Triangle) (opens : List ℕ) → Opens ts 0 opens 0

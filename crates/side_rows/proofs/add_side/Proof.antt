@@ -3,9 +3,6 @@ use Rattle.side_rows.proofs.Rows.{rowed-more}
 use borrow.Author.Needs.{needs}
 use Rattle.side_rows.proofs.add_side.Statement.{statement}
 use Rattle.side_rows.proofs.add_side.Tie as tie
-use Rattle.side_rows.proofs.add_side.Reads as reads
-use Rattle.side_rows.proofs.add_side.Lts as lts
-use Rattle.side_rows.proofs.with_bit.Reads as with-bit-reads
 
 mul-with-bit : tie.Need-mul-with-bit
 mul-with-bit c = search needs

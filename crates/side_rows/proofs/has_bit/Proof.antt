@@ -4,8 +4,6 @@ use Rattle.side_rows.specs.Rows.{bit}
 use borrow.Author.Needs.{needs}
 use Rattle.side_rows.proofs.has_bit.Statement.{statement}
 use Rattle.side_rows.proofs.has_bit.Tie as tie
-use Rattle.side_rows.proofs.has_bit.Reads as reads
-use Rattle.side_rows.proofs.has_bit.Lts as lts
 
 shr-result : tie.Need-shr-result
 shr-result c = search needs

@@ -3,9 +3,6 @@ use mathlib.Core.Path.{_∙_}
 use borrow.Author.Needs.{needs}
 use Rattle.side_rows.proofs.has_side.Statement.{statement}
 use Rattle.side_rows.proofs.has_side.Tie as tie
-use Rattle.side_rows.proofs.has_side.Reads as reads
-use Rattle.side_rows.proofs.has_side.Lts as lts
-use Rattle.side_rows.proofs.has_bit.Reads as has-bit-reads
 
 mul-has-bit : tie.Need-mul-has-bit
 mul-has-bit c = search needs

@@ -5,8 +5,6 @@ use Rattle.side_rows.proofs.Bits.{power-fits}
 use borrow.Author.Needs.{needs}
 use Rattle.side_rows.proofs.with_bit.Statement.{statement}
 use Rattle.side_rows.proofs.with_bit.Tie as tie
-use Rattle.side_rows.proofs.with_bit.Reads as reads
-use Rattle.side_rows.proofs.with_bit.Lts as lts
 
 shl-result : tie.Need-shl-result
 shl-result c = search needs

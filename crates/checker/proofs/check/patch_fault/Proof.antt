@@ -3,11 +3,6 @@ use Rattle.outline.proofs.Around.{edges-valid, edges-outline}
 use borrow.Author.Needs.{needs}
 use Rattle.checker.proofs.check.patch_fault.Statement.{statement}
 use Rattle.checker.proofs.check.patch_fault.Tie as tie
-use Rattle.checker.proofs.check.patch_fault.Reads as reads
-use Rattle.checker.proofs.check.patch_fault.Lts as lts
-use Rattle.checker.proofs.check.is_triangles.Reads as is-triangles-reads
-use Rattle.checker.proofs.fault.fault_within.Reads as fault-within-reads
-use Rattle.outline.proofs.edges.edges_of.Reads as edges-of-reads
 
 is-triangles-requires : tie.Need-is-triangles-requires
 is-triangles-requires c κs = search needs

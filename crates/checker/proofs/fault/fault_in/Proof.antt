@@ -3,10 +3,6 @@ use Rattle.outline.proofs.Fronts.{outline-read}
 use borrow.Author.Needs.{needs}
 use Rattle.checker.proofs.fault.fault_in.Statement.{statement}
 use Rattle.checker.proofs.fault.fault_in.Tie as tie
-use Rattle.checker.proofs.fault.fault_in.Reads as reads
-use Rattle.checker.proofs.fault.fault_in.Lts as lts
-use Rattle.outline.proofs.words.write_outline.Reads as write-outline-reads
-use Rattle.mesh_verdict.proofs.fault.mesh_fault.Reads as mesh-fault-reads
 
 write-outline-requires : tie.Need-write-outline-requires
 write-outline-requires c κs = search needs

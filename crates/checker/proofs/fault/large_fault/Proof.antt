@@ -4,9 +4,6 @@ use Rattle.outline.proofs.Around.{around-most}
 use borrow.Author.Needs.{needs}
 use Rattle.checker.proofs.fault.large_fault.Statement.{statement}
 use Rattle.checker.proofs.fault.large_fault.Tie as tie
-use Rattle.checker.proofs.fault.large_fault.Reads as reads
-use Rattle.checker.proofs.fault.large_fault.Lts as lts
-use Rattle.checker.proofs.fault.fault_in.Reads as fault-in-reads
 
 slice-aggregate-fault-in : tie.Need-slice-aggregate-fault-in
 slice-aggregate-fault-in c = search needs

@@ -12,12 +12,6 @@ use Rattle.closed.proofs.Joins.{marked-none, all-closed}
 use borrow.Author.Needs.{needs}
 use Rattle.closed.proofs.closing.closes_by.Statement.{statement}
 use Rattle.closed.proofs.closing.closes_by.Tie as tie
-use Rattle.closed.proofs.closing.closes_by.Reads as reads
-use Rattle.closed.proofs.closing.closes_by.Lts as lts
-use Rattle.closed.proofs.pieces.all_marked.Reads as all-marked-reads
-use Rattle.closed.proofs.pieces.all_pieces.Reads as all-pieces-reads
-use Rattle.sides.proofs.filling.fill.Reads as fill-reads
-use Rattle.sides.proofs.opens.open_sides.Reads as open-sides-reads
 
 fill-requires : tie.Need-fill-requires
 fill-requires c κs =

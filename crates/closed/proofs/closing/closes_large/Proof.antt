@@ -6,9 +6,6 @@ use Rattle.sides.proofs.Forms.{chains-cleared, chains-room, chains-vertices}
 use borrow.Author.Needs.{needs}
 use Rattle.closed.proofs.closing.closes_large.Statement.{statement}
 use Rattle.closed.proofs.closing.closes_large.Tie as tie
-use Rattle.closed.proofs.closing.closes_large.Reads as reads
-use Rattle.closed.proofs.closing.closes_large.Lts as lts
-use Rattle.closed.proofs.closing.closes_by.Reads as closes-by-reads
 
 slice-aggregate-closes-by : tie.Need-slice-aggregate-closes-by
 slice-aggregate-closes-by c = search needs

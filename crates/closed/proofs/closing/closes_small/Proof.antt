@@ -7,9 +7,6 @@ use Rattle.sides.proofs.Forms.{bits-cleared, bits-room, bits-vertices}
 use borrow.Author.Needs.{needs}
 use Rattle.closed.proofs.closing.closes_small.Statement.{statement}
 use Rattle.closed.proofs.closing.closes_small.Tie as tie
-use Rattle.closed.proofs.closing.closes_small.Reads as reads
-use Rattle.closed.proofs.closing.closes_small.Lts as lts
-use Rattle.closed.proofs.closing.closes_by.Reads as closes-by-reads
 
 slice-aggregate-closes-by : tie.Need-slice-aggregate-closes-by
 slice-aggregate-closes-by c = search needs

@@ -4,10 +4,6 @@ use mathlib.Core.Bool.{true≢false}
 use borrow.Author.Needs.{needs}
 use Rattle.closed.proofs.closing.is_closed.Statement.{statement}
 use Rattle.closed.proofs.closing.is_closed.Tie as tie
-use Rattle.closed.proofs.closing.is_closed.Reads as reads
-use Rattle.closed.proofs.closing.is_closed.Lts as lts
-use Rattle.closed.proofs.closing.closes_large.Reads as closes-large-reads
-use Rattle.closed.proofs.closing.closes_small.Reads as closes-small-reads
 
 returns : tie.Need-returns
 returns c = λ h. absurd (true≢false (sym h))

@@ -11,9 +11,6 @@ use Rattle.closed.proofs.Joins.{joins-none, joins-more, joined}
 use borrow.Author.Needs.{needs}
 use Rattle.closed.proofs.pieces.all_pieces.Statement.{statement}
 use Rattle.closed.proofs.pieces.all_pieces.Tie as tie
-use Rattle.closed.proofs.pieces.all_pieces.Reads as reads
-use Rattle.closed.proofs.pieces.all_pieces.Lts as lts
-use Rattle.closed.proofs.pieces.mark_piece.Reads as mark-piece-reads
 
 abbrev Inv-loop : tie.InvT-loop
 Inv-loop outline points indices opens count marks₀ positive pieces near₀ k₀ marks near k =

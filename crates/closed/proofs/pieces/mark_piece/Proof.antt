@@ -9,12 +9,6 @@ use Rattle.closed.proofs.Joins.{piece-met, piece-closes, marked-more}
 use borrow.Author.Needs.{needs}
 use Rattle.closed.proofs.pieces.mark_piece.Statement.{statement}
 use Rattle.closed.proofs.pieces.mark_piece.Tie as tie
-use Rattle.closed.proofs.pieces.mark_piece.Reads as reads
-use Rattle.closed.proofs.pieces.mark_piece.Lts as lts
-use Rattle.closed.proofs.pieces.find_piece.Reads as find-piece-reads
-use Rattle.closed.proofs.pieces.set_mark.Reads as set-mark-reads
-use Rattle.searches.proofs.point.point_at.Reads as point-at-reads
-use Rattle.side_chains.proofs.number.end_at.Reads as end-at-reads
 
 mul-point-at : tie.Need-mul-point-at
 mul-point-at c = search needs

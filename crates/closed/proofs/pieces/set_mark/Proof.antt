@@ -4,8 +4,6 @@ use native.Mathlib.Omega.{arith}
 use borrow.Author.Needs.{needs}
 use Rattle.closed.proofs.pieces.set_mark.Statement.{statement}
 use Rattle.closed.proofs.pieces.set_mark.Tie as tie
-use Rattle.closed.proofs.pieces.set_mark.Reads as reads
-use Rattle.closed.proofs.pieces.set_mark.Lts as lts
 
 mul-marks : tie.Need-mul-marks
 mul-marks c = search needs

@@ -2,9 +2,6 @@
 use borrow.Author.Needs.{needs}
 use Rattle.outline.proofs.edges.edges_of.Statement.{statement}
 use Rattle.outline.proofs.edges.edges_of.Tie as tie
-use Rattle.outline.proofs.edges.edges_of.Reads as reads
-use Rattle.outline.proofs.edges.edges_of.Lts as lts
-use Rattle.outline.proofs.edges.edge_of.Reads as edge-of-reads
 
 enum-known-patch : tie.Need-enum-known-patch
 enum-known-patch c = search needs

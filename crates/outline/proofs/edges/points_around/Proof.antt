@@ -5,8 +5,6 @@ use Rattle.outline.proofs.Around.{valid-as, around-as, three-around, fo
 use borrow.Author.Needs.{needs}
 use Rattle.outline.proofs.edges.points_around.Statement.{statement}
 use Rattle.outline.proofs.edges.points_around.Tie as tie
-use Rattle.outline.proofs.edges.points_around.Reads as reads
-use Rattle.outline.proofs.edges.points_around.Lts as lts
 
 enum-known-edges : tie.Need-enum-known-edges
 enum-known-edges c = search needs

@@ -4,10 +4,6 @@ use Rattle.outline.proofs.Fronts.{no-outline}
 use borrow.Author.Needs.{needs}
 use Rattle.outline.proofs.words.write_outline.Statement.{statement}
 use Rattle.outline.proofs.words.write_outline.Tie as tie
-use Rattle.outline.proofs.words.write_outline.Reads as reads
-use Rattle.outline.proofs.words.write_outline.Lts as lts
-use Rattle.outline.proofs.words.write_quad.Reads as write-quad-reads
-use Rattle.outline.proofs.words.write_triangle.Reads as write-triangle-reads
 
 enum-known-edges : tie.Need-enum-known-edges
 enum-known-edges c = search needs

@@ -10,9 +10,6 @@ use Rattle.outline.proofs.Fronts.{outlined-length, none-inside, outline
 use borrow.Author.Needs.{needs}
 use Rattle.outline.proofs.words.write_quad.Statement.{statement}
 use Rattle.outline.proofs.words.write_quad.Tie as tie
-use Rattle.outline.proofs.words.write_quad.Reads as reads
-use Rattle.outline.proofs.words.write_quad.Lts as lts
-use Rattle.quad_vertices.proofs.quad.write_quad_patch.Reads as write-quad-patch-reads
 
 write-quad-patch-requires : tie.Need-write-quad-patch-requires
 write-quad-patch-requires c κs =

@@ -10,9 +10,6 @@ use Rattle.outline.proofs.Fronts.{outlined-length, one-inside, outline-
 use borrow.Author.Needs.{needs}
 use Rattle.outline.proofs.words.write_triangle.Statement.{statement}
 use Rattle.outline.proofs.words.write_triangle.Tie as tie
-use Rattle.outline.proofs.words.write_triangle.Reads as reads
-use Rattle.outline.proofs.words.write_triangle.Lts as lts
-use Rattle.triangle_vertices.proofs.triangle.write_triangle_patch.Reads as write-triangle-patch-reads
 
 write-triangle-patch-requires : tie.Need-write-triangle-patch-requires
 write-triangle-patch-requires c κs =

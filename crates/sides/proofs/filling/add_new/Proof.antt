@@ -5,10 +5,6 @@ use Rattle.sides.proofs.Forms.{new-side}
 use borrow.Author.Needs.{needs}
 use Rattle.sides.proofs.filling.add_new.Statement.{statement}
 use Rattle.sides.proofs.filling.add_new.Tie as tie
-use Rattle.sides.proofs.filling.add_new.Reads as reads
-use Rattle.sides.proofs.filling.add_new.Lts as lts
-use Rattle.sides.proofs.table.add_side.Reads as add-side-reads
-use Rattle.sides.proofs.table.has_side.Reads as has-side-reads
 
 has-side-requires : tie.Need-has-side-requires
 has-side-requires c κs = search needs

@@ -7,10 +7,6 @@ use Rattle.sides.proofs.Forms.{side-at, numbered-as, room-as, filled-as
 use borrow.Author.Needs.{needs}
 use Rattle.sides.proofs.filling.add_triangle.Statement.{statement}
 use Rattle.sides.proofs.filling.add_triangle.Tie as tie
-use Rattle.sides.proofs.filling.add_triangle.Reads as reads
-use Rattle.sides.proofs.filling.add_triangle.Lts as lts
-use Rattle.searches.proofs.triangle.triangle_at.Reads as triangle-at-reads
-use Rattle.sides.proofs.filling.add_new.Reads as add-new-reads
 
 triangle-at-requires : tie.Need-triangle-at-requires
 triangle-at-requires c κs = search needs

@@ -12,9 +12,6 @@ use Rattle.sides.specs.Tables.{Filled}
 use Rattle.sides.proofs.Forms.{numbered-as, room-as, filled-none, filled-as}
 use Rattle.sides.proofs.filling.fill.Statement.{statement}
 use Rattle.sides.proofs.filling.fill.Tie as tie
-use Rattle.sides.proofs.filling.fill.Reads as reads
-use Rattle.sides.proofs.filling.fill.Lts as lts
-use Rattle.sides.proofs.filling.add_triangle.Reads as add-triangle-reads
 
 abbrev Inv-loop : tie.InvT-loop
 Inv-loop indices small rows₀ heads₀ links₀ count k₀ rows heads links k = (k ≤ count) × Filled small (readTriangles indices) (k * 3) rows heads links × (length rows ≡ length rows₀) × (length heads ≡ length heads₀) × (length links ≡ length links₀)

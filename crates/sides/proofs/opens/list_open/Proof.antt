@@ -1,15 +1,10 @@
 -- Meets its contract. Assumes nothing.
-use native.Mathlib.Omega.{arith}
 use mathlib.Core.Path.{sym, _∙_}
 use Rattle.searches.proofs.Read.{triangles-count}
 use Rattle.sides.proofs.Lists.{opens-met}
 use borrow.Author.Needs.{needs}
 use Rattle.sides.proofs.opens.list_open.Statement.{statement}
 use Rattle.sides.proofs.opens.list_open.Tie as tie
-use Rattle.sides.proofs.opens.list_open.Reads as reads
-use Rattle.sides.proofs.opens.list_open.Lts as lts
-use Rattle.sides.proofs.opens.list_side.Reads as list-side-reads
-use Rattle.sides.proofs.table.has_side.Reads as has-side-reads
 
 mul-sides : tie.Need-mul-sides
 mul-sides c = search needs

@@ -5,8 +5,6 @@ use Rattle.sides.proofs.Lists.{opens-more, opens-full}
 use borrow.Author.Needs.{needs}
 use Rattle.sides.proofs.opens.list_side.Statement.{statement}
 use Rattle.sides.proofs.opens.list_side.Tie as tie
-use Rattle.sides.proofs.opens.list_side.Reads as reads
-use Rattle.sides.proofs.opens.list_side.Lts as lts
 
 add-result : tie.Need-add-result
 add-result c = search needs

@@ -5,10 +5,6 @@ use Rattle.sides.proofs.Lists.{opens-as}
 use borrow.Author.Needs.{needs}
 use Rattle.sides.proofs.opens.list_triangle.Statement.{statement}
 use Rattle.sides.proofs.opens.list_triangle.Tie as tie
-use Rattle.sides.proofs.opens.list_triangle.Reads as reads
-use Rattle.sides.proofs.opens.list_triangle.Lts as lts
-use Rattle.searches.proofs.triangle.triangle_at.Reads as triangle-at-reads
-use Rattle.sides.proofs.opens.list_open.Reads as list-open-reads
 
 triangle-at-requires : tie.Need-triangle-at-requires
 triangle-at-requires c κs = search needs

@@ -10,9 +10,6 @@ use Rattle.sides.specs.Opens.{Opens}
 use Rattle.sides.proofs.Lists.{opens-none, opens-as}
 use Rattle.sides.proofs.opens.open_sides.Statement.{statement}
 use Rattle.sides.proofs.opens.open_sides.Tie as tie
-use Rattle.sides.proofs.opens.open_sides.Reads as reads
-use Rattle.sides.proofs.opens.open_sides.Lts as lts
-use Rattle.sides.proofs.opens.list_triangle.Reads as list-triangle-reads
 
 abbrev Inv-loop : tie.InvT-loop
 Inv-loop indices small rows heads links opens₀ triangles count₀ k₀ opens count k = (k ≤ triangles) × Opens (readTriangles indices) (k * 3) opens count × (length opens ≡ length opens₀)

@@ -3,10 +3,6 @@ use Rattle.sides.proofs.Forms.{below-bits, below-chains, room-chains, o
 use borrow.Author.Needs.{needs}
 use Rattle.sides.proofs.table.add_side.Statement.{statement}
 use Rattle.sides.proofs.table.add_side.Tie as tie
-use Rattle.sides.proofs.table.add_side.Reads as reads
-use Rattle.sides.proofs.table.add_side.Lts as lts
-use Rattle.side_chains.proofs.chain.add_side.Reads as chain-add-side-reads
-use Rattle.side_rows.proofs.add_side.Reads as add-side-reads
 
 add-side-requires : tie.Need-add-side-requires
 add-side-requires c κs =

@@ -3,10 +3,6 @@ use Rattle.sides.proofs.Forms.{below-bits, below-chains}
 use borrow.Author.Needs.{needs}
 use Rattle.sides.proofs.table.has_side.Statement.{statement}
 use Rattle.sides.proofs.table.has_side.Tie as tie
-use Rattle.sides.proofs.table.has_side.Reads as reads
-use Rattle.sides.proofs.table.has_side.Lts as lts
-use Rattle.side_chains.proofs.chain.has_side.Reads as chain-has-side-reads
-use Rattle.side_rows.proofs.has_side.Reads as has-side-reads
 
 has-side-requires : tie.Need-has-side-requires
 has-side-requires c κs =
