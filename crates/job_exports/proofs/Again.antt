@@ -28,12 +28,12 @@ use Rattle.job_writer.proofs.Has.{Has}
 use Rattle.job_bytes.proofs.Lengths.{record-length}
 use Rattle.job_writer.proofs.SettingBytes.{five-known, five-kind, five-settings}
 use Rattle.job_writer.proofs.RoundTrip.{record-again}
-use Rattle.job_exports.specs.declared.found.Found.{Found}
-use Rattle.job_exports.specs.Inputs.{isVersion, versionIn, recordIn}
-use Rattle.job_exports.specs.Found.{settingsOut, patternsOut, foundOf, foundAt}
+use Rattle.job_words.specs.declared.found.Found.{Found}
+use Rattle.job_words.specs.Inputs.{isVersion, versionIn, recordIn}
+use Rattle.job_words.specs.Found.{settingsOut, patternsOut, foundOf, foundAt}
 use Rattle.job_exports.specs.Calls.{RecordAsked, RecordCalled}
 use Rattle.job_exports.proofs.Calls.{record-known}
-use Rattle.job_exports.proofs.Places.{found-end, found-other, found-here}
+use Rattle.job_words.proofs.Places.{found-end, found-other, found-here}
 
 -- 0 was answered: a record stands there, and its settings and patterns were given
 pub record WasRead (n : ℕ) (bs : List ℕ) (at : ℕ) : Type 0 where

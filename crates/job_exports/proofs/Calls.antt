@@ -14,7 +14,7 @@ use Rattle.job_fields.specs.Settings.{firstUnknown}
 use Rattle.job_fields.specs.Version.{recordSize}
 use Rattle.job_bytes.specs.Written.{takesTop}
 use Rattle.job_writer.specs.Answers.{roomVerdict, recordVerdict}
-use Rattle.job_exports.specs.Inputs.{isVersion, versionIn, recordIn}
+use Rattle.job_words.specs.Inputs.{isVersion, versionIn, recordIn}
 use Rattle.job_exports.specs.Calls.{headerSays, recordSays}
 
 module _ {t s : Told} {words l c′ : List ℕ} {r : ℕ} (is : t ≡ s) where

@@ -1,4 +1,3 @@
 -- The laws of `job_exports`.
 pub mod Calls
-pub mod Places
 pub mod Again

@@ -17,8 +17,8 @@ use Rattle.job_fields.specs.Version.{versionNumber, recordSize}
 use Rattle.job.specs.Header.{headerOf}
 use Rattle.job_bytes.specs.Written.{headerBytes, takesTop, recordBytes}
 use Rattle.job_writer.specs.Answers.{roomVerdict}
-use Rattle.job_exports.specs.Inputs.{isVersion, versionIn, recordIn}
-use Rattle.job_exports.specs.Found.{foundAt}
+use Rattle.job_words.specs.Inputs.{isVersion, versionIn, recordIn}
+use Rattle.job_words.specs.Found.{foundAt}
 
 -- what an operation says is for known versions only
 abbrev pub inVersion : ℕ → Told → Told

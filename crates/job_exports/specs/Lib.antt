@@ -1,4 +1,2 @@
 -- The definitions of `job_exports`.
-pub mod Inputs
-pub mod Found
 pub mod Calls

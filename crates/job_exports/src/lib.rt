@@ -8,9 +8,6 @@
 // (`next`); and the place of an unknown setting. A cursor that reached the end stays there, and any other answer moves it.
 // The answer is its number: 0 written or read, 5 not a job, 6 unknown version, 7 cut record, 8 unknown setting, 10 no room, 11 bad top,
 // and 255 for the end, which is no refusal.
-pub mod found;
-pub mod input;
 pub mod read;
 pub mod reply;
-pub mod version;
 pub mod write;

@@ -1,8 +1,8 @@
 // Reading a job file: its header, and the record at a place.
 ghost use Rattle.job_exports.specs.Calls.{HeaderAsked, RecordAsked};
-use crate::found::found_at;
 use crate::reply::of_header;
 use job::header::read_header;
+use job_words::found::found_at;
 use replies::reply::say_one;
 
 #[no_mangle]

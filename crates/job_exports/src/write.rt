@@ -1,12 +1,12 @@
 // Writing a job file: a header and a record, each to the front of a list of the caller's.
 ghost use Rattle.job_exports.specs.Calls.{HeaderCalled, RecordCalled};
-use crate::input::record_in;
 use crate::reply::of_written_header;
 use crate::reply::of_written_record;
-use crate::version::is_version;
-use crate::version::version_in;
 use job_bytes::top_byte::takes_top;
 use job_fields::setting::first_unknown;
+use job_words::input::record_in;
+use job_words::version::is_version;
+use job_words::version::version_in;
 use job_writer::header::write_header;
 use job_writer::record::write_record;
 use replies::reply::bad_top;

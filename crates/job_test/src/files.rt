@@ -8,13 +8,18 @@ fn header(name: &[u8], bytes: &[u8]) {
     write_header(read_header(bytes));
 }
 
-pub fn headers() {
+// Whole and cut ones, and marks that are not a job's.
+pub fn marks() {
     header(b"header alone", b"TSJ\x01\x00");
     header(b"header and a byte", b"TSJ\x01\x00\x07");
     header(b"no byte", b"");
     header(b"four bytes", b"TSJ\x01");
     header(b"first letter", b"USJ\x01\x00");
     header(b"third letter", b"TSR\x01\x00");
+}
+
+// Versions, and a mark and a version that are both wrong.
+pub fn versions() {
     header(b"version 2", b"TSJ\x02\x00");
     header(b"version 0", b"TSJ\x00\x00");
     header(b"version 3", b"TSJ\x03\x00");

@@ -6,7 +6,8 @@ mod show;
 mod tops;
 
 fn main() {
-    files::headers();
+    files::marks();
+    files::versions();
     records::unknown();
     records::cut();
     records::whole();

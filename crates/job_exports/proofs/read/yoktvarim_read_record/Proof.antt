@@ -2,7 +2,7 @@
 use borrow.Author.Needs.{needs}
 use mathlib.Core.Path.{ap}
 use mathlib.Core.List.{[], _∷_}
-use Rattle.job_exports.specs.declared.found.Found.{Found}
+use Rattle.job_words.specs.declared.found.Found.{Found}
 use Rattle.job_exports.proofs.read.yoktvarim_read_record.Statement.{statement}
 use Rattle.job_exports.proofs.read.yoktvarim_read_record.Tie as tie
 

@@ -1,8 +1,8 @@
 -- Meets its contract. Assumes nothing.
 use borrow.Author.Tests.{eq-eqb, ne-eqb}
-use Rattle.job_exports.specs.Inputs.{versionIn}
-use Rattle.job_exports.proofs.version.version_in.Statement.{statement}
-use Rattle.job_exports.proofs.version.version_in.Tie as tie
+use Rattle.job_words.specs.Inputs.{versionIn}
+use Rattle.job_words.proofs.version.version_in.Statement.{statement}
+use Rattle.job_words.proofs.version.version_in.Tie as tie
 
 returns : tie.Need-returns
 unfolding versionIn

@@ -1,6 +1,6 @@
 // The record that a caller's settings and patterns stand for.
 ghost use mathlib.Core.Path.{_≡_};
-ghost use Rattle.job_exports.specs.Inputs.{bitsIn, recordIn};
+ghost use Rattle.job_words.specs.Inputs.{bitsIn, recordIn};
 use job::record::Record;
 use job_bytes::level_bits::record_of_bits;
 use job_fields::levels::LevelBits;

@@ -2,9 +2,9 @@
 use borrow.Author.Needs.{needs}
 use mathlib.Core.Path.{sym, _∙_}
 use Rattle.tessellate.proofs.Tops.{good, bad}
-use Rattle.job_exports.proofs.Places.{number-small, found-end, found-other, found-here}
-use Rattle.job_exports.proofs.found.found_at.Statement.{statement}
-use Rattle.job_exports.proofs.found.found_at.Tie as tie
+use Rattle.job_words.proofs.Places.{number-small, found-end, found-other, found-here}
+use Rattle.job_words.proofs.found.found_at.Statement.{statement}
+use Rattle.job_words.proofs.found.found_at.Tie as tie
 
 nothing-read-requires : tie.Need-nothing-read-requires
 nothing-read-requires c κs = search needs

@@ -18,9 +18,9 @@ use Rattle.job.specs.Records.{recordAt}
 use Rattle.job_fields.proofs.Tops.{first-place}
 use Rattle.job.proofs.Records.{record-exactly, top-allowed}
 use Rattle.job_bytes.proofs.Lengths.{top-small}
-use Rattle.job_exports.specs.declared.found.Found.{Found}
-use Rattle.job_exports.specs.Inputs.{isVersion, versionIn}
-use Rattle.job_exports.specs.Found.{endNumber, nothing, foundOf, foundAt, numberIn}
+use Rattle.job_words.specs.declared.found.Found.{Found}
+use Rattle.job_words.specs.Inputs.{isVersion, versionIn}
+use Rattle.job_words.specs.Found.{endNumber, nothing, foundOf, foundAt, numberIn}
 
 settings-few : (v : Version) → settingBytes v ≤ 6
 settings-few One = omega arith

@@ -1,7 +1,7 @@
 // What stands at a place of a job file, as a caller gets it.
 ghost use mathlib.Core.Path.{_≡_};
 ghost use Prim.Native.Nat.{_<_};
-ghost use Rattle.job_exports.specs.Found.{settingsOut, patternsOut, nothing, foundOf, foundAt, numberIn};
+ghost use Rattle.job_words.specs.Found.{settingsOut, patternsOut, nothing, foundOf, foundAt, numberIn};
 use crate::version::is_version;
 use crate::version::version_in;
 use job::cursor::Cursor;

@@ -1,8 +1,8 @@
 -- Meets its contract, by those of the functions for its parts. Assumes nothing.
 use borrow.Author.Needs.{needs}
 use mathlib.Core.Path.{_∙_}
-use Rattle.job_exports.proofs.input.record_in.Statement.{statement}
-use Rattle.job_exports.proofs.input.record_in.Tie as tie
+use Rattle.job_words.proofs.input.record_in.Statement.{statement}
+use Rattle.job_words.proofs.input.record_in.Tie as tie
 
 element-copy-out-kind-of : tie.Need-element-copy-out-kind-of
 element-copy-out-kind-of c = search needs

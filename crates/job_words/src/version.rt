@@ -1,6 +1,6 @@
 // A version by its number.
 ghost use mathlib.Core.Path.{_≡_};
-ghost use Rattle.job_exports.specs.Inputs.{isVersion, versionIn};
+ghost use Rattle.job_words.specs.Inputs.{isVersion, versionIn};
 use job_fields::version::Version;
 
 pub fn is_version(number: u32) -> bool

@@ -9,8 +9,8 @@ use Rattle.job.specs.declared.next.NextRecord.{NextRecord}
 use Rattle.job.specs.declared.next.NextRecord.the-variants.{Read, End, CutRecord, UnknownSetting}
 use Rattle.job.specs.Records.{recordAt, atEnd}
 use Rattle.job_bytes.specs.Written.{kindByte, spacingByte, orderByte, originByte, switchByte}
-use Rattle.job_exports.specs.declared.found.Found.{Found}
-use Rattle.job_exports.specs.Inputs.{isVersion, versionIn}
+use Rattle.job_words.specs.declared.found.Found.{Found}
+use Rattle.job_words.specs.Inputs.{isVersion, versionIn}
 
 -- the number for the end, which is no refusal; no answer of the customer's table has it
 abbrev pub endNumber : ℕ

@@ -1,7 +1,7 @@
 -- Meets its contract. Assumes nothing.
 use borrow.Author.Needs.{needs}
-use Rattle.job_exports.proofs.found.whole_record.Statement.{statement}
-use Rattle.job_exports.proofs.found.whole_record.Tie as tie
+use Rattle.job_words.proofs.found.whole_record.Statement.{statement}
+use Rattle.job_words.proofs.found.whole_record.Tie as tie
 
 settings-out-requires : tie.Need-settings-out-requires
 settings-out-requires c κs = search needs

@@ -2,8 +2,8 @@
 use borrow.Author.Needs.{needs}
 use native.Mathlib.Omega.{arith}
 use mathlib.Core.Path.{_∙_}
-use Rattle.job_exports.proofs.found.found_of.Statement.{statement}
-use Rattle.job_exports.proofs.found.found_of.Tie as tie
+use Rattle.job_words.proofs.found.found_of.Statement.{statement}
+use Rattle.job_words.proofs.found.found_of.Tie as tie
 
 enum-known-found : tie.Need-enum-known-found
 enum-known-found c = search needs

@@ -1,8 +1,8 @@
 -- Meets its contract. Assumes nothing.
 use borrow.Author.Needs.{needs}
-use Rattle.job_exports.specs.Inputs.{isVersion}
-use Rattle.job_exports.proofs.version.is_version.Statement.{statement}
-use Rattle.job_exports.proofs.version.is_version.Tie as tie
+use Rattle.job_words.specs.Inputs.{isVersion}
+use Rattle.job_words.proofs.version.is_version.Statement.{statement}
+use Rattle.job_words.proofs.version.is_version.Tie as tie
 
 returns : tie.Need-returns
 unfolding isVersion

@@ -1,0 +1,2 @@
+-- The laws of `job_words`.
+pub mod Places

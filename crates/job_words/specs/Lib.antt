@@ -1,0 +1,3 @@
+-- The definitions of `job_words`.
+pub mod Inputs
+pub mod Found
