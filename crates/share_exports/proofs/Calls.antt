@@ -14,7 +14,7 @@ use Rattle.patch.specs.declared.settings.Settings.{Settings}
 use Rattle.job_fields.specs.Settings.{firstUnknown}
 use Rattle.tessellate.specs.Answers.{Told, refused}
 use Rattle.replies.specs.declared.reply.Reply.{Reply}
-use Rattle.replies.specs.Replies.{Tells, unknownSetting, badTop, twoWords, Says}
+use Rattle.replies.specs.Replies.{Tells, unknownSetting, badTop}
 use Rattle.replies.proofs.Replies.{said-two, says-as}
 use Rattle.requests.specs.Inputs.{topIn, patchIn, settingsIn}
 use Rattle.shared_lists.specs.declared.state.Designer.{Designer}
@@ -29,7 +29,7 @@ use Rattle.shared_lists.specs.Answers.{done, toldStart, toldClear, quotasFit, a
 use Rattle.shares.specs.Answers.{toldDraw, drawVerdict}
 use Rattle.shared_lists.specs.Operations.{unlessRefused, startState, clearedState, DidStart, DidClear}
 use Rattle.shares.specs.Operations.{drawnState, DidDraw}
-use Rattle.share_exports.specs.Words.{stateIn, stateWords, quotaIn, designerOf}
+use Rattle.share_words.specs.Words.{stateIn, stateWords, quotaIn, designerOf}
 use Rattle.share_exports.specs.Calls.{unknownDesigner, asked, Called, DrawAsked, DrawCalled, Started, StartCalled, clearSays, Cleared, ClearCalled}
 
 -- ---- what stands against a call

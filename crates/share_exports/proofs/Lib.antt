@@ -1,3 +1,2 @@
 -- The laws of `share_exports`.
 pub mod Calls
-pub mod Back

@@ -23,7 +23,7 @@ use Rattle.shared_lists.specs.Answers.{done, accepted, startVerdict}
 use Rattle.shares.specs.Answers.{drawVerdict}
 use Rattle.shared_lists.specs.Operations.{unlessRefused, startState, clearedState}
 use Rattle.shares.specs.Operations.{newIndices, drawnState}
-use Rattle.share_exports.specs.Words.{stateIn, stateWords, quotaIn, designerOf}
+use Rattle.share_words.specs.Words.{stateIn, stateWords, quotaIn, designerOf}
 
 -- answer 15: the designer is neither 0 nor 1
 abbrev pub unknownDesigner : Told

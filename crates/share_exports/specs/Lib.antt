@@ -1,3 +1,2 @@
 -- The definitions of `share_exports`.
-pub mod Words
 pub mod Calls

@@ -1,9 +1,9 @@
 // Clearing a designer's part.
 ghost use lib.ListN.{length};
 ghost use Rattle.share_exports.specs.Calls.{ClearCalled};
-use crate::words::designer_of;
-use crate::words::state_in;
-use crate::words::words_of;
+use share_words::words::designer_of;
+use share_words::words::state_in;
+use share_words::words::words_of;
 
 #[no_mangle]
 pub extern "C" fn yoktvarim_share_clear(

@@ -8,6 +8,4 @@
 // little left of this quota, 8 unknown setting, 11 bad top, 12 quotas too large, 13 too many points, 14 bad state, 15 unknown designer.
 pub mod clear;
 pub mod draw;
-mod reply;
 pub mod start;
-mod words;

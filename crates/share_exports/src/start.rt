@@ -1,8 +1,8 @@
 // Starting: both designers' quotas, or their refusal as a whole.
 ghost use lib.ListN.{length};
 ghost use Rattle.share_exports.specs.Calls.{StartCalled};
-use crate::words::quota_in;
-use crate::words::words_of;
+use share_words::words::quota_in;
+use share_words::words::words_of;
 use shared_lists::answer::StartAnswer;
 
 #[no_mangle]

@@ -1,7 +1,7 @@
 -- Meets its contract. Assumes nothing.
 use borrow.Author.Needs.{needs}
-use Rattle.share_exports.proofs.words.words_of.Statement.{statement}
-use Rattle.share_exports.proofs.words.words_of.Tie as tie
+use Rattle.share_words.proofs.words.words_of.Statement.{statement}
+use Rattle.share_words.proofs.words.words_of.Tie as tie
 
 word-of-requires : tie.Need-word-of-requires
 word-of-requires c κs = search needs

@@ -1,7 +1,7 @@
 -- Meets its contract. Assumes nothing.
 use borrow.Author.Needs.{needs}
-use Rattle.share_exports.proofs.words.state_in.Statement.{statement}
-use Rattle.share_exports.proofs.words.state_in.Tie as tie
+use Rattle.share_words.proofs.words.state_in.Statement.{statement}
+use Rattle.share_words.proofs.words.state_in.Tie as tie
 
 list-in-requires : tie.Need-list-in-requires
 list-in-requires c κs = search needs

@@ -1,10 +1,7 @@
 -- Meets its contract. Assumes nothing.
-use mathlib.Core.Path.{sym, ap, _∙_}
-use mathlib.Core.Bool.{Bool, cond}
-use Rattle.share_exports.specs.Words.{stateWords}
 use borrow.Author.Needs.{needs}
-use Rattle.share_exports.proofs.words.keep.Statement.{statement}
-use Rattle.share_exports.proofs.words.keep.Tie as tie
+use Rattle.share_words.proofs.words.keep.Statement.{statement}
+use Rattle.share_words.proofs.words.keep.Tie as tie
 
 words-of-requires : tie.Need-words-of-requires
 words-of-requires c κs = search needs

@@ -2,7 +2,7 @@
 ghost use mathlib.Core.Path.{_≡_};
 ghost use mathlib.Core.Bool.{cond};
 ghost use Prim.Native.Nat.{_≤_};
-ghost use Rattle.share_exports.specs.Words.{listIn, stateIn, quotaIn, listWords, stateWords, designerOf};
+ghost use Rattle.share_words.specs.Words.{listIn, stateIn, quotaIn, stateWords, designerOf};
 use shared_lists::state::Designer;
 use shared_lists::state::Quota;
 use shared_lists::state::Share;
@@ -39,7 +39,7 @@ fn list_in(words: &[u64; 10], at: usize) -> SharedList
     }
 }
 
-pub(crate) fn state_in(words: &[u64; 10]) -> State
+pub fn state_in(words: &[u64; 10]) -> State
     ensures { λ r. ⌜ r ≡ stateIn (now (words .entry)) ⌝ }
 {
     State {
@@ -48,7 +48,7 @@ pub(crate) fn state_in(words: &[u64; 10]) -> State
     }
 }
 
-pub(crate) fn words_of(state: State) -> [u64; 10]
+pub fn words_of(state: State) -> [u64; 10]
     ensures { λ r. ⌜ r ≡ stateWords state ⌝ }
 {
     let vertices = state.vertices;
@@ -68,7 +68,7 @@ pub(crate) fn words_of(state: State) -> [u64; 10]
 }
 
 // The state in the caller's memory, where there is one to store.
-pub(crate) fn keep(words: &mut [u64; 10], stored: bool, state: State)
+pub fn keep(words: &mut [u64; 10], stored: bool, state: State)
     ensures { λ _. ⌜ now (words .exit) ≡ cond stored (stateWords state) (now (words .entry)) ⌝ }
 {
     if stored {
@@ -77,7 +77,7 @@ pub(crate) fn keep(words: &mut [u64; 10], stored: bool, state: State)
 }
 
 // One designer's quota.
-pub(crate) fn quota_in(quotas: &[u64; 4], at: usize) -> Quota
+pub fn quota_in(quotas: &[u64; 4], at: usize) -> Quota
     requires { ⌜ at ≤ 2 ⌝ }
     ensures { λ r. ⌜ r ≡ quotaIn (now (quotas .entry)) at ⌝ }
 {
@@ -87,7 +87,7 @@ pub(crate) fn quota_in(quotas: &[u64; 4], at: usize) -> Quota
     }
 }
 
-pub(crate) fn designer_of(number: u32) -> Designer
+pub fn designer_of(number: u32) -> Designer
     ensures { λ r. ⌜ r ≡ designerOf number ⌝ }
 {
     if number == 0 {

@@ -7,7 +7,7 @@ use replies::reply::refusal;
 use replies::reply::success;
 use shares::answer::DrawAnswer;
 
-pub(crate) fn of_draw(answer: DrawAnswer) -> Reply
+pub fn of_draw(answer: DrawAnswer) -> Reply
     ensures { λ r. ⌜ Tells (toldDraw answer) r ⌝ }
 {
     match answer {

@@ -1,7 +1,7 @@
 -- Meets its contract. Assumes nothing.
 use borrow.Author.Tests.{eq-eqb, ne-eqb}
-use Rattle.share_exports.proofs.words.designer_of.Statement.{statement}
-use Rattle.share_exports.proofs.words.designer_of.Tie as tie
+use Rattle.share_words.proofs.words.designer_of.Statement.{statement}
+use Rattle.share_words.proofs.words.designer_of.Tie as tie
 
 returns : tie.Need-returns
 returns c = rw (eq-eqb _ _ (c .if1 .taken))

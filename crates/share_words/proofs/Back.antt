@@ -2,7 +2,7 @@
 -- Assumes nothing.
 use mathlib.Core.Path.{_≡_, refl}
 use Rattle.shared_lists.specs.declared.state.State.{State}
-use Rattle.share_exports.specs.Words.{stateIn, stateWords}
+use Rattle.share_words.specs.Words.{stateIn, stateWords}
 
 pub words-back : (s : State) → stateIn (stateWords s) ≡ s
 words-back s = refl

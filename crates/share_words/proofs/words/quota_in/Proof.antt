@@ -1,7 +1,7 @@
 -- Meets its contract. Assumes nothing.
 use borrow.Author.Needs.{needs}
-use Rattle.share_exports.proofs.words.quota_in.Statement.{statement}
-use Rattle.share_exports.proofs.words.quota_in.Tie as tie
+use Rattle.share_words.proofs.words.quota_in.Statement.{statement}
+use Rattle.share_words.proofs.words.quota_in.Tie as tie
 
 mul-length-of : tie.Need-mul-length-of
 mul-length-of c = search needs

@@ -1,0 +1,2 @@
+-- The laws of `share_words`.
+pub mod Back
