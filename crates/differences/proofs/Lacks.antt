@@ -13,7 +13,7 @@ use Rattle.drawing.specs.Words.{readPoints, readTriangles}
 use Rattle.searches.specs.First.{some}
 use Rattle.searches.specs.Points.{samePoint}
 use Rattle.searches.specs.Triangles.{triangleAt}
-use Rattle.searches.specs.Same.{sameTriangle, Held}
+use Rattle.side_searches.specs.Same.{sameTriangle, Held}
 use Rattle.searches.proofs.First.{some-here, some-none}
 use Rattle.searches.proofs.Equal.{same-is, is-same}
 use Rattle.searches.proofs.Read.{points-count, triangles-count}

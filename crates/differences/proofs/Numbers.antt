@@ -15,7 +15,7 @@ use Rattle.mesh.specs.Faces.{at, faceOf}
 use Rattle.drawing.specs.Words.{readPoints, readTriangles}
 use Rattle.searches.specs.Points.{samePoint, firstRepeated}
 use Rattle.searches.specs.Triangles.{triangleAt}
-use Rattle.searches.specs.Same.{sameTriangle}
+use Rattle.side_searches.specs.Same.{sameTriangle}
 use Rattle.searches.proofs.First.{first-all, some-all}
 use Rattle.searches.proofs.Read.{points-count, triangle-read}
 use Rattle.searches.proofs.Equal.{same-is, is-same}

@@ -11,7 +11,7 @@ use Rattle.mesh.specs.Faces.{at, faceOf}
 use Rattle.searches.specs.First.{some}
 use Rattle.searches.specs.Points.{samePoint}
 use Rattle.searches.specs.Triangles.{triangleAt}
-use Rattle.searches.specs.Same.{sameTriangle}
+use Rattle.side_searches.specs.Same.{sameTriangle}
 use Rattle.strip.specs.declared.triangle.Triangle.{Triangle}
 use Rattle.differences.specs.declared.corners.Match.{Match}
 use Rattle.differences.specs.declared.corners.Match.the-variants.{Corners, Missing}

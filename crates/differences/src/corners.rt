@@ -10,7 +10,7 @@ use crate::point::find_point;
 use crate::window::window_end;
 use crate::window::window_start;
 use searches::point::point_at;
-use searches::same::has_triangle_in;
+use side_searches::same::has_triangle_in;
 use strip::triangle::Triangle;
 
 // The numbers of the points at a triangle's corners; or one of them is missing.

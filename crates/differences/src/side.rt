@@ -14,8 +14,8 @@ use crate::corners::match_corners;
 use crate::place::is_in_place;
 use crate::point::find_point;
 use searches::point::point_at;
-use searches::same::has_triangle_in;
 use searches::triangle::triangle_at;
+use side_searches::same::has_triangle_in;
 use strip::triangle::Triangle;
 
 // Whether point number k is not among the other points.

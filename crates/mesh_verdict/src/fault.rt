@@ -39,11 +39,11 @@ fn side_fault(outline: &[u32], points: &[u32], indices: &[u16], positive: bool) 
     if closed::closing::is_closed(outline, points, indices, positive) {
         return Verdict::Accepted;
     }
-    let reused = searches::pair::first_reused(indices);
+    let reused = side_searches::pair::first_reused(indices);
     if reused < count {
         let t = searches::triangle::triangle_at(indices, reused);
         return Verdict::SideTwice {
-            first: searches::pair::first_sharing(indices, t, reused),
+            first: side_searches::pair::first_sharing(indices, t, reused),
             second: reused,
         };
     }

@@ -9,7 +9,7 @@ use Rattle.differences.proofs.corners.has_triangle.Reads as reads
 use Rattle.differences.proofs.corners.has_triangle.Lts as lts
 use Rattle.differences.proofs.window.window_end.Reads as window-end-reads
 use Rattle.differences.proofs.window.window_start.Reads as window-start-reads
-use Rattle.searches.proofs.same.has_triangle_in.Reads as has-triangle-in-reads
+use Rattle.side_searches.proofs.same.has_triangle_in.Reads as has-triangle-in-reads
 
 window-start-requires : tie.Need-window-start-requires
 window-start-requires c κs = search needs

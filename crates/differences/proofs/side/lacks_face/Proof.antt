@@ -12,7 +12,7 @@ use Rattle.differences.proofs.side.lacks_face.Reads as reads
 use Rattle.differences.proofs.side.lacks_face.Lts as lts
 use Rattle.differences.proofs.place.is_in_place.Reads as is-in-place-reads
 use Rattle.differences.proofs.side.has_face.Reads as has-face-reads
-use Rattle.searches.proofs.same.has_triangle_in.Reads as has-triangle-in-reads
+use Rattle.side_searches.proofs.same.has_triangle_in.Reads as has-triangle-in-reads
 use Rattle.searches.proofs.triangle.triangle_at.Reads as triangle-at-reads
 
 is-in-place-requires : tie.Need-is-in-place-requires

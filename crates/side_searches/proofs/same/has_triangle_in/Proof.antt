@@ -3,13 +3,13 @@ use native.Mathlib.Omega.{arith}
 use Prim.Native.Nat.{_-_}
 use mathlib.Core.Bool.{true≢false}
 use Rattle.drawing.specs.Words.{readTriangles}
 use Rattle.searches.specs.Triangles.{triangleAt}
-use Rattle.searches.specs.Same.{sameTriangle}
-use Rattle.searches.proofs.Skips.{Clear, clear-begins, clear-more, held-missed}
-use Rattle.searches.proofs.Corners.{without-same}
+use Rattle.side_searches.specs.Same.{sameTriangle}
+use Rattle.side_searches.proofs.Skips.{Clear, clear-begins, clear-more, held-missed}
+use Rattle.side_searches.proofs.Corners.{without-same}
 use borrow.Author.Needs.{needs}
-use Rattle.searches.proofs.same.has_triangle_in.Statement.{statement}
-use Rattle.searches.proofs.same.has_triangle_in.Tie as tie
+use Rattle.side_searches.proofs.same.has_triangle_in.Statement.{statement}
+use Rattle.side_searches.proofs.same.has_triangle_in.Tie as tie
 
 abbrev Inv-loop : tie.InvT-loop
 Inv-loop indices from to t x i₀ i = Clear (λ k. sameTriangle (triangleAt (readTriangles indices) k) t) from to i

@@ -3,9 +3,9 @@ ghost use mathlib.Core.Path.{_≡_};
 ghost use Prim.Native.Nat.{_/_, _≤_};
 ghost use lib.ListN.{length};
 ghost use Rattle.drawing.specs.Words.{readTriangles};
-ghost use Rattle.searches.specs.Same.{sameTriangle, Held};
+ghost use Rattle.side_searches.specs.Same.{sameTriangle, Held};
 use crate::pair::next_touching;
-use crate::triangle::triangle_at;
+use searches::triangle::triangle_at;
 use strip::triangle::Triangle;
 
 // Whether two triangles have the same corners up to rotation.

@@ -1,8 +1,8 @@
 -- Meets its contract. Assumes nothing.
 use mathlib.Core.Path.{refl}
-use Rattle.searches.specs.Same.{sameTriangle}
-use Rattle.searches.proofs.same.same_triangle.Statement.{statement}
-use Rattle.searches.proofs.same.same_triangle.Tie as tie
+use Rattle.side_searches.specs.Same.{sameTriangle}
+use Rattle.side_searches.proofs.same.same_triangle.Statement.{statement}
+use Rattle.side_searches.proofs.same.same_triangle.Tie as tie
 
 returns : tie.Need-returns
 unfolding sameTriangle

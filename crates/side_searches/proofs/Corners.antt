@@ -4,9 +4,9 @@ use mathlib.Core.Path.{_≡_}
 use mathlib.Core.Bool.{false, and-false}
 use borrow.Author.Tests.{ne-eqb}
 use Rattle.strip.specs.declared.triangle.Triangle.{Triangle}
 use Rattle.searches.specs.Triangles.{hasCorner}
-use Rattle.searches.specs.Same.{sameTriangle}
-use Rattle.searches.proofs.Skips.{apart}
+use Rattle.side_searches.specs.Same.{sameTriangle}
+use Rattle.side_searches.proofs.Skips.{apart}
 
 pub without-same : (s t : Triangle) → hasCorner s (t .a) ≡ false → sameTriangle s t ≡ false
 unfolding sameTriangle

@@ -1,0 +1,3 @@
+-- The definitions of the searches that pass over triangles.
+pub mod Skips
+pub mod Same
