@@ -3,7 +3,7 @@
 ghost use Prim.Native.Nat.{_≤_};
 use level::Clamp;
 use level::Spacing;
-use patch::clamps::Clamps;
+use level_clamps::Clamps;
 use patch::kinds::Patch;
 use patch::settings::DomainOrigin;
 use patch::settings::Settings;

@@ -4,4 +4,3 @@ pub mod Steps
 pub mod Answering
 pub mod Same
 pub mod Pieces
-pub mod Never

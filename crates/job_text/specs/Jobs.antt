@@ -11,7 +11,7 @@ use Rattle.job.specs.Records.{recordAt}
 use Rattle.text.specs.Heads.{titleLine, refusedLine}
 use Rattle.job_text.specs.declared.header.Rest.{Rest}
 use Rattle.job_text.specs.declared.header.Rest.the-variants.{Records, Nothing}
-use Rattle.job_text.specs.Replies.{reply, goesOn}
+use Rattle.record_text.specs.Replies.{reply, goesOn}
 
 -- the answers to the first k records from a place on, in a file of a version
 unfoldable pub answers : Version → ℕ → List ℕ → ℕ → List ℕ

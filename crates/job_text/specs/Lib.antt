@@ -1,5 +1,4 @@
 -- The definitions of `job_text`.
-pub mod Replies
 pub mod Jobs
 pub mod Reported
 pub mod Pieces

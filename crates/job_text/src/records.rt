@@ -3,11 +3,11 @@ ghost use Prim.Native.Nat.{_≤_};
 ghost use lib.ListN.{length};
 ghost use Rattle.job_text.specs.Reported.{Reported};
 ghost use Rattle.patch_text.specs.Room.{room, FullSize};
-use crate::reply::next_place;
-use crate::reply::put_reply;
 use job::cursor::Cursor;
 use job::next::read_record;
 use job_fields::version::Version;
+use record_text::reply::next_place;
+use record_text::reply::put_reply;
 
 // No record is answered by more bytes than this.
 const ROOM: usize = 286909;

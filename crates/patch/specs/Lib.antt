@@ -2,5 +2,4 @@
 pub mod Turn
 pub mod Every
 pub mod Counted
-pub mod Clamps
 pub mod Subdivide

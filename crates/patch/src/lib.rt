@@ -1,6 +1,4 @@
-// Patches, how they are to be drawn, into how many segments each of their edges is cut, and which levels are
-// clamped for that.
-pub mod clamps;
+// Patches, how they are to be drawn, and into how many segments each of their edges is cut.
 pub mod kinds;
 pub mod settings;
 pub mod subdivision;

@@ -3,8 +3,8 @@ use Prim.Native.Nat.{ℕ}
 use mathlib.Core.List.{List, [], _∷_}
 use Rattle.level.specs.declared.Clamp.{Clamp}
 use Rattle.level.specs.declared.Clamp.the-variants.{Below, Inside, Above}
-use Rattle.patch.specs.declared.clamps.Clamps.{Clamps}
-use Rattle.patch.specs.declared.clamps.Clamps.the-variants.{Triangles, Quads, Isolines}
+use Rattle.level_clamps.specs.declared.Clamps.{Clamps}
+use Rattle.level_clamps.specs.declared.Clamps.the-variants.{Triangles, Quads, Isolines}
 use Rattle.tessellate.specs.declared.answer.Size.{Size}
 use Rattle.tessellate.specs.declared.answer.Size.the-variants.{Counts, Discarded, BadTop}
 

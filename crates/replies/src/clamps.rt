@@ -1,9 +1,9 @@
 // What measuring says of each level, as bytes in the caller's memory.
 ghost use mathlib.Core.Path.{_≡_};
-ghost use Rattle.patch.specs.declared.clamps.Clamps.the-variants.{Triangles, Quads, Isolines};
+ghost use Rattle.level_clamps.specs.declared.Clamps.the-variants.{Triangles, Quads, Isolines};
 ghost use Rattle.replies.specs.Clamps.{clampByte, clampBytes, sizeClamps, noClamps};
 use level::Clamp;
-use patch::clamps::Clamps;
+use level_clamps::Clamps;
 use tessellate::answer::Size;
 
 fn byte_of(clamp: Clamp) -> u8

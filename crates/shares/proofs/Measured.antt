@@ -7,9 +7,9 @@ use native.Mathlib.Omega.{arith}
 use Rattle.level.specs.Top.{isTop}
 use Rattle.patch.specs.declared.kinds.Patch.{Patch}
 use Rattle.patch.specs.declared.settings.Settings.{Settings}
-use Rattle.patch.specs.declared.clamps.Clamps.{Clamps}
+use Rattle.level_clamps.specs.declared.Clamps.{Clamps}
 use Rattle.patch.specs.Subdivide.{discards}
-use Rattle.patch.specs.Clamps.{clampsOf}
+use Rattle.level_clamps.specs.Clamps.{clampsOf}
 use Rattle.tessellate.specs.declared.answer.Size.{Size}
 use Rattle.tessellate.specs.declared.answer.Size.the-variants.{Counts, Discarded, BadTop}
 use Rattle.tessellate.specs.Answers.{Told, measured, pointsOf, indicesOf}

@@ -9,7 +9,7 @@ use Rattle.level.specs.Top.{isTop}
 use Rattle.patch.specs.declared.kinds.Patch.{Patch}
 use Rattle.patch.specs.declared.settings.Settings.{Settings}
 use Rattle.patch.specs.Subdivide.{discards, subdivision}
-use Rattle.patch.specs.Clamps.{clampsOf}
+use Rattle.level_clamps.specs.Clamps.{clampsOf}
 use Rattle.drawing.specs.Points.{points}
 use Rattle.drawing.specs.Primitives.{indexWords}
 use Rattle.tessellate.specs.declared.answer.PointsAnswer.{PointsAnswer}

@@ -1,5 +1,5 @@
 // What the operations answer, by name.
-use patch::clamps::Clamps;
+use level_clamps::Clamps;
 
 // So many points stand at the vertex list's front; or why nothing was written.
 pub enum PointsAnswer {

@@ -20,7 +20,7 @@ pub fn measure(patch: Patch, settings: Settings) -> Size
         Cut::Ready { cut } => {
             let points = cut_patch::count::point_count(cut);
             let indices = cut_patch::count::index_count(cut, point_mode);
-            let clamps = patch::clamps::clamps_of(patch, spacing, top);
+            let clamps = level_clamps::clamps_of(patch, spacing, top);
             Size::Counts {
                 points,
                 indices,

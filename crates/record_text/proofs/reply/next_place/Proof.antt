@@ -1,9 +1,9 @@
 -- Meets its contract. Assumes nothing.
 use borrow.Author.Needs.{needs}
 use mathlib.Core.Path.{sym, ap}
-use Rattle.job_text.specs.Replies.{goesOn}
-use Rattle.job_text.proofs.reply.next_place.Statement.{statement}
-use Rattle.job_text.proofs.reply.next_place.Tie as tie
+use Rattle.record_text.specs.Replies.{goesOn}
+use Rattle.record_text.proofs.reply.next_place.Statement.{statement}
+use Rattle.record_text.proofs.reply.next_place.Tie as tie
 
 enum-known-found : tie.Need-enum-known-found
 enum-known-found c = search needs

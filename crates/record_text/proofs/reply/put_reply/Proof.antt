@@ -1,10 +1,10 @@
 -- Meets its contract. Assumes nothing.
 use borrow.Author.Needs.{needs}
 use Rattle.buffer.proofs.Laws.{wrote-none}
-use Rattle.job_text.specs.Replies.{reply}
+use Rattle.record_text.specs.Replies.{reply}
 use Rattle.buffer.proofs.Laws.{wrote-as}
-use Rattle.job_text.proofs.reply.put_reply.Statement.{statement}
-use Rattle.job_text.proofs.reply.put_reply.Tie as tie
+use Rattle.record_text.proofs.reply.put_reply.Statement.{statement}
+use Rattle.record_text.proofs.reply.put_reply.Tie as tie
 
 enum-known-found : tie.Need-enum-known-found
 enum-known-found c = search needs

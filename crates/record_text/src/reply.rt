@@ -5,7 +5,7 @@ ghost use lib.ListN.{length};
 ghost use Rattle.buffer.specs.Over.{Wrote};
 ghost use Rattle.job.specs.Patches.{patchOf};
 ghost use Rattle.patch_text.specs.Answers.{recordText};
-ghost use Rattle.job_text.specs.Replies.{reply, goesOn};
+ghost use Rattle.record_text.specs.Replies.{reply, goesOn};
 ghost use Rattle.patch_text.specs.Room.{room, FullSize};
 use job::next::NextRecord;
 use job::record::Record;

@@ -4,10 +4,10 @@ use Prim.Native.Nat.{ℕ}
 use Rattle.level.specs.declared.Spacing.{Spacing}
 use Rattle.level.specs.declared.Spacing.the-variants.{Equal}
 use Rattle.level.specs.Clamp.{clampOf}
 use Rattle.patch.specs.declared.kinds.Patch.{Patch}
 use Rattle.patch.specs.declared.kinds.Patch.the-variants.{Triangles, Quads, Isolines}
-use Rattle.patch.specs.declared.clamps.Clamps.{Clamps}
-use Rattle.patch.specs.declared.clamps.Clamps.the-variants as told
+use Rattle.level_clamps.specs.declared.Clamps.{Clamps}
+use Rattle.level_clamps.specs.declared.Clamps.the-variants as told
 
 -- Each level by itself: neither a level that discards the patch nor an inner level raised to 65537 / 65536 changes what its clamp says.
 -- The number of isolines has equal spacing whatever is asked

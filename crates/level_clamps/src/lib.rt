@@ -2,10 +2,10 @@
 ghost use mathlib.Core.Path.{_≡_};
 ghost use Rattle.level.specs.Top.{Top};
 ghost use Rattle.level.specs.Clamp.{clampOf};
-ghost use Rattle.patch.specs.Clamps.{clampsOf};
-use crate::kinds::Patch;
+ghost use Rattle.level_clamps.specs.Clamps.{clampsOf};
 use level::Clamp;
 use level::Spacing;
+use patch::kinds::Patch;
 
 // Where each level that counts lies, by the patch's kind and the levels' names in `Patch`.
 pub enum Clamps {

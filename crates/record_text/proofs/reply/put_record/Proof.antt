@@ -1,7 +1,7 @@
 -- Meets its contract. Assumes nothing.
 use borrow.Author.Needs.{needs}
-use Rattle.job_text.proofs.reply.put_record.Statement.{statement}
-use Rattle.job_text.proofs.reply.put_record.Tie as tie
+use Rattle.record_text.proofs.reply.put_record.Statement.{statement}
+use Rattle.record_text.proofs.reply.put_record.Tie as tie
 
 patch-of-requires : tie.Need-patch-of-requires
 patch-of-requires c κs = search needs

@@ -1,7 +1,7 @@
 -- Meets its contract: each arm says what `clamp_of` says of each level. Assumes nothing.
 use borrow.Author.Needs.{needs}
-use Rattle.patch.proofs.clamps.clamps_of.Statement.{statement}
-use Rattle.patch.proofs.clamps.clamps_of.Tie as tie
+use Rattle.level_clamps.proofs.clamps_of.Statement.{statement}
+use Rattle.level_clamps.proofs.clamps_of.Tie as tie
 
 enum-known-patch : tie.Need-enum-known-patch
 enum-known-patch c = search needs

@@ -13,7 +13,7 @@ use Rattle.job.proofs.Records.{top-allowed}
 use Rattle.patch.specs.Subdivide.{discards}
 use Rattle.text.specs.Heads.{discardedLine}
 use Rattle.patch_text.specs.Answers.{drawnText}
-use Rattle.job_text.specs.Replies.{reply}
+use Rattle.record_text.specs.Replies.{reply}
 
 -- a record that was read is discarded or drawn
 pub never-eleven : (v : Version) (bs : List ℕ) (at : ℕ) (r : Record) (next : Cursor) → recordAt v bs at ≡ Read r next

@@ -1,0 +1,2 @@
+-- The definitions of `level_clamps`.
+pub mod Clamps

@@ -1,0 +1,2 @@
+-- The definitions of `record_text`.
+pub mod Replies
