@@ -1,7 +1,5 @@
 //! The text that `tsj` writes, or anybody else in its form. Whatever is not exactly of that form is told by its line.
 
-use crate::job::Record;
-
 pub enum Answer {
     Drawn { points: Vec<u32>, indices: Vec<u16> },
     Discarded,
@@ -87,8 +85,9 @@ impl<'a> Lines<'a> {
         }
     }
 
-    pub fn take_answer(&mut self, record_number: usize, record: &Record) -> Result<Answer, String> {
-        let what = format!("the answer of record {record_number}");
+    /// The answer of a record whose primitives have so many indices.
+    pub fn take_answer(&mut self, record: usize, primitive: usize) -> Result<Answer, String> {
+        let what = format!("the answer of record {record}");
         let line = self.take(&what)?;
         if line == "discarded" {
             return Ok(Answer::Discarded);
@@ -107,7 +106,7 @@ impl<'a> Lines<'a> {
         };
         Ok(Answer::Drawn {
             points: self.take_points(points)?,
-            indices: self.take_indices(indices, record.primitive())?,
+            indices: self.take_indices(indices, primitive)?,
         })
     }
 
