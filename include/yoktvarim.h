@@ -1,6 +1,11 @@
 /* Yoktvarim: tessellates a patch by the Vulkan rules, for C and C++.
  *
- * Link with target/staticlib/libyoktvarim.a, which `tools/library` proves and writes (x86-64 Linux).
+ * Link with target/staticlib/libyoktvarim.a, which `tools/library` proves and writes (x86-64 Linux); or, after `tools/install PREFIX`,
+ * with what `pkg-config --cflags --libs yoktvarim` prints.
+ *
+ * In this order: measuring a patch and drawing it, job files, drawing with floats, checking a mesh, replaying a recording, two
+ * designers on shared lists, comparing two meshes. docs/rules.md has the numbers of all answers in one table. Comments leave the
+ * beginning of a name out: DRAWN is YOKTVARIM_DRAWN, and WRITTEN, of job files, YOKTVARIM_JOB_WRITTEN.
  *
  *     static uint32_t vertices[YOKTVARIM_VERTEX_WORDS];
  *     static uint16_t indices[YOKTVARIM_INDEX_WORDS];
@@ -32,15 +37,16 @@ extern "C" {
 #define YOKTVARIM_MUST_USE
 #endif
 
-/* What a call answers. No other number is ever given. 0 is the one yes: ask yoktvarim_is_drawn, not `if (answer)`. */
+/* What measuring and drawing answer. No other number is ever given. 0 is the one yes: ask yoktvarim_is_drawn, not `if (answer)`, which
+ * takes every refusal for a yes. */
 typedef enum yoktvarim_answer {
-    YOKTVARIM_DRAWN = 0,                /* *count points, or *count indices, were written */
-    YOKTVARIM_MEASURED = 0,             /* what yoktvarim_measure's 0 means: so many would be written */
+    YOKTVARIM_DRAWN = 0,                /* as many points, or indices, as the count says were written */
+    YOKTVARIM_MEASURED = 0,             /* 0 from yoktvarim_measure: as many as the counts say would be written */
     YOKTVARIM_DISCARDED = 1,            /* an outer level that counts is NaN or not above 0 */
     /* 2 meant more points than an index can number, which no patch has; it is not used again */
     YOKTVARIM_NO_ROOM_FOR_VERTICES = 3, /* the vertex list has under 3 words a point */
     YOKTVARIM_NO_ROOM_FOR_INDICES = 4,  /* the index list is too short */
-    YOKTVARIM_UNKNOWN_SETTING = 8,      /* the count is the place, 0 to 4, of the first setting that is out of range */
+    YOKTVARIM_UNKNOWN_SETTING = 8,      /* the count, or counts[0], is the place, 0 to 4, of the first setting out of range */
     YOKTVARIM_NO_ROOM_FOR_FLOATS = 9,   /* the float list has under 3 words a point */
     YOKTVARIM_BAD_TOP = 11              /* the top is not an even number from 2 to 64 */
 } yoktvarim_answer;
@@ -126,17 +132,20 @@ enum {
     YOKTVARIM_ONE_IN_QUADS = 65536       /* quads and isolines, whose w is 0 */
 };
 
-/* Every call takes memory of the caller's: no pointer is NULL, not even that of a list of 0 words, each is aligned for its type,
- * and what is written (the list, the counts and the clamps) overlaps nothing else that is passed. Nothing else is asked, whatever
- * the numbers are, and nothing is kept once the call is over.
+/* Of every call in this header: all memory is the caller's. No pointer is NULL, not even that of a list of 0 words, each is aligned for
+ * its type, and what a call writes overlaps nothing else that is passed to it; what is only read may overlap. Nothing else is asked,
+ * whatever the numbers are, and nothing is kept once the call is over. There is no heap: a call takes up to about 20 kB of the stack for
+ * drawing, 40 kB for comparing, 120 kB for replaying and 140 kB for checking a mesh, as measured.
  *
- * BAD_TOP is told before everything else, UNKNOWN_SETTING next, and of the other answers the lowest number that applies.
+ * Of measuring and drawing: counts are always written. Beside UNKNOWN_SETTING the first, or only, one is the setting's place; beside
+ * every other refusal all are 0. Where several refusals apply, BAD_TOP comes first, then UNKNOWN_SETTING, then the lowest number.
  *
- * Counts are always written. Beside UNKNOWN_SETTING the first, or only, one is the setting's place; whatever is not told is 0. */
+ * Other calls have an order of their own, which is given with them: drawing on shared lists looks at the state before the settings, and
+ * writing a record looks at the version before the top. */
 
 /* How many points and indices drawing would write, without lists: MEASURED, DISCARDED, UNKNOWN_SETTING or BAD_TOP.
- * Beside MEASURED counts[0] is the number of points and counts[1] that of indices; drawing needs 3 * counts[0] words for
- * vertices and counts[1] for indices.
+ * counts has two words. Beside MEASURED counts[0] is the number of points and counts[1] that of indices; drawing needs 3 * counts[0]
+ * words for vertices and counts[1] for indices.
  * All of clamps is always written: beside MEASURED, BELOW, INSIDE or ABOVE for each level that counts, and NOT_TOLD elsewhere. */
 YOKTVARIM_MUST_USE yoktvarim_answer yoktvarim_measure(const yoktvarim_settings *settings, const yoktvarim_levels *levels,
                                                       uint32_t *counts, yoktvarim_clamps *clamps);
@@ -163,8 +172,8 @@ YOKTVARIM_MUST_USE yoktvarim_answer yoktvarim_draw_points(const yoktvarim_settin
 /* Writes the indices of the patch, which number its points from 0, to indices, which has index_words words; *count is how many.
  * DRAWN, DISCARDED, NO_ROOM_FOR_INDICES, UNKNOWN_SETTING or BAD_TOP.
  * Indices may be kept while points are drawn again: two patches of the same kind, point mode, vertex order and origin, neither
- * discarded, have equal indices if each level that counts gives as many segments (an inner level's 1 raised as the rules say) and
- * both are the plain patch, which nothing divides, or neither is. */
+ * discarded, have equal indices if both are the plain patch, which nothing divides, or if neither is and each level that counts
+ * gives as many segments (an inner level's 1 raised as the rules say). */
 YOKTVARIM_MUST_USE yoktvarim_answer yoktvarim_draw_indices(const yoktvarim_settings *settings, const yoktvarim_levels *levels,
                                                            uint16_t *indices, size_t index_words, uint32_t *count);
 
@@ -194,9 +203,10 @@ typedef enum yoktvarim_job_answer {
     YOKTVARIM_JOB_NOT_A_JOB = 5,       /* under 5 bytes, or another mark */
     YOKTVARIM_JOB_UNKNOWN_VERSION = 6, /* the version is neither 1 nor 2 */
     YOKTVARIM_JOB_CUT_RECORD = 7,      /* the file ends within the record */
-    YOKTVARIM_JOB_UNKNOWN_SETTING = 8, /* a setting is out of range; its place is told beside it */
+    YOKTVARIM_JOB_UNKNOWN_SETTING = 8, /* a setting is out of range; *count of writing, *place of reading is its place */
     YOKTVARIM_JOB_NO_ROOM = 10,        /* the list is too short for a header or a record */
-    YOKTVARIM_JOB_BAD_TOP = 11,        /* of writing: the top is none that the version can hold; version 1 holds 64 only */
+    YOKTVARIM_JOB_BAD_TOP = 11,        /* of writing: the version cannot hold the top; version 1 holds 64 only, version 2 the even
+                                        * numbers from 2 to 64 */
     YOKTVARIM_JOB_END = 255            /* of reading a record: no byte is left, which is no refusal and no record */
 } yoktvarim_job_answer;
 
@@ -213,18 +223,19 @@ typedef struct yoktvarim_patterns {
 } yoktvarim_patterns;
 
 /* Writes the header of a job file of a version, 1 or 2, to the front of bytes, which has length bytes; *count is how many, 5.
- * WRITTEN, UNKNOWN_VERSION, NO_ROOM. Every answer but WRITTEN leaves all bytes as they were, and has the count 0. */
+ * WRITTEN; else what comes first of UNKNOWN_VERSION and NO_ROOM. Every answer but WRITTEN leaves all bytes as they were, and has the
+ * count 0. */
 YOKTVARIM_MUST_USE yoktvarim_job_answer yoktvarim_write_header(uint32_t version, uint8_t *bytes, size_t length, uint32_t *count);
 
 /* Writes a record in the form of a version to the front of bytes; *count is how many, 29 or 30. WRITTEN; else what comes first of
- * UNKNOWN_VERSION, BAD_TOP, UNKNOWN_SETTING and NO_ROOM. Every answer but WRITTEN leaves all bytes as they were; beside
+ * UNKNOWN_VERSION, BAD_TOP, UNKNOWN_SETTING and NO_ROOM, in this order. Every answer but WRITTEN leaves all bytes as they were; beside
  * UNKNOWN_SETTING *count is the place, 0 to 4, of the first setting that is out of range, else it is 0. */
 YOKTVARIM_MUST_USE yoktvarim_job_answer yoktvarim_write_record(uint32_t version, const yoktvarim_settings *settings,
                                                                const yoktvarim_patterns *patterns, uint8_t *bytes, size_t length,
                                                                uint32_t *count);
 
-/* Reads the header of a job file of length bytes. READ, NOT_A_JOB, UNKNOWN_VERSION. *version is 1 or 2 beside READ, else 0. The first
- * record is at byte 5. */
+/* Reads the header of a job file of length bytes. READ; else what comes first of NOT_A_JOB and UNKNOWN_VERSION. *version is 1 or 2 beside
+ * READ, else 0. The first record is at byte 5. */
 YOKTVARIM_MUST_USE yoktvarim_job_answer yoktvarim_read_header(const uint8_t *bytes, size_t length, uint32_t *version);
 
 /* Reads the record at a place of a job file whose header said this version:
@@ -237,11 +248,11 @@ YOKTVARIM_MUST_USE yoktvarim_job_answer yoktvarim_read_header(const uint8_t *byt
  *             use(&settings, &patterns);
  *     }
  *
- * READ; else END where no byte is left, whatever the version; else UNKNOWN_VERSION, CUT_RECORD or UNKNOWN_SETTING.
- * All that is lent is always written. *next is where to read on: past the record beside READ and UNKNOWN_SETTING, else length, so
- * that every answer but END moves on and a loop like the above ends. *place is the place of the first unknown setting, 0 to 4, or 5
- * for the top, else 0. settings and patterns are the record's beside READ, with the top 64 in version 1. Else all of them are 0:
- * whoever takes those for a record gets BAD_TOP from every call. */
+ * READ; else what comes first of END (no byte is left at this place, whatever the version), UNKNOWN_VERSION, CUT_RECORD and
+ * UNKNOWN_SETTING. settings, patterns, next and place are always written. *next is where to read on: past the record beside READ and
+ * UNKNOWN_SETTING, else length, so that every answer but END moves on and a loop like the above ends. *place is the place of the first
+ * unknown setting, 0 to 4, or 5 for the top, else 0. settings and patterns are the record's beside READ, with the top 64 in version 1.
+ * Else all of them are 0: a caller who takes those for a record gets BAD_TOP from every call that takes settings. */
 YOKTVARIM_MUST_USE yoktvarim_job_answer yoktvarim_read_record(const uint8_t *bytes, size_t length, uint32_t version, size_t at,
                                                               yoktvarim_settings *settings, yoktvarim_patterns *patterns, size_t *next,
                                                               uint32_t *place);
@@ -276,13 +287,14 @@ YOKTVARIM_MUST_USE static inline yoktvarim_levels yoktvarim_levels_of(const yokt
 
 YOKTVARIM_ASSERT(sizeof(yoktvarim_job_answer) == 4, "an answer is 32 bits: compile without -fshort-enums");
 YOKTVARIM_ASSERT(sizeof(yoktvarim_patterns) == sizeof(yoktvarim_levels), "a pattern for each level");
+
 /* Draws points, indices and floats by one call, into all three lists or none: all room is tested before anything is written.
  * vertices and indices get what yoktvarim_draw_points and yoktvarim_draw_indices write; floats, which has float_words words, gets
  * the three coordinates of each point once more, each as a float from 0 to 1: the whole number divided once by
  * YOKTVARIM_ONE_IN_TRIANGLES or YOKTVARIM_ONE_IN_QUADS. For quads and isolines that is exact; for triangles it differs from the
  * quotient by at most 2^-25, and 0 and 1 are exact. A greater coordinate is a greater float. The three floats of a triangle's point
  * need not add up to 1.
- * Beside DRAWN counts[0] is the number of points and counts[1] that of indices; 3 * counts[0] floats were written.
+ * counts has two words. Beside DRAWN counts[0] is the number of points and counts[1] that of indices; 3 * counts[0] floats were written.
  * DRAWN, DISCARDED, NO_ROOM_FOR_VERTICES, NO_ROOM_FOR_INDICES, UNKNOWN_SETTING, NO_ROOM_FOR_FLOATS or BAD_TOP. */
 YOKTVARIM_MUST_USE yoktvarim_answer yoktvarim_draw_with_floats(const yoktvarim_settings *settings, const yoktvarim_levels *levels,
                                                                uint32_t *vertices, size_t vertex_words, uint16_t *indices,
@@ -291,8 +303,8 @@ YOKTVARIM_MUST_USE yoktvarim_answer yoktvarim_draw_with_floats(const yoktvarim_s
 
 /* Checking a mesh that anybody made for a patch. */
 
-/* What yoktvarim_check_mesh answers: accepted, or the first kind of fault in the order of the numbers, after BAD_TOP and
- * UNKNOWN_SETTING. No other number is given. 0 is the one yes: ask yoktvarim_is_accepted. Places count from 0: those of the index
+/* What yoktvarim_check_mesh answers: accepted, or what comes first of CHECK_BAD_TOP, CHECK_UNKNOWN_SETTING and the faults in the order of
+ * their numbers. No other number is ever given. 0 is the one yes: ask yoktvarim_is_accepted. Places count from 0: those of the index
  * list, points, triangles, a triangle's corners, and the outline's pieces along the walk. */
 typedef enum yoktvarim_verdict {
     YOKTVARIM_ACCEPTED = 0,                   /* no hole, no overlap and no turned triangle; or a discarded patch and two empty lists */
@@ -324,13 +336,15 @@ YOKTVARIM_MUST_USE static inline unsigned yoktvarim_is_accepted(yoktvarim_verdic
     return verdict == YOKTVARIM_ACCEPTED;
 }
 
-/* What replaying a recording answers. 0 is the one yes: ask yoktvarim_all_agree, not `if (answer)`. */
+/* What replaying a recording answers. No other number is ever given. 0 is the one yes: ask yoktvarim_all_agree, not `if (answer)`. A cut
+ * entry is reported only where all whole entries before it agree. */
 typedef enum yoktvarim_replay_answer {
     YOKTVARIM_ALL_AGREE = 0,              /* told->entry is the number of entries, 0 for a header alone */
     YOKTVARIM_REPLAY_NOT_A_RECORDING = 5, /* under 5 bytes, or they do not begin with "TSR" */
     YOKTVARIM_REPLAY_UNKNOWN_VERSION = 6, /* the version is not 1 */
     YOKTVARIM_REPLAY_CUT_ENTRY = 7,       /* every whole entry agrees, and 1 to 33 bytes are left after them */
-    YOKTVARIM_REPLAY_DIFFERS = 60         /* told->entry is the first entry that differs, counted from 0 */
+    YOKTVARIM_REPLAY_DIFFERS = 60         /* told->entry is the first entry that differs, counted from 0; recorded and replayed are
+                                           * its two sides */
 } yoktvarim_replay_answer;
 
 /* One side of an entry: the number of an answer and the counts of points and indices, which are 0 unless it is 0, drawn. What was
@@ -341,7 +355,7 @@ typedef struct yoktvarim_replay_side {
     uint64_t indices;
 } yoktvarim_replay_side;
 
-/* What is told of a recording: beside ALL_AGREE the number of entries alone, and beside DIFFERS all of it. */
+/* What is told of a recording: beside ALL_AGREE the number of entries alone, beside DIFFERS all of it; the rest is 0. */
 typedef struct yoktvarim_replay_told {
     uint64_t entry;
     yoktvarim_replay_side recorded;
@@ -370,7 +384,8 @@ YOKTVARIM_MUST_USE static inline unsigned yoktvarim_all_agree(yoktvarim_replay_a
  * ends both designs and begins this anew. Nothing is said of time: how long a call takes may depend on everything; and calls on one
  * state or on the same lists are not made at once. */
 
-/* What these calls answer, in the order in which they are looked for. No other number is ever given. */
+/* What these calls answer. No other number is ever given. 0 is the one yes: compare with YOKTVARIM_SHARE_DONE. Where several refusals
+ * apply, the first in this list is given; so BAD_STATE comes before UNKNOWN_SETTING and DISCARDED, whatever their numbers are. */
 typedef enum yoktvarim_share_answer {
     YOKTVARIM_SHARE_DONE = 0,                  /* started, cleared, or drawn: counts[0] points and counts[1] indices were appended */
     YOKTVARIM_SHARE_QUOTAS_TOO_LARGE = 12,     /* start: the quotas add up past a list */
@@ -416,14 +431,17 @@ YOKTVARIM_MUST_USE yoktvarim_share_answer yoktvarim_share_start(const uint32_t *
                                                                 size_t index_words, const yoktvarim_quota *quotas,
                                                                 yoktvarim_shared *state);
 
-/* Appends the points and the indices of a patch to the designer's part of each list. Both counts are always written. */
+/* Appends the points and the indices of a patch to the part of each list that designer 0 or 1 has. DONE; else what comes first of BAD_TOP,
+ * BAD_STATE, UNKNOWN_DESIGNER, UNKNOWN_SETTING, DISCARDED, TOO_MANY_POINTS, NO_ROOM_FOR_VERTICES and NO_ROOM_FOR_INDICES; then the state
+ * and both lists are as they were. counts has two words, both always written: points and indices beside DONE, the setting's place and 0
+ * beside UNKNOWN_SETTING, else 0 and 0. */
 YOKTVARIM_MUST_USE yoktvarim_share_answer yoktvarim_share_draw(yoktvarim_shared *state, uint32_t designer,
                                                                const yoktvarim_settings *settings, const yoktvarim_levels *levels,
                                                                uint32_t *vertices, size_t vertex_words, uint16_t *indices,
                                                                size_t index_words, uint32_t *counts);
 
 /* Gives the room of the designer's part back; its words stay until they are written over. Of the lists only the lengths are looked at.
- * DONE, BAD_STATE or UNKNOWN_DESIGNER. */
+ * DONE; else what comes first of BAD_STATE and UNKNOWN_DESIGNER. */
 YOKTVARIM_MUST_USE yoktvarim_share_answer yoktvarim_share_clear(yoktvarim_shared *state, uint32_t designer, const uint32_t *vertices,
                                                                 size_t vertex_words, const uint16_t *indices, size_t index_words);
 
@@ -433,15 +451,17 @@ YOKTVARIM_ASSERT(sizeof(yoktvarim_shared) == 80, "ten 64-bit numbers");
 
 /* Comparing two triangle meshes: what one has and the other has not. */
 
-/* What yoktvarim_compare_meshes answers. No other number is ever given, and 0 is the one yes. Every other answer leaves the list of
- * differences as it was. The left mesh is looked at first, then the right one, for each of these in turn. */
+/* What yoktvarim_compare_meshes answers. No other number is ever given. 0 is the one yes: compare with YOKTVARIM_COMPARED; it says that the
+ * meshes were compared, and *count whether they are the same. Every other answer leaves the list of differences as it was. Where several
+ * refusals apply, the three of the left mesh come first, in the order of their numbers, then the three of the right one, and
+ * NO_ROOM_FOR_DIFFERENCES last. */
 typedef enum yoktvarim_comparison {
-    YOKTVARIM_COMPARED = 0,             /* *count differences were written; 0 of them: the same points and the same triangles */
-    YOKTVARIM_NO_ROOM_FOR_DIFFERENCES = 40,/* the list has under 3 words for each of the *count differences */
-    YOKTVARIM_LEFT_NOT_THREES = 41,     /* the left mesh has point words or indices that are no multiple of three */
-    YOKTVARIM_LEFT_UNKNOWN_INDEX = 42,  /* it has an index past its points */
-    YOKTVARIM_LEFT_EQUAL_POINTS = 43,   /* it has two equal points */
-    YOKTVARIM_RIGHT_NOT_THREES = 44,    /* the same three of the right mesh */
+    YOKTVARIM_COMPARED = 0,                 /* *count differences were written; 0 of them: the same points and the same triangles */
+    YOKTVARIM_NO_ROOM_FOR_DIFFERENCES = 40, /* the list has under 3 words for each of the *count differences */
+    YOKTVARIM_LEFT_NOT_THREES = 41,         /* the number of the left mesh's point words or of its indices is no multiple of three */
+    YOKTVARIM_LEFT_UNKNOWN_INDEX = 42,      /* it has an index past its points */
+    YOKTVARIM_LEFT_EQUAL_POINTS = 43,       /* it has two equal points */
+    YOKTVARIM_RIGHT_NOT_THREES = 44,        /* the same three of the right mesh */
     YOKTVARIM_RIGHT_UNKNOWN_INDEX = 45,
     YOKTVARIM_RIGHT_EQUAL_POINTS = 46
 } yoktvarim_comparison;

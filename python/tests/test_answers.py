@@ -139,8 +139,31 @@ class Inputs(unittest.TestCase):
                 Settings(**wrong)
         with self.assertRaises(TypeError):
             yoktvarim.measure(SMALL, Spacing.EQUAL)
-        with self.assertRaises(TypeError):
-            yoktvarim.measure((1, 1, 1))
+
+    def test_what_is_no_patch(self):
+        for wrong in ((1, 1, 1), None, Triangles, Settings()):
+            with self.assertRaisesRegex(TypeError, "Triangles, Quads or Isolines"):
+                yoktvarim.measure(wrong)
+
+    def test_no_text_passes_for_a_level(self):
+        for make in (lambda: Triangles("111", 1), lambda: Triangles((1, 1, 1), "1"), lambda: Isolines(("1", "1")), lambda: Isolines(b"11")):
+            with self.assertRaisesRegex(TypeError, "takes numbers"):
+                make()
+
+    def test_a_derived_class_is_drawn_as_its_kind(self):
+        class Face(Triangles):
+            kind = 2
+
+        class Strip(Quads):
+            def __init__(self, levels):
+                object.__setattr__(self, "outer", levels)
+                object.__setattr__(self, "inner", (1, 1))
+
+        self.assertEqual(yoktvarim.mesh(Face((1, 1, 1), 2)), yoktvarim.mesh(SMALL))
+        self.assertEqual(yoktvarim.measure(Face((1, 1, 1), 100)).clamps, Clamps((Clamp.INSIDE,) * 3, (Clamp.ABOVE,)))
+        self.assertEqual(yoktvarim.mesh(Strip((1, 2, 3, 4))), yoktvarim.mesh(Quads((1, 2, 3, 4), (1, 1))))
+        with self.assertRaisesRegex(ValueError, "4 levels here, not 3"):
+            yoktvarim.mesh(Strip((1, 2, 3)))
 
 
 def load_tests(_loader, tests, _pattern):

@@ -80,6 +80,45 @@ class Files(unittest.TestCase):
         self.assertEqual(write_job(records, Version.ONE), BadTopInRecord(1))
         self.assertEqual(write_job([Record.of(Isolines((1, 1)), Settings(top=320))]), BadTopInRecord(0))
 
+    def test_a_derived_class_is_written_as_its_kind(self):
+        class Face(Triangles):
+            pass
+
+        class Tile(Quads):
+            pass
+
+        class Hair(Isolines):
+            pass
+
+        for derived, kind, levels in ((Face, Triangles, ((1, 2, 3), 4)), (Tile, Quads, ((1, 2, 3, 4), (5, 6))), (Hair, Isolines, ((1, 2),))):
+            record = Record.of(kind(*levels))
+            self.assertEqual(Record.of(derived(*levels)), record)
+            self.assertEqual(Record(derived, record.settings, record.bits), record)
+            self.assertEqual(Record(derived, record.settings, record.bits).patch, kind(*levels))
+            self.assertEqual(read_job(write_job([Record.of(derived(*levels))]).job).records, (record,))
+
+    def test_what_is_no_record(self):
+        bits = (0,) * 6
+        for kind in (int, object, Settings, None, 2, Isolines((1, 1))):
+            with self.assertRaisesRegex(TypeError, "kind has to be the class Triangles, Quads or Isolines"):
+                Record(kind, Settings(), bits)
+        with self.assertRaisesRegex(TypeError, "the class Triangles, Quads or Isolines"):
+            Record.of((1, 1, 1))
+        self.assertRaises(TypeError, Record, Isolines, None, bits)
+        for wrong in ((0,) * 5, (0,) * 7, (2**32, 0, 0, 0, 0, 0), (0, -1, 0, 0, 0, 0)):
+            with self.assertRaisesRegex(ValueError, "six numbers from 0 to"):
+                Record(Isolines, Settings(), wrong)
+        self.assertRaises(TypeError, Record, Isolines, Settings(), (1.0,) * 6)
+
+    def test_what_cannot_be_written(self):
+        for version in (1, 2, None, Spacing.FRACTIONAL_EVEN):
+            with self.assertRaisesRegex(TypeError, "version has to be of type Version"):
+                write_job([], version)
+        good = Record.of(Isolines((1, 1)))
+        for wrong in (UnknownSetting(3), CutRecord(), Isolines((1, 1))):
+            with self.assertRaisesRegex(TypeError, "record 1 has to be of type Record"):
+                write_job([good, wrong])
+
     def test_what_cannot_be_read(self):
         for wrong in (b"", b"TSJ\x01", b"TSR\x01\x00"):
             self.assertEqual(read_job(wrong), NotAJob())

@@ -23,6 +23,7 @@ from yoktvarim import (
     QuotasTooLarge,
     Settings,
     Shared,
+    Spacing,
     TooManyPoints,
     Triangles,
 )
@@ -102,6 +103,37 @@ class Lists(unittest.TestCase):
         for first, second in ((Quota(5, 5), Quota(6, 5)), (Quota(5, 6), Quota(5, 5)), (Quota(2**64 - 1, 0), Quota(2**64 - 1, 0))):
             self.assertEqual(Shared.start(vertices, indices, first, second), QuotasTooLarge())
         self.assertRaises(ValueError, Shared.start, vertices, indices, Quota(-1, 0), Quota(0, 0))
+
+    def test_quotas_past_the_largest_number(self):
+        vertices, indices = array("I", bytes(40)), array("H", bytes(20))
+        for large in (2**64 - 1, 2**64, 2**64 + 5, 2**100):
+            for at in range(4):
+                words = [0, 0, 0, 0]
+                words[at] = large
+                answer = Shared.start(vertices, indices, Quota(*words[:2]), Quota(*words[2:]))
+                self.assertEqual(answer, QuotasTooLarge(), words)
+        self.assertEqual((vertices, indices), (array("I", bytes(40)), array("H", bytes(20))))
+
+    def test_what_is_no_quota(self):
+        vertices, indices, good = array("I", bytes(40)), array("H", bytes(20)), Quota(1, 1)
+        with self.assertRaisesRegex(ValueError, "second.indices has to be a number of words from 0 on, not -1"):
+            Shared.start(vertices, indices, good, Quota(0, -1))
+        with self.assertRaisesRegex(ValueError, "first.vertices has to be a number of words from 0 on"):
+            Shared.start(vertices, indices, Quota(-(2**64), 0), good)
+        for wrong in (1.0, "1", None):
+            with self.assertRaisesRegex(TypeError, "first.vertices has to be a whole number of words"):
+                Shared.start(vertices, indices, Quota(wrong, 0), good)
+        for wrong in (3, (1, 1), None):
+            with self.assertRaisesRegex(TypeError, "second has to be of type Quota"):
+                Shared.start(vertices, indices, good, wrong)
+
+    def test_what_is_no_designer(self):
+        shared = Shared.start(array("I", bytes(80)), array("H", bytes(40)), Quota(12, 9), Quota(0, 0))
+        for wrong in (0, 1, None, Spacing.EQUAL, True):
+            for call in (lambda: shared.draw(wrong, SMALL, Settings()), lambda: shared.clear(wrong), lambda: shared.used(wrong)):
+                with self.assertRaisesRegex(TypeError, "designer has to be of type Designer"):
+                    call()
+        self.assertEqual(shared.used(Designer.FIRST), Quota(0, 0))
 
     def test_a_list_of_another_length(self):
         vertices, indices = array("I", bytes(80)), array("H", bytes(40))

@@ -19,7 +19,7 @@ from .answers import (
 from .calls import LEVELS, SETTINGS, numbers, refused
 from .library import Function, LibraryMismatch
 from .lists import U16, U32, lent
-from .patch import Isolines, Patch, Settings, Triangles
+from .patch import Isolines, Patch, Quads, Settings, Triangles, patch_kind
 
 # Lists of these sizes have room for every patch at every top: 4,225 points of 3 words each, and 8,192 triangles.
 VERTEX_WORDS = 12675
@@ -35,10 +35,13 @@ _draw_points = Function("yoktvarim_draw_points", SETTINGS, LEVELS, POINTER(c_uin
 _draw_indices = Function("yoktvarim_draw_indices", SETTINGS, LEVELS, POINTER(c_uint16), c_size_t, POINTER(c_uint32))
 
 
+# How many outer and how many inner levels count.
+_LEVELS = {Triangles: (3, 1), Quads: (4, 2), Isolines: (2, 0)}
+
+
 def _clamps(patch: Patch, told: Tuple[int, ...]) -> Clamps:
     """The six bytes of a call that measured this patch; those of levels that do not count are not looked at."""
-    inner = 0 if isinstance(patch, Isolines) else 1 if isinstance(patch, Triangles) else 2
-    outer = len(patch.outer)
+    outer, inner = _LEVELS[patch_kind(patch)]
     return Clamps(tuple(map(Clamp, told[:outer])), tuple(map(Clamp, told[4 : 4 + inner])))
 
 
@@ -75,8 +78,8 @@ def draw_indices(patch: Patch, settings: Settings, indices: Any) -> IndicesAnswe
     stands against it, and the list has not changed then.
 
     Indices may be kept while points are drawn again: two patches of the same kind, point mode, vertex order and origin,
-    neither discarded, have equal indices if each of their levels gives as many segments (an inner level's 1 raised as the
-    rules say) and both are the plain patch, which nothing divides, or neither is.
+    neither discarded, have equal indices if both are the plain patch, which nothing divides, or if neither is and each of
+    their levels gives as many segments (an inner level's 1 raised as the rules say).
 
     >>> indices = array("H", bytes(2 * INDEX_WORDS))
     >>> draw_indices(Triangles(outer=(1, 1, 1), inner=2), Settings(), indices)

@@ -10,17 +10,31 @@ the same bytes.
     True
 """
 
+import operator
 import struct
 from ctypes import POINTER, c_size_t, c_uint8, c_uint32
 from dataclasses import dataclass
 from enum import Enum
-from typing import Any, Iterable, Iterator, Tuple, Union
+from typing import Any, Iterable, Iterator, Sequence, Tuple, Union
 
 from .answers import Answer
 from .calls import SETTINGS, numbers, refused
 from .library import Function
 from .lists import U8, Words, shown
-from .patch import DomainOrigin, Isolines, Patch, Quads, Settings, Spacing, Triangles, VertexOrder
+from .patch import (
+    KINDS,
+    DomainOrigin,
+    Isolines,
+    Patch,
+    Quads,
+    Settings,
+    Spacing,
+    Triangles,
+    VertexOrder,
+    kind_of,
+    must_be,
+    patch_kind,
+)
 
 _BYTES, _BITS, _COUNT = (POINTER(c_uint8), c_size_t), POINTER(c_uint32), POINTER(c_uint32)
 _write_header = Function("yoktvarim_write_header", c_uint32, *_BYTES, _COUNT)
@@ -31,7 +45,6 @@ _read_record = Function("yoktvarim_read_record", *_BYTES, c_uint32, c_size_t, SE
 _HEADER_BYTES = 5
 _RECORD_BYTES = 30  # at most
 _END = 255  # what reading a record answers where no byte is left
-_KINDS = (Triangles, Quads, Isolines)
 
 
 class Version(Enum):
@@ -41,19 +54,32 @@ class Version(Enum):
     TWO = 2
 
 
+def _six_words(bits: Sequence[int]) -> Tuple[int, ...]:
+    found = tuple(operator.index(word) for word in bits)
+    if len(found) != 6 or not all(0 <= word < 2**32 for word in found):
+        raise ValueError(f"bits are six numbers from 0 to 2**32 - 1, not {found}")
+    return found
+
+
 @dataclass(frozen=True)
 class Record:
     """A record: the kind of its patch, its settings, and the bits of all six levels, outer one to four, inner one and two; those that do
-    not count for the kind too, and every bit of a NaN."""
+    not count for the kind too, and every bit of a NaN. The kind is Triangles, Quads or Isolines; of a class that is derived from one of
+    these, that one is kept."""
 
     kind: type
     settings: Settings
     bits: Tuple[int, ...]
 
+    def __post_init__(self) -> None:
+        object.__setattr__(self, "kind", kind_of("kind", self.kind))
+        must_be("settings", self.settings, Settings)
+        object.__setattr__(self, "bits", _six_words(self.bits))
+
     @classmethod
     def of(cls, patch: Patch, settings: Settings = Settings()) -> "Record":
         """The record of a patch, with 0 for levels that do not count."""
-        return cls(type(patch), settings, struct.unpack("=6I", bytes(numbers(patch, settings)[1])))
+        return cls(patch_kind(patch), settings, struct.unpack("=6I", bytes(numbers(patch, settings)[1])))
 
     @property
     def patch(self) -> Patch:
@@ -119,12 +145,14 @@ class BadTopInRecord(Answer):
 
 def write_job(records: Iterable[Record], version: Version = Version.TWO) -> Union[JobWritten, BadTopInRecord]:
     """The job file of some records."""
+    must_be("version", version, Version)
     room, count = (c_uint8 * _RECORD_BYTES)(), (c_uint32 * 1)()
     number = _write_header(version.value, room, len(room), count)
     if number != JobWritten.number:
         return refused(number)
     job = bytearray(room[: count[0]])
     for at, record in enumerate(records):
+        must_be(f"record {at}", record, Record)
         settings, _ = numbers(record.patch, record.settings)
         number = _write_record(version.value, settings, (c_uint32 * 6)(*record.bits), room, len(room), count)
         if number == BadTopInRecord.number:
@@ -153,7 +181,7 @@ def _records(job: Words, version: int) -> Iterator[Union[Record, UnknownSetting,
         if number == Job.number:
             kind, spacing, order, origin, dots, top = settings
             said = Settings(Spacing(spacing), VertexOrder(order), DomainOrigin(origin), bool(dots), top)
-            yield Record(_KINDS[kind], said, tuple(bits))
+            yield Record(KINDS[kind], said, tuple(bits))
         elif number == UnknownSetting.number:
             yield UnknownSetting(place[0])
         else:

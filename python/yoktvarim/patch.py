@@ -3,7 +3,7 @@
 import operator
 from dataclasses import dataclass
 from enum import Enum
-from typing import ClassVar, Sequence, Tuple, Union
+from typing import Any, Sequence, Tuple, Union
 
 # What stands for 1: in a triangle patch u, v and w of a point add up to the first; quads and isolines have the second, and w is 0.
 ONE_IN_TRIANGLES = 196608
@@ -33,8 +33,17 @@ class DomainOrigin(Enum):
     LOWER_LEFT = 1
 
 
+def _level(name: str, level: Any) -> float:
+    """A number as a level. Text is none, even where it spells one."""
+    if isinstance(level, (str, bytes, bytearray)):
+        raise TypeError(f"{name} takes numbers, not {level!r}")
+    return float(level)
+
+
 def _levels(name: str, levels: Sequence[float], count: int) -> Tuple[float, ...]:
-    found = tuple(float(level) for level in levels)
+    if isinstance(levels, (str, bytes, bytearray)):
+        raise TypeError(f"{name} takes numbers, not {levels!r}")
+    found = tuple(_level(name, level) for level in levels)
     if len(found) != count:
         raise ValueError(f"{name} has {count} levels here, not {len(found)}")
     return found
@@ -48,20 +57,18 @@ def _levels(name: str, levels: Sequence[float], count: int) -> Tuple[float, ...]
 class Triangles:
     """Outer levels of the edges u = 0, v = 0 and w = 0, and the inner level."""
 
-    kind: ClassVar[int] = 0
     outer: Sequence[float]
     inner: float
 
     def __post_init__(self) -> None:
         object.__setattr__(self, "outer", _levels("outer", self.outer, 3))
-        object.__setattr__(self, "inner", float(self.inner))
+        object.__setattr__(self, "inner", _level("inner", self.inner))
 
 
 @dataclass(frozen=True)
 class Quads:
     """Outer levels of the edges u = 0, v = 0, u = 1 and v = 1; inner levels of the rows and of the columns."""
 
-    kind: ClassVar[int] = 1
     outer: Sequence[float]
     inner: Sequence[float]
 
@@ -74,7 +81,6 @@ class Quads:
 class Isolines:
     """How many lines, and how many segments along each."""
 
-    kind: ClassVar[int] = 2
     outer: Sequence[float]
 
     def __post_init__(self) -> None:
@@ -83,10 +89,27 @@ class Isolines:
 
 Patch = Union[Triangles, Quads, Isolines]
 
+# The kinds of patches, at their numbers in a job file.
+KINDS = (Triangles, Quads, Isolines)
 
-def _is(name: str, value: object, of: type) -> None:
+
+def kind_of(name: str, kind: Any) -> type:
+    """The kind that a class is or is derived from."""
+    for known in KINDS:
+        if isinstance(kind, type) and issubclass(kind, known):
+            return known
+    raise TypeError(f"{name} has to be the class Triangles, Quads or Isolines, or one derived from these, not {kind!r}")
+
+
+def patch_kind(patch: Patch) -> type:
+    """The kind of a patch."""
+    return kind_of("the type of a patch", type(patch))
+
+
+def must_be(name: str, value: object, of: type) -> None:
+    """Refuses a value of another type."""
     if not isinstance(value, of):
-        raise TypeError(f"{name} has to be a {of.__name__}, not {value!r}")
+        raise TypeError(f"{name} has to be of type {of.__name__}, not {value!r}")
 
 
 @dataclass(frozen=True)
@@ -105,30 +128,31 @@ class Settings:
     top: int = GREATEST_TOP
 
     def __post_init__(self) -> None:
-        _is("spacing", self.spacing, Spacing)
-        _is("vertex_order", self.vertex_order, VertexOrder)
-        _is("domain_origin", self.domain_origin, DomainOrigin)
-        _is("point_mode", self.point_mode, bool)
+        must_be("spacing", self.spacing, Spacing)
+        must_be("vertex_order", self.vertex_order, VertexOrder)
+        must_be("domain_origin", self.domain_origin, DomainOrigin)
+        must_be("point_mode", self.point_mode, bool)
         object.__setattr__(self, "top", operator.index(self.top))
 
 
 def six_levels(patch: Patch) -> Tuple[float, ...]:
     """The six levels of a call: outer one to four, inner one and two; 0 where none counts."""
-    if isinstance(patch, Triangles):
-        return (*patch.outer, 0.0, patch.inner, 0.0)
-    if isinstance(patch, Quads):
-        return (*patch.outer, *patch.inner)
-    _is("patch", patch, Isolines)
-    return (*patch.outer, 0.0, 0.0, 0.0, 0.0)
+    kind = patch_kind(patch)
+    # A class derived from a kind may have skipped the tests of its base, so the levels are counted here too.
+    if kind is Triangles:
+        return (*_levels("outer", patch.outer, 3), 0.0, _level("inner", patch.inner), 0.0)
+    if kind is Quads:
+        return (*_levels("outer", patch.outer, 4), *_levels("inner", patch.inner, 2))
+    return (*_levels("outer", patch.outer, 2), 0.0, 0.0, 0.0, 0.0)
 
 
 def setting_bytes(patch: Patch, settings: Settings) -> Tuple[int, ...]:
     """The six setting bytes of a call, numbered as in a job file of version 2."""
-    _is("settings", settings, Settings)
+    must_be("settings", settings, Settings)
     # No number that does not fit a byte is a top; 0 is none either.
     top = settings.top if 0 <= settings.top <= 255 else 0
     return (
-        patch.kind,
+        KINDS.index(patch_kind(patch)),
         settings.spacing.value,
         settings.vertex_order.value,
         settings.domain_origin.value,

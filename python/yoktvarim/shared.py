@@ -18,6 +18,7 @@ Take any calls since a start, with nobody else writing the two lists. What one d
 the own part) is then the same as if the other had made none of them. Nothing is promised about time, and calls are not made at once.
 """
 
+import operator
 from ctypes import POINTER, c_size_t, c_uint16, c_uint32, c_uint64
 from dataclasses import dataclass
 from enum import Enum
@@ -27,7 +28,7 @@ from .answers import Answer, BadTop, Discarded, NoRoomForIndices, NoRoomForVerti
 from .calls import LEVELS, SETTINGS, numbers, refused
 from .library import Function
 from .lists import U16, U32, Words, keep_apart, lent
-from .patch import Patch, Settings
+from .patch import Patch, Settings, must_be
 
 _LISTS = (POINTER(c_uint32), c_size_t, POINTER(c_uint16), c_size_t)
 _STATE = POINTER(c_uint64)
@@ -45,7 +46,7 @@ class Designer(Enum):
 
 @dataclass(frozen=True)
 class Quota:
-    """Words of both lists."""
+    """Words of both lists: whole numbers from 0 on, of any size."""
 
     vertices: int
     indices: int
@@ -108,9 +109,7 @@ class Shared:
     def start(cls, vertices: Any, indices: Any, first: Quota, second: Quota) -> Union["Shared", QuotasTooLarge]:
         """Gives both designers their quotas of two lists; nothing is used of either part. Whoever shared these lists before has ended."""
         shared = cls(vertices, indices)
-        quotas = (first.vertices, first.indices, second.vertices, second.indices)
-        if not all(0 <= quota < 2**64 for quota in quotas):
-            raise ValueError(f"a quota is a number of words, from 0 on: {quotas}")
+        quotas = (*_asked("first", first), *_asked("second", second))
         number = _start(*_both(shared._lists()), (c_uint64 * 4)(*quotas), shared._state)
         return shared if number == 0 else refused(number, QuotasTooLarge)
 
@@ -118,6 +117,7 @@ class Shared:
         """Appends the points and the indices of the patch to the designer's part of each list, or neither; the indices count from the
         part's beginning. NoRoomForVertices and NoRoomForIndices mean that too little is left of the designer's quota. Every answer but
         PartDrawn leaves everything as it was."""
+        must_be("designer", designer, Designer)
         counts = (c_uint32 * 2)()
         number = _draw(self._state, designer.value, *numbers(patch, settings), *_both(self._lists()), counts)
         if number == PartDrawn.number:
@@ -126,11 +126,30 @@ class Shared:
 
     def clear(self, designer: Designer) -> Union[Cleared, BadState]:
         """Gives the room of the designer's part back."""
+        must_be("designer", designer, Designer)
         return refused(_clear(self._state, designer.value, *_both(self._lists())), Cleared, BadState)
 
     def used(self, designer: Designer) -> Quota:
         """How many words of both lists the designer has used, from the part's first word on."""
+        must_be("designer", designer, Designer)
         return Quota(self._state[2 + 2 * designer.value], self._state[7 + 2 * designer.value])
+
+
+def _asked(name: str, quota: Quota) -> Tuple[int, int]:
+    """A quota as the library takes it."""
+    must_be(name, quota, Quota)
+    return _word_count(f"{name}.vertices", quota.vertices), _word_count(f"{name}.indices", quota.indices)
+
+
+def _word_count(name: str, count: Any) -> int:
+    """A number of words. The largest number stands for every larger one: no list has so many words, so both are answered alike."""
+    try:
+        words = operator.index(count)
+    except TypeError:
+        raise TypeError(f"{name} has to be a whole number of words, not {count!r}") from None
+    if words < 0:
+        raise ValueError(f"{name} has to be a number of words from 0 on, not {words}")
+    return min(words, 2**64 - 1)
 
 
 def _both(lists: Tuple[Words, Words]) -> Tuple[Any, ...]:

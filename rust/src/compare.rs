@@ -112,17 +112,13 @@ pub fn compare_meshes(left: MeshWords, right: MeshWords, differences: &mut [u64]
     match number {
         0 => Comparison::Differences { count },
         40 => Comparison::NoRoom { count },
-        41..=43 => Comparison::LeftRefused(fault(number - 41)),
-        44..=46 => Comparison::RightRefused(fault(number - 44)),
+        41 => Comparison::LeftRefused(MeshFault::NotThrees),
+        42 => Comparison::LeftRefused(MeshFault::UnknownIndex),
+        43 => Comparison::LeftRefused(MeshFault::EqualPoints),
+        44 => Comparison::RightRefused(MeshFault::NotThrees),
+        45 => Comparison::RightRefused(MeshFault::UnknownIndex),
+        46 => Comparison::RightRefused(MeshFault::EqualPoints),
         _ => unreachable!("the answer is 0 or 40 to 46 and not {number}"),
-    }
-}
-
-fn fault(place: u32) -> MeshFault {
-    match place {
-        0 => MeshFault::NotThrees,
-        1 => MeshFault::UnknownIndex,
-        _ => MeshFault::EqualPoints,
     }
 }
 

@@ -54,8 +54,8 @@ pub fn draw_points(patch: &Patch, settings: &Settings, vertices: &mut [u32]) -> 
 /// were, and every answer but `Drawn` leaves the whole list as it was.
 ///
 /// Indices may be kept while points are drawn again: two patches of the same kind, point mode, vertex order and origin,
-/// neither discarded, have equal indices if each of their levels gives as many segments (an inner level's 1 raised as the
-/// rules say) and both are the plain patch, which nothing divides, or neither is.
+/// neither discarded, have equal indices if both are the plain patch, which nothing divides, or if neither is and each of
+/// their levels gives as many segments (an inner level's 1 raised as the rules say).
 ///
 /// ```
 /// use yoktvarim::{

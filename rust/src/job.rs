@@ -301,25 +301,37 @@ fn record_of(read: &RecordRead) -> Record {
         kind: match kind {
             0 => Kind::Triangles,
             1 => Kind::Quads,
-            _ => Kind::Isolines,
+            2 => Kind::Isolines,
+            _ => out_of_range("kind", kind),
         },
         settings: Settings {
             spacing: match spacing {
                 0 => Spacing::Equal,
                 1 => Spacing::FractionalEven,
-                _ => Spacing::FractionalOdd,
+                2 => Spacing::FractionalOdd,
+                _ => out_of_range("spacing", spacing),
             },
             vertex_order: match order {
                 0 => VertexOrder::Clockwise,
-                _ => VertexOrder::CounterClockwise,
+                1 => VertexOrder::CounterClockwise,
+                _ => out_of_range("vertex order", order),
             },
             domain_origin: match origin {
                 0 => DomainOrigin::UpperLeft,
-                _ => DomainOrigin::LowerLeft,
+                1 => DomainOrigin::LowerLeft,
+                _ => out_of_range("origin", origin),
             },
-            point_mode: point_mode != 0,
+            point_mode: match point_mode {
+                0 => false,
+                1 => true,
+                _ => out_of_range("point mode", point_mode),
+            },
             top,
         },
         patterns: read.patterns,
     }
+}
+
+fn out_of_range(name: &str, byte: u8) -> ! {
+    unreachable!("a record that was read has a known {name} and not {byte}")
 }
