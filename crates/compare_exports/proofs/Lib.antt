@@ -1,2 +1,3 @@
 -- The laws of the exported call.
 pub mod Numbers
+pub mod Exactly

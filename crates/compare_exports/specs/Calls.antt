@@ -1,15 +1,23 @@
 -- What a call answers and leaves behind, for every input: lp and li are the words of the left mesh, rp and ri those of the right one,
 -- xs and xs′ the list of differences at entry and at exit, and c′ the count at exit. Assumes nothing.
 use Prim.Native.Nat.{ℕ}
-use mathlib.Core.List.{List}
+use mathlib.Core.Path.{_≡_}
+use mathlib.Core.List.{List, [], _∷_}
+use mathlib.Core.Logic.{_↔_}
 use lib.ListN.{length, getD}
 use Rattle.tessellate.specs.Answers.{Told}
 use Rattle.exports.specs.Calls.{Called}
+use Rattle.replies.specs.Replies.{oneWord}
+use Rattle.answer_codes.specs.Reports.{AnsweredExactly}
 use Rattle.differences.specs.Meshes.{readMesh}
 use Rattle.differences.specs.Differences.{differences, words}
 use Rattle.compare.specs.Answers.{verdict, told}
 use Rattle.compare.specs.declared.answer.Fault.{Fault}
 use Rattle.compare.specs.declared.answer.Fault.the-variants.{NotThrees, UnknownIndex, EqualPoints}
+use Rattle.compare.specs.declared.answer.Comparison.{Comparison}
+use Rattle.compare.specs.declared.answer.Comparison.the-variants.{Differences, NoRoom, LeftRefused, RightRefused}
+use Rattle.sameness.specs.Same.{SameMesh}
+use Rattle.sameness.specs.Refusals.{Comparable, AnswerMeans}
 use Rattle.compare_exports.specs.declared.reply.Reply.{Reply}
 
 -- a refusal's place after the first number of its side
@@ -26,3 +34,19 @@ replyOf t = record { number = t .number; count = getD (t .values) 0 0 }
 abbrev pub CompareCalled : List ℕ → List ℕ → List ℕ → List ℕ → List ℕ → List ℕ → List ℕ → ℕ → Type 0
 CompareCalled lp li rp ri xs xs′ c′ r =
     Called (told (verdict lp li rp ri (length xs))) (words (differences (readMesh lp li) (readMesh rp ri))) xs xs′ c′ r
+
+-- when each number is answered, for a list of `room` words, and what count is in memory then
+pub record CompareExactly (lp li rp ri : List ℕ) (room : ℕ) (c′ : List ℕ) (r : ℕ) : Type 0 where
+  -- each answer is given, by its number and its count, exactly where it means
+  pub answers : AnsweredExactly (λ a. told a .number) (λ a. oneWord (told a .values)) (λ a. AnswerMeans a lp li rp ri room) c′ r
+  -- number by number
+  -- 0 with the count 0: both can be compared, and hold the same points and triangles
+  pub same : ((r ≡ 0) × (c′ ≡ 0 ∷ [])) ↔ (Comparable lp li × Comparable rp ri × SameMesh (readMesh lp li) (readMesh rp ri))
+  pub compared : (r ≡ 0) ↔ AnswerMeans (Differences (getD c′ 0 0)) lp li rp ri room
+  pub no-room : (r ≡ 40) ↔ AnswerMeans (NoRoom (getD c′ 0 0)) lp li rp ri room
+  pub left-not-threes : (r ≡ 41) ↔ AnswerMeans (LeftRefused NotThrees) lp li rp ri room
+  pub left-unknown-index : (r ≡ 42) ↔ AnswerMeans (LeftRefused UnknownIndex) lp li rp ri room
+  pub left-equal-points : (r ≡ 43) ↔ AnswerMeans (LeftRefused EqualPoints) lp li rp ri room
+  pub right-not-threes : (r ≡ 44) ↔ AnswerMeans (RightRefused NotThrees) lp li rp ri room
+  pub right-unknown-index : (r ≡ 45) ↔ AnswerMeans (RightRefused UnknownIndex) lp li rp ri room
+  pub right-equal-points : (r ≡ 46) ↔ AnswerMeans (RightRefused EqualPoints) lp li rp ri room

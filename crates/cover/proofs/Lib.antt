@@ -15,3 +15,7 @@ pub mod Grid
 pub mod Quad
 pub mod Plain
 pub mod Length
+pub mod Joined
+pub mod RingVertices
+pub mod RingStrips
+pub mod GridStrips

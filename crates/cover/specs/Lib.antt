@@ -6,3 +6,6 @@ pub mod Nest
 pub mod Quad
 pub mod Closes
 pub mod Lines
+pub mod RingVertices
+pub mod RingStrips
+pub mod GridStrips

@@ -27,37 +27,57 @@ use Rattle.drawing.proofs.Counts.{point-count}
 use Rattle.drawing.proofs.Demand.{not-discarded}
 use Rattle.drawing.proofs.Valid.{cut-valid}
 
+-- plain patches are alike whatever their counts would be
+pub plain-alike : (set set′ : Settings) (p p′ : Patch) → kindNumber p ≡ kindNumber p′
+    → set .«point_mode» ≡ set′ .«point_mode» → set .order ≡ set′ .order → set .origin ≡ set′ .origin
+    → isPlain (subdivision (set .spacing) (set .top) p) ≡ true → isPlain (subdivision (set′ .spacing) (set′ .top) p′) ≡ true → Alike set set′ p p′
+plain-alike set set′ p p′ k m o r h h′ = record {
+  kind = k;
+  mode = m;
+  order = o;
+  origin = r;
+  plain = h ∙ sym h′;
+  counts = λ n. absurd (true≢false (sym h ∙ n));
+}
+
 -- two subdivisions with the same primitives and as many points
 record Same (c c′ : Subdivision) : Type 0 where
   primitives : (turn : Bool) → primitives turn c ≡ primitives turn c′
   points : pointCount c ≡ pointCount c′
 
 triangle : (plain plain′ : Bool) (a b c i a′ b′ c′ i′ : Segments)
-    → _≡_ {A = List ℕ} (a .count ∷ b .count ∷ c .count ∷ i .count ∷ []) (a′ .count ∷ b′ .count ∷ c′ .count ∷ i′ .count ∷ [])
+    → (isPlain (cond plain PlainTriangle (Triangle a b c i)) ≡ false
+    → _≡_ {A = List ℕ} (a .count ∷ b .count ∷ c .count ∷ i .count ∷ []) (a′ .count ∷ b′ .count ∷ c′ .count ∷ i′ .count ∷ []))
     → isPlain (cond plain PlainTriangle (Triangle a b c i)) ≡ isPlain (cond plain′ PlainTriangle (Triangle a′ b′ c′ i′))
     → Same (cond plain PlainTriangle (Triangle a b c i)) (cond plain′ PlainTriangle (Triangle a′ b′ c′ i′))
 unfolding triangles pointCount
 triangle true true a b c i a′ b′ c′ i′ e h = record { primitives = λ t. refl; points = refl }
 triangle true false a b c i a′ b′ c′ i′ e h = absurd (true≢false h)
 triangle false true a b c i a′ b′ c′ i′ e h = absurd (false≢true h)
-triangle false false a b c i a′ b′ c′ i′ e h = record { primitives = λ t. cc; points = cc }
+triangle false false a b c i a′ b′ c′ i′ e h =
+    let counts = e refl in
+    record { primitives = λ t. cc; points = cc }
 
 quad : (plain plain′ : Bool) (a b c d m n a′ b′ c′ d′ m′ n′ : Segments)
-    → _≡_ {A = List ℕ} (a .count ∷ b .count ∷ c .count ∷ d .count ∷ m .count ∷ n .count ∷ []) (a′ .count ∷ b′ .count ∷ c′ .count ∷ d′ .count ∷ m′ .count ∷ n′ .count ∷ [])
+    → (isPlain (cond plain PlainQuad (Quad a b c d m n)) ≡ false
+    → _≡_ {A = List ℕ} (a .count ∷ b .count ∷ c .count ∷ d .count ∷ m .count ∷ n .count ∷ []) (a′ .count ∷ b′ .count ∷ c′ .count ∷ d′ .count ∷ m′ .count ∷ n′ .count ∷ []))
     → isPlain (cond plain PlainQuad (Quad a b c d m n)) ≡ isPlain (cond plain′ PlainQuad (Quad a′ b′ c′ d′ m′ n′))
     → Same (cond plain PlainQuad (Quad a b c d m n)) (cond plain′ PlainQuad (Quad a′ b′ c′ d′ m′ n′))
 unfolding triangles pointCount
 quad true true a b c d m n a′ b′ c′ d′ m′ n′ e h = record { primitives = λ t. refl; points = refl }
 quad true false a b c d m n a′ b′ c′ d′ m′ n′ e h = absurd (true≢false h)
 quad false true a b c d m n a′ b′ c′ d′ m′ n′ e h = absurd (false≢true h)
-quad false false a b c d m n a′ b′ c′ d′ m′ n′ e h = record { primitives = λ t. cc; points = cc }
+quad false false a b c d m n a′ b′ c′ d′ m′ n′ e h =
+    let counts = e refl in
+    record { primitives = λ t. cc; points = cc }
 
 lines : (m n m′ n′ : Segments) → _≡_ {A = List ℕ} (m .count ∷ n .count ∷ []) (m′ .count ∷ n′ .count ∷ []) → Same (Lines m n) (Lines m′ n′)
 unfolding pointCount
 lines m n m′ n′ e = record { primitives = λ t. cc; points = cc }
 
 module _ (s s′ : Spacing) (t t′ : ℕ) where
-  same : (p p′ : Patch) → kindNumber p ≡ kindNumber p′ → segmentCounts s t p ≡ segmentCounts s′ t′ p′ → isPlain (cut s t p) ≡ isPlain (cut s′ t′ p′) → Same (cut s t p) (cut s′ t′ p′)
+  same : (p p′ : Patch) → kindNumber p ≡ kindNumber p′ → (isPlain (cut s t p) ≡ false → segmentCounts s t p ≡ segmentCounts s′ t′ p′)
+      → isPlain (cut s t p) ≡ isPlain (cut s′ t′ p′) → Same (cut s t p) (cut s′ t′ p′)
   same (Triangles a b c i) (Triangles a′ b′ c′ i′) k e h =
       triangle (every (single s t) (a ∷ b ∷ c ∷ i ∷ [])) (every (single s′ t′) (a′ ∷ b′ ∷ c′ ∷ i′ ∷ []))
       (segmentsOf s t a) (segmentsOf s t b) (segmentsOf s t c) (innerSegments s t i)
@@ -66,7 +86,7 @@ module _ (s s′ : Spacing) (t t′ : ℕ) where
       quad (every (single s t) (a ∷ b ∷ c ∷ d ∷ i ∷ j ∷ [])) (every (single s′ t′) (a′ ∷ b′ ∷ c′ ∷ d′ ∷ i′ ∷ j′ ∷ []))
       (segmentsOf s t a) (segmentsOf s t b) (segmentsOf s t c) (segmentsOf s t d) (innerSegments s t i) (innerSegments s t j)
       (segmentsOf s′ t′ a′) (segmentsOf s′ t′ b′) (segmentsOf s′ t′ c′) (segmentsOf s′ t′ d′) (innerSegments s′ t′ i′) (innerSegments s′ t′ j′) e h
-  same (Isolines a b) (Isolines a′ b′) k e h = lines (segmentsOf Equal t a) (segmentsOf s t b) (segmentsOf Equal t′ a′) (segmentsOf s′ t′ b′) e
+  same (Isolines a b) (Isolines a′ b′) k e h = lines (segmentsOf Equal t a) (segmentsOf s t b) (segmentsOf Equal t′ a′) (segmentsOf s′ t′ b′) (e refl)
   same (Triangles a b c i) (Quads a′ b′ c′ d′ i′ j′) k e h = absurd (omega arith)
   same (Triangles a b c i) (Isolines a′ b′) k e h = absurd (omega arith)
   same (Quads a b c d i j) (Triangles a′ b′ c′ i′) k e h = absurd (omega arith)
@@ -90,6 +110,8 @@ kept-connections set set′ top top′ p p′ d d′ a =
     let t′ = set′ .top in
     let c = subdivision s t p in
     let c′ = subdivision s′ t′ p′ in
-    let h : Same c c′ = rw (not-discarded s t p d, not-discarded s′ t′ p′ d′) (same s s′ t t′ p p′ (a .kind) (a .counts) (rw (← not-discarded s t p d, ← not-discarded s′ t′ p′ d′) (a .plain))) in
+    let counts : isPlain (cut s t p) ≡ false → segmentCounts s t p ≡ segmentCounts s′ t′ p′ = rw (← not-discarded s t p d) (a .counts) in
+    let plain : isPlain (cut s t p) ≡ isPlain (cut s′ t′ p′) = rw (← not-discarded s t p d, ← not-discarded s′ t′ p′ d′) (a .plain) in
+    let h : Same c c′ = rw (not-discarded s t p d, not-discarded s′ t′ p′ d′) (same s s′ t t′ p p′ (a .kind) counts plain) in
     in-mode (set .«point_mode») (set′ .«point_mode») (positive (set .order) (set .origin)) (positive (set′ .order) (set′ .origin)) c c′ (a .mode)
     (ap₂ positive (a .order) (a .origin)) h (point-count c (cut-valid s t top p) ∙ h .points ∙ sym (point-count c′ (cut-valid s′ t′ top′ p′)))

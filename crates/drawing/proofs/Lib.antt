@@ -18,3 +18,6 @@ pub mod GreatestTop
 pub mod Kept
 pub mod InPatch
 pub mod Distinct
+pub mod OutlinePoints
+pub mod Rings
+pub mod Grids

@@ -1,4 +1,4 @@
--- When two patches have the same connections: nothing of their levels but the segment counts is asked.
+-- When two patches have the same connections: nothing of their levels but the segment counts is asked, and of the plain patch not even these.
 -- Assumes nothing.
 use Prim.Native.Nat.{ℕ}
 use mathlib.Core.Path.{_≡_}
@@ -20,7 +20,7 @@ kindNumber (Triangles a b c i) = 0
 kindNumber (Quads a b c d i j) = 1
 kindNumber (Isolines a b) = 2
 
--- the segment counts of a patch, outer levels first, each inner one after the 65,537 rule
+-- the segment counts of a patch that is not plain, outer levels first, each inner one after the 65,537 rule
 abbrev pub segmentCounts : Spacing → ℕ → Patch → List ℕ
 segmentCounts s t (Triangles a b c i) = segmentsOf s t a .count ∷ segmentsOf s t b .count ∷ segmentsOf s t c .count ∷ innerSegments s t i .count ∷ []
 segmentCounts s t (Quads a b c d i j) =
@@ -36,11 +36,12 @@ isPlain PlainQuad = true
 isPlain (Quad a b c d m n) = false
 isPlain (Lines m n) = false
 
--- two patches, each with its settings, that are to have the same connections
+-- two patches, each with its settings, that are to have the same connections: both plain, or neither and with equal counts
 pub record Alike (set set′ : Settings) (p p′ : Patch) : Type 0 where
   pub kind : kindNumber p ≡ kindNumber p′
   pub mode : set .«point_mode» ≡ set′ .«point_mode»
   pub order : set .order ≡ set′ .order
   pub origin : set .origin ≡ set′ .origin
-  pub counts : segmentCounts (set .spacing) (set .top) p ≡ segmentCounts (set′ .spacing) (set′ .top) p′
   pub plain : isPlain (subdivision (set .spacing) (set .top) p) ≡ isPlain (subdivision (set′ .spacing) (set′ .top) p′)
+  pub counts : isPlain (subdivision (set .spacing) (set .top) p) ≡ false
+      → segmentCounts (set .spacing) (set .top) p ≡ segmentCounts (set′ .spacing) (set′ .top) p′

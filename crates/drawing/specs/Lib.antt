@@ -13,3 +13,4 @@ pub mod Sizes
 pub mod Starred
 pub mod Sample
 pub mod Kept
+pub mod OuterEdges

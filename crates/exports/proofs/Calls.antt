@@ -6,11 +6,10 @@ use lib.ListN.{length}
 use lib.Ieee.{Float}
 use Rattle.patch.specs.declared.kinds.Patch.{Patch}
 use Rattle.patch.specs.declared.settings.Settings.{Settings}
-use Rattle.tessellate.specs.declared.answer.Size.{Size}
-use Rattle.tessellate.specs.Answers.{Told, toldSize, measured, pointsVerdict, indicesVerdict}
+use Rattle.tessellate.specs.Answers.{Told, measureVerdict, pointsVerdict, indicesVerdict}
 use Rattle.tessellate.specs.Draws.{Drew, pointWords, connectionWords}
 use Rattle.replies.specs.declared.reply.Reply.{Reply}
-use Rattle.replies.specs.Clamps.{noClamps, sizeClamps}
+use Rattle.replies.specs.Clamps.{clampBytes, noClamps}
 use Rattle.replies.specs.Replies.{Tells, unknownSetting, badTop, twoWords, Says}
 use Rattle.replies.proofs.Replies.{said-one, said-two, says-as}
 use Rattle.requests.specs.declared.asked.Asked.{Asked}
@@ -20,22 +19,26 @@ use Rattle.requests.specs.Asked.{known, askedIn}
 use Rattle.requests.proofs.Reading.{refused-instead, known-granted, granted}
 use Rattle.exports.specs.Calls.{MeasureCalled, Called, PointsCalled, IndicesCalled}
 
+-- equal answers have the same clamps
+clamps-as : {t s : Told} → t ≡ s → clampBytes (s .values) ≡ clampBytes (t .values)
+clamps-as e = ap (λ (x : Told). clampBytes (x .values)) (sym e)
+
 module _ (bs : List ℕ) (xs : List Float) {a : Asked} (is : a ≡ askedIn bs xs) where
   -- ---- measuring
   pub measure-refused : {reply : Reply} {c′ k′ : List ℕ} {r : ℕ} → a ≡ Refused reply → (r ≡ reply .number) × (c′ ≡ reply .first ∷ reply .second ∷ []) → k′ ≡ noClamps
       → MeasureCalled bs xs c′ k′ r
   measure-refused e s k =
       let i = refused-instead bs xs is e in
-      record { says = says-as (i .answer _) (said-two (i .tells) s); clamps = k ∙ sym (i .nothing noClamps _) }
+      record { says = says-as (i .answer _) (said-two (i .tells) s); clamps = k ∙ sym (i .clamps) ∙ clamps-as (i .answer _) }
 
-  pub measure-known : {set : Settings} {p : Patch} {size : Size} {reply : Reply} {c′ k′ : List ℕ} {r : ℕ} → a ≡ Known set p → size ≡ measured set p
-      → Tells (toldSize size) reply → (r ≡ reply .number) × (c′ ≡ reply .first ∷ reply .second ∷ []) → k′ ≡ sizeClamps size → MeasureCalled bs xs c′ k′ r
+  pub measure-known : {set : Settings} {p : Patch} {told : Told} {reply : Reply} {c′ k′ : List ℕ} {r : ℕ} → a ≡ Known set p → told ≡ measureVerdict set p
+      → Tells told reply → (r ≡ reply .number) × (c′ ≡ reply .first ∷ reply .second ∷ []) → k′ ≡ clampBytes (told .values) → MeasureCalled bs xs c′ k′ r
   measure-known e m t s k =
       let g = known-granted bs xs is e in
       let right = rw (g .settings, g .patch) at m in
       record {
-        says = says-as (granted g badTop unknownSetting _ ∙ ap toldSize (sym right)) (said-two t s);
-        clamps = k ∙ ap sizeClamps right ∙ sym (granted g noClamps (λ (place : ℕ). noClamps) _);
+        says = says-as (granted g badTop unknownSetting _ ∙ sym right) (said-two t s);
+        clamps = k ∙ clamps-as (granted g badTop unknownSetting _ ∙ sym right);
       }
 
   -- ---- drawing, points or indices

@@ -1,4 +1,5 @@
 -- The laws of `exports`.
 pub mod Calls
+pub mod Exactly
 pub mod Numbers
 pub mod Together

@@ -1,6 +1,6 @@
 -- The numbers that a call can answer with. Assumes nothing.
 use Prim.Native.Nat.{ℕ, _*_}
-use mathlib.Core.Path.{_≡_, refl}
+use mathlib.Core.Path.{refl}
 use mathlib.Core.Bool.{Bool, true, false, cond}
 use mathlib.Core.List.{List, [], _∷_}
 use mathlib.Core.Logic.{inl, inr}
@@ -9,9 +9,7 @@ use lib.Ieee.{Float}
 use Rattle.level.specs.Top.{isTop}
 use Rattle.patch.specs.Subdivide.{discards}
 use Rattle.job_fields.specs.Settings.{firstUnknown}
-use Rattle.tessellate.specs.declared.answer.Size.{Size}
-use Rattle.tessellate.specs.declared.answer.Size.the-variants.{Discarded, BadTop}
-use Rattle.tessellate.specs.Answers.{Told, toldSize, pointsOf, indicesOf, verdict, measured}
+use Rattle.tessellate.specs.Answers.{Told, pointsOf, indicesOf, verdict, measureVerdict}
 use Rattle.replies.specs.Replies.{unknownSetting, badTop, OneOf}
 use Rattle.requests.specs.Inputs.{topIn, patchIn, settingsIn}
 use Rattle.requests.specs.Asked.{known}
@@ -40,16 +38,11 @@ module _ (bs : List ℕ) (xs : List Float) where
   pub indices-number : (i : ℕ) → OneOf (0 ∷ 1 ∷ 4 ∷ 8 ∷ 11 ∷ []) (indicesSay bs xs i .number)
   indices-number i = draw-number 4 (indicesOf (settingsIn bs) (patchIn bs xs)) i (indicesOf (settingsIn bs) (patchIn bs xs))
 
-  -- the number of a size
-  size-number : (t b : Bool) (s : Size) → toldSize s .number ≡ 0 → OneOf (0 ∷ 1 ∷ 8 ∷ 11 ∷ []) (toldSize (cond t (cond b Discarded s) BadTop) .number)
-  size-number true true s e = inr (inl refl)
-  size-number true false s e = inl e
-  size-number false b s e = inr (inr (inr (inl refl)))
-
   pub measure-number : OneOf (0 ∷ 1 ∷ 8 ∷ 11 ∷ []) (measureSays bs xs .number)
-  unfolding known measured
+  unfolding known measureVerdict
   measure-number =
       let of = either (0 ∷ 1 ∷ 8 ∷ 11 ∷ []) in
+      let eleven = inr (inr (inr (inl refl))) in
       of (isTop (topIn bs)) _ _
-      (of (ltb (firstUnknown bs 0) 5) _ _ (inr (inr (inl refl))) (size-number (isTop (topIn bs)) (discards (patchIn bs xs)) _ refl))
-      (inr (inr (inr (inl refl))))
+      (of (ltb (firstUnknown bs 0) 5) _ _ (inr (inr (inl refl))) (of (isTop (topIn bs)) _ _ (of (discards (patchIn bs xs)) _ _ (inr (inl refl)) (inl refl)) eleven))
+      eleven

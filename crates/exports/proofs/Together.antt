@@ -1,5 +1,5 @@
 -- Demand 3 of what the two drawing calls leave behind for the same settings and levels, read off the lists by the counts, and that no
--- spot is cut twice. Assumes nothing.
+-- spot is cut twice; and equal indices for patches alike. Assumes nothing.
 use Prim.Native.Nat.{ℕ, _+_, _*_}
 use mathlib.Core.Path.{_≡_, refl, sym, ap, _∙_}
 use mathlib.Core.Bool.{Bool, true, false, cond}
@@ -15,11 +15,12 @@ use Rattle.patch.specs.Subdivide.{discards}
 use Rattle.drawing.specs.Words.{readPoints}
 use Rattle.drawing.specs.Demand.{Demand}
 use Rattle.drawing.specs.Inside.{SpotsOnce}
+use Rattle.drawing.specs.Kept.{Alike}
 use Rattle.tessellate.specs.declared.answer.PointsAnswer.the-variants as points
 use Rattle.tessellate.specs.declared.answer.IndicesAnswer.the-variants as indices
 use Rattle.tessellate.specs.Answers.{Told, refused, drew, pointsOf, indicesOf, verdict, pointsVerdict, indicesVerdict}
-use Rattle.tessellate.specs.Draws.{Drew, pointWords, connectionWords}
-use Rattle.tessellate.proofs.Together.{together, once-together}
+use Rattle.tessellate.specs.Draws.{Drew, DrewPoints, DrewIndices, pointWords, connectionWords}
+use Rattle.tessellate.proofs.Together.{demand-together, once-together, kept}
 use Rattle.replies.specs.Replies.{unknownSetting, badTop}
 use Rattle.requests.specs.Inputs.{patchIn, settingsIn}
 use Rattle.requests.specs.Asked.{known}
@@ -55,7 +56,7 @@ module _ (bs : List ℕ) (set : Settings) (p : Patch) (short need have count : �
         counted = ap (λ (c : List ℕ). getD c 0 0) (d .says .counts) ∙ ap (λ (x : Told). getD (x .values) 0 0) (k ∙ z);
       }
 
-module _ (bs : List ℕ) (xs : List Float) {v v′ i i′ c′ k′ : List ℕ} (d : PointsCalled bs xs v v′ c′ 0) (d′ : IndicesCalled bs xs i i′ k′ 0) where
+module _ (bs : List ℕ) (xs : List Float) where
   abbrev set : Settings
   set = settingsIn bs
 
@@ -68,16 +69,29 @@ module _ (bs : List ℕ) (xs : List Float) {v v′ i i′ c′ k′ : List ℕ} 
   abbrev I : ℕ
   I = indicesOf set p
 
-  points-called : Drawn (pointsVerdict set p (length v)) (pointWords set p) v v′ c′ P
-  points-called = zero-drew bs set p 2 (3 * P) (length v) P d
+  points-called : {v v′ c′ : List ℕ} → PointsCalled bs xs v v′ c′ 0 → Drawn (pointsVerdict set p (length v)) (pointWords set p) v v′ c′ P
+  points-called {v} d = zero-drew bs set p 2 (3 * P) (length v) P d
 
-  indices-called : Drawn (indicesVerdict set p (length i)) (connectionWords set p) i i′ k′ I
-  indices-called = zero-drew bs set p 3 I (length i) I d′
+  indices-called : {i i′ c′ : List ℕ} → IndicesCalled bs xs i i′ c′ 0 → Drawn (indicesVerdict set p (length i)) (connectionWords set p) i i′ c′ I
+  indices-called {i} d = zero-drew bs set p 3 I (length i) I d
 
-  pub called-together : Demand set p (readPoints (take (3 * getD c′ 0 0) v′)) (take (getD k′ 0 0) i′)
-  called-together = rw (points-called .counted, indices-called .counted)
-      (together set p (points.Drawn P) (indices.Drawn I) (points-called .drawn) (indices-called .drawn) refl refl)
+  -- a call that answered 0 is an operation that said "drawn" with the count that stands in memory
+  pub points-call : {v v′ c′ : List ℕ} → PointsCalled bs xs v v′ c′ 0 → DrewPoints set p v v′ (points.Drawn (getD c′ 0 0))
+  points-call d = let k = points-called d in rw (k .counted) (k .drawn)
 
-  pub called-once : SpotsOnce set p (readPoints (take (3 * getD c′ 0 0) v′)) (take (getD k′ 0 0) i′)
-  called-once = rw (points-called .counted, indices-called .counted)
-      (once-together set p (points.Drawn P) (indices.Drawn I) (points-called .drawn) (indices-called .drawn) refl refl)
+  pub indices-call : {i i′ c′ : List ℕ} → IndicesCalled bs xs i i′ c′ 0 → DrewIndices set p i i′ (indices.Drawn (getD c′ 0 0))
+  indices-call d = let k = indices-called d in rw (k .counted) (k .drawn)
+
+  module _ {v v′ i i′ c′ k′ : List ℕ} (d : PointsCalled bs xs v v′ c′ 0) (d′ : IndicesCalled bs xs i i′ k′ 0) where
+    pub called-together : Demand set p (readPoints (take (3 * getD c′ 0 0) v′)) (take (getD k′ 0 0) i′)
+    called-together = demand-together set p (points.Drawn (getD c′ 0 0)) (indices.Drawn (getD k′ 0 0)) (points-call d) (indices-call d′) refl refl
+
+    pub called-once : SpotsOnce set p (readPoints (take (3 * getD c′ 0 0) v′)) (take (getD k′ 0 0) i′)
+    called-once = once-together set p (points.Drawn (getD c′ 0 0)) (indices.Drawn (getD k′ 0 0)) (points-call d) (indices-call d′) refl refl
+
+-- patches that are alike get equal indices from any two calls that drew them
+pub called-kept : (bs bs′ : List ℕ) (xs xs′ : List Float) {i i′ c′ j j′ k′ : List ℕ} → Alike (settingsIn bs) (settingsIn bs′) (patchIn bs xs) (patchIn bs′ xs′)
+    → IndicesCalled bs xs i i′ c′ 0 → IndicesCalled bs′ xs′ j j′ k′ 0 → take (getD c′ 0 0) i′ ≡ take (getD k′ 0 0) j′
+called-kept bs bs′ xs xs′ {c′ = c′} {k′ = k′} a d d′ =
+    kept (settingsIn bs) (settingsIn bs′) (patchIn bs xs) (patchIn bs′ xs′) (indices.Drawn (getD c′ 0 0)) (indices.Drawn (getD k′ 0 0)) a
+    (indices-call bs xs d) (indices-call bs′ xs′ d′) refl refl

@@ -5,20 +5,16 @@ use mathlib.Core.Path.{_≡_}
 use mathlib.Core.List.{List}
 use lib.Ieee.{Float}
 use lib.ListN.{length}
-use Rattle.tessellate.specs.Answers.{Told, toldSize, pointsVerdict, indicesVerdict, measured}
+use Rattle.tessellate.specs.Answers.{Told, pointsVerdict, indicesVerdict, measureVerdict}
 use Rattle.tessellate.specs.Draws.{after, pointWords, connectionWords}
-use Rattle.replies.specs.Clamps.{sizeClamps, noClamps}
+use Rattle.replies.specs.Clamps.{clampBytes}
 use Rattle.replies.specs.Replies.{unknownSetting, badTop, twoWords, oneWord, Says}
 use Rattle.requests.specs.Inputs.{patchIn, settingsIn}
 use Rattle.requests.specs.Asked.{known}
 
 -- what measuring has to say
 abbrev pub measureSays : List ℕ → List Float → Told
-measureSays bs xs = known bs badTop unknownSetting (toldSize (measured (settingsIn bs) (patchIn bs xs)))
-
--- and what it says of the levels
-abbrev pub measureClamps : List ℕ → List Float → List ℕ
-measureClamps bs xs = known bs noClamps (λ place. noClamps) (sizeClamps (measured (settingsIn bs) (patchIn bs xs)))
+measureSays bs xs = known bs badTop unknownSetting (measureVerdict (settingsIn bs) (patchIn bs xs))
 
 -- what drawing the points into a list of n words has to say
 abbrev pub pointsSay : List ℕ → List Float → ℕ → Told
@@ -31,7 +27,7 @@ indicesSay bs xs n = known bs badTop unknownSetting (indicesVerdict (settingsIn 
 -- a call of measuring; k′ are the bytes of the levels at exit
 pub record MeasureCalled (bs : List ℕ) (xs : List Float) (c′ k′ : List ℕ) (r : ℕ) : Type 0 where
   pub says : Says twoWords (measureSays bs xs) c′ r
-  pub clamps : k′ ≡ measureClamps bs xs
+  pub clamps : k′ ≡ clampBytes (measureSays bs xs .values)
 
 -- a call that has to say t, and whose own list l became l′
 pub record Called (t : Told) (words l l′ c′ : List ℕ) (r : ℕ) : Type 0 where

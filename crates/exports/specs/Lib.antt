@@ -1,2 +1,3 @@
 -- The definitions of `exports`.
 pub mod Calls
+pub mod Exactly

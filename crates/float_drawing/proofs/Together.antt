@@ -16,7 +16,7 @@ use Rattle.tessellate.specs.declared.answer.IndicesAnswer.the-variants as indic
 use Rattle.tessellate.specs.Answers.{drew, drewBoth}
 use Rattle.tessellate.specs.Draws.{DrewPoints, DrewIndices}
 use Rattle.tessellate.proofs.Draws.{told-drawn, written}
-use Rattle.tessellate.proofs.Together.{together, once-together}
+use Rattle.tessellate.proofs.Together.{demand-together, once-together}
 use Rattle.float_drawing.specs.declared.answer.FloatsAnswer.{FloatsAnswer}
 use Rattle.float_drawing.specs.Answers.{toldFloats}
 use Rattle.float_drawing.specs.Draws.{DrewWithFloats}
@@ -41,7 +41,7 @@ module _ (set : Settings) (p : Patch) (r : FloatsAnswer) {v v′ i i′ : List �
 
   -- demand 3 of what the call writes
   pub together-with-floats : Demand set p (readPoints (take (3 * P) v′)) (take I i′)
-  together-with-floats = together set p (points.Drawn P) (indices.Drawn I) as-points as-indices refl refl
+  together-with-floats = demand-together set p (points.Drawn P) (indices.Drawn I) as-points as-indices refl refl
 
   -- and no spot is cut twice
   pub once-with-floats : SpotsOnce set p (readPoints (take (3 * P) v′)) (take I i′)

@@ -15,7 +15,8 @@ use Rattle.patch.specs.declared.settings.Settings.{Settings}
 use Rattle.patch.specs.Subdivide.{discards}
 use Rattle.tessellate.specs.declared.answer.Size.{Size}
 use Rattle.tessellate.specs.declared.answer.Size.the-variants.{Counts, Discarded, BadTop}
-use Rattle.tessellate.specs.Answers.{Told, refused, pointsOf, indicesOf, measured, drewBoth}
+use Rattle.tessellate.specs.Answers.{Told, refused, pointsOf, indicesOf, toldSize, measureVerdict, drewBoth}
+use Rattle.tessellate.proofs.Measured.{measured, is-measured}
 use Rattle.float_drawing.specs.declared.answer.FloatsAnswer.{FloatsAnswer}
 use Rattle.float_drawing.specs.declared.answer.FloatsAnswer.the-variants.{Drawn}
 use Rattle.float_drawing.specs.Answers.{toldFloats, roomVerdict, floatsVerdict}
@@ -36,8 +37,8 @@ module _ (v i f : ℕ) where
       go true false s = refl
       go false b s = refl
 
-  pub judged : (set : Settings) (p : Patch) {size s : Size} {t : Told} → size ≡ measured set p → size ≡ s → t ≡ sizeVerdict s → t ≡ floatsVerdict set p v i f
-  judged set p e is h = h ∙ ap sizeVerdict (sym is ∙ e) ∙ by-size set p
+  pub judged : (set : Settings) (p : Patch) {size s : Size} {t : Told} → toldSize size ≡ measureVerdict set p → size ≡ s → t ≡ sizeVerdict s → t ≡ floatsVerdict set p v i f
+  judged set p e is h = h ∙ ap sizeVerdict (sym is ∙ is-measured set p e) ∙ by-size set p
 
 -- what "drawn" means: the top is one, the patch is not discarded, each list has room, and the counts are right
 pub record Fits (set : Settings) (p : Patch) (vs is : List ℕ) (fs : List Float) (points indices : ℕ) : Type 0 where

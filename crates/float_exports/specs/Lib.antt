@@ -1,2 +1,3 @@
 -- The definitions of `float_exports`.
 pub mod Calls
+pub mod Exactly

@@ -8,6 +8,9 @@ use lib.ListN.{length, take, length-take}
 use lib.Seq.{getD-take}
 use Rattle.buffer.specs.Over.{Wrote}
 use Rattle.level.specs.declared.Segments.{Segments}
+use Rattle.level.specs.Segments.{Valid}
+use Rattle.stored_rows.specs.Stored.{rowsTo}
+use Rattle.stored_rows.proofs.StoredRows.{row-stored}
 use Rattle.mesh.specs.Edge.{Run, along}
 use Rattle.mesh.specs.Segmented.{run, isolinePoints}
 use Rattle.mesh.specs.Words.{vertexWords}
@@ -16,6 +19,7 @@ use Rattle.vertices.specs.Rows.{places, whole, GoodRow, AllValid}
 use Rattle.vertices.specs.Grids.{crossing, gridPoints}
 use Rattle.vertices.proofs.Parts.{wrote-same}
 use Rattle.vertices.proofs.Rows.{grid-same, along-at, along-same, good-row}
+use Rattle.isoline_vertices.specs.Equal.{IsEqual, StoredIfEqual, MostEqual}
 
 -- all rows but the last
 pub lines-are : (lines columns : List ℕ) (n : ℕ) → n ≡ length lines - 1 → 1 ≤ length columns
@@ -47,3 +51,12 @@ module _ (lines columns : Segments) {xs ys : List ℕ} (h : xs ≡ along (run li
   pub rows-written : {out out′ : List ℕ} {at w : ℕ} → Wrote out at (vertexWords (isolinePoints (whole xs) (whole ys))) out′ w
       → Wrote out at (vertexWords (isolinePoints (run lines) (run columns))) out′ w
   rows-written = wrote-same same
+
+-- the table's first m rows have the row of an edge of equal spacing, if that has at most m segments
+stored-if-equal : (m : ℕ) {rows : List ℕ} → rows ≡ rowsTo m → (s : Segments) → Valid (s .count) (s .scaled) → (IsEqual s → s .count ≤ m) → StoredIfEqual rows s
+stored-if-equal m e s v few q = rw (e, q) (row-stored m (s .count) (v .some) (few q))
+
+pub both-stored : (m : ℕ) {rows : List ℕ} → rows ≡ rowsTo m → (lines columns : Segments) → AllValid (lines ∷ columns ∷ []) → {r w : ℕ} → MostEqual 0 lines r → MostEqual r columns w → w ≤ m
+    → StoredIfEqual rows lines × StoredIfEqual rows columns
+both-stored m e lines columns v a b k =
+    (stored-if-equal m e lines (v .0) (λ q. omega (arith, a .own q, b .past)), stored-if-equal m e columns (v .1) (λ q. omega (arith, b .own q)))

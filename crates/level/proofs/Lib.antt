@@ -4,7 +4,7 @@ pub mod Top
 pub mod Within
 pub mod Sides
 pub mod Scale
-pub mod Count
+pub mod Rounding
 pub mod Valid
 pub mod Discard
 pub mod Exact

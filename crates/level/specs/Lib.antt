@@ -4,3 +4,4 @@ pub mod Top
 pub mod Clamp
 pub mod Scale
 pub mod Segments
+pub mod Rounding

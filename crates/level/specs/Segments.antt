@@ -1,6 +1,5 @@
 -- How many segments a level gives (n), and their scaled level (L). Assumes nothing.
-use Prim.Native.Nat.{ℕ, _+_, _-_, _*_, _%_, _≤_, _<_}
-use mathlib.Core.Path.{_≡_}
+use Prim.Native.Nat.{ℕ, _+_, _-_, _*_, _≤_, _<_}
 use mathlib.Core.Bool.{cond}
 use lib.Dec.{eqb}
 use lib.Ieee.{Float}
@@ -31,18 +30,6 @@ asInner s own = cond (eqb (own .count) 1) (raised s) own
 -- n and L of an inner level
 abbrev pub innerSegments : Spacing → ℕ → Float → Segments
 innerSegments s t x = asInner s (segmentsOf s t x)
-
--- the numbers that a spacing rounds to: whole, even or odd
-abbrev pub Kind : Spacing → ℕ → Type 0
-Kind Equal n = Unit
-Kind FractionalEven n = n % 2 ≡ 0
-Kind FractionalOdd n = n % 2 ≡ 1
-
--- n is the least number of the spacing's kind that is not below L / 65536
-pub record LeastCount (s : Spacing) (L n : ℕ) : Type 0 where
-  pub kind : Kind s n
-  pub enough : L ≤ 65536 * n
-  pub least : (k : ℕ) → Kind s k → L ≤ 65536 * k → n ≤ k
 
 -- what an edge needs of its n and L: from 1 to 64 segments, of which all but two have the whole length, 65536 / L of the edge
 pub record Valid (n L : ℕ) : Type 0 where

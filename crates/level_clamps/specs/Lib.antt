@@ -1,2 +1,3 @@
 -- The definitions of `level_clamps`.
 pub mod Clamps
+pub mod Numbers

@@ -42,3 +42,11 @@ pub mod Winds
 pub mod Whole
 pub mod Once
 pub mod SpotExamples
+pub mod Located
+pub mod OnEdge
+pub mod OuterRing
+pub mod RingAt
+pub mod RingPoints
+pub mod GridPoints
+pub mod OutlinePieces
+pub mod EitherTurn

@@ -67,6 +67,10 @@ pub turned-left : (b : Bool) (t : Face) → HasSign b (twiceArea t) → Left (t 
 turned-left true t h = sign-ahead true _ _ _ (is-area t) h
 turned-left false t h = sign-ahead false _ _ _ (is-area t) h
 
+pub left-turned : (b : Bool) (t : Face) → Left (t .p) (second b t) (third b t) → HasSign b (twiceArea t)
+left-turned true t h = ahead-sign true _ _ _ (is-area t) h
+left-turned false t h = ahead-sign false _ _ _ (is-area t) h
+
 -- the spot is on the segment, by numbers
 pub record Touches (p q s : Point) : Type 0 where
   pub straight : loop p q s ≡ loop p s q

@@ -22,7 +22,8 @@ corner s = record { u = s .u; v = s .v; w = 0 }
 abbrev pub areaTo : Point → Point → Spot → ℤ
 areaTo p q s = twiceArea (record { p = p; q = q; r = corner s })
 
--- the triangle holds the spot: from each of its sides the spot lies the way it turns, and on none of them
+-- the triangle holds the spot by the turn asked: from each of its sides the spot lies the way asked, and on none of them.
+-- So it turns that way itself; that no triangle of the other turn lies over the spot is `Cover`'s field `turned` (mesh/proofs/EitherTurn)
 pub record Holds (positive : Bool) (t : Face) (s : Spot) : Type 0 where
   pub pq : HasSign positive (areaTo (t .p) (t .q) s)
   pub qr : HasSign positive (areaTo (t .q) (t .r) s)

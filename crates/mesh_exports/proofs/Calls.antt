@@ -1,7 +1,7 @@
 -- The promise of a call, for settings that are refused and for those that are known.
 -- Assumes nothing.
 use Prim.Native.Nat.{ℕ}
-use mathlib.Core.Path.{_≡_, sym, ap, _∙_}
+use mathlib.Core.Path.{_≡_, sym, _∙_}
 use mathlib.Core.List.{List, [], _∷_}
 use lib.Ieee.{Float}
 use Rattle.patch.specs.declared.kinds.Patch.{Patch}
@@ -37,5 +37,5 @@ module _ {found : Found} {c′ : List ℕ} {r : ℕ} (s : (r ≡ found .number) 
         → Says twoWords (checkSays bs xs pw iw) c′ r
     check-known e c f =
         let g = known-granted bs xs is e in
-        let right = rw (g .settings, g .patch) at (c .is) in
-        says-as (granted g badTop unknownSetting _ ∙ ap toldVerdict (sym right)) (said f)
+        let right = rw (g .settings, g .patch) at (c .answer) in
+        says-as (granted g badTop unknownSetting _ ∙ sym right) (said f)

@@ -10,9 +10,11 @@ use Rattle.patch.specs.Subdivide.{discards}
 use Rattle.tessellate.specs.Answers.{Told}
 use Rattle.mesh_verdict.specs.declared.Verdict.{Verdict}
 use Rattle.mesh_verdict.specs.declared.Verdict.the-variants.{BadTop, Isolines, Dots, ShouldBeDiscarded, NotThrees, UnknownIndex, Outside, EqualPoints, Turned, SideTwice, OpenSide, MissingPiece, Accepted}
-use Rattle.verdict_meaning.specs.Checks.{verdict}
+use Rattle.verdict_meaning.specs.Answers.{checkVerdict}
 use Rattle.verdict_meaning.specs.Numbers.{toldVerdict}
 use Rattle.verdict_meaning.specs.Covered.{Covered}
+use Rattle.verdict_meaning.proofs.Named.{verdict}
+use Rattle.verdict_meaning.proofs.Numbers.{verdict-told}
 use Rattle.verdict_meaning.proofs.Verdicts.{checked}
 use Rattle.verdict_meaning.proofs.Accepted.{accepted-covered}
 use Rattle.replies.specs.Replies.{twoWords, Says}
@@ -40,6 +42,6 @@ pub called-covered : (bs : List ℕ) (xs : List Float) (pw iw : List ℕ) {c′ 
     → discards (patchIn bs xs) ≡ false → Covered (settingsIn bs) (patchIn bs xs) pw iw
 called-covered bs xs pw iw s d =
     let v = verdict (settingsIn bs) (patchIn bs xs) pw iw in
-    let k = known-zero bs (toldVerdict v) (sym (s .number)) in
-    let z = zero-accepted v (ap (λ (x : Told). x .number) (sym k) ∙ sym (s .number)) in
+    let k = known-zero bs (checkVerdict (settingsIn bs) (patchIn bs xs) pw iw) (sym (s .number)) in
+    let z = zero-accepted v (ap (λ (x : Told). x .number) (verdict-told (settingsIn bs) (patchIn bs xs) pw iw ∙ sym k) ∙ sym (s .number)) in
     accepted-covered (settingsIn bs) (patchIn bs xs) pw iw (checked (settingsIn bs) (patchIn bs xs) pw iw (sym z)) d

@@ -6,8 +6,7 @@ use mathlib.Core.List.{List}
 use lib.Ieee.{Float}
 use lib.ListN.{getD}
 use Rattle.tessellate.specs.Answers.{Told}
-use Rattle.verdict_meaning.specs.Checks.{verdict}
-use Rattle.verdict_meaning.specs.Numbers.{toldVerdict}
+use Rattle.verdict_meaning.specs.Answers.{checkVerdict}
 use Rattle.replies.specs.Replies.{unknownSetting, badTop}
 use Rattle.requests.specs.Inputs.{patchIn, settingsIn}
 use Rattle.requests.specs.Asked.{known}
@@ -21,4 +20,4 @@ pub record Finds (t : Told) (r : Found) : Type 0 where
 
 -- of setting bytes bs, levels xs, the words pw of the points and iw of the indices: a bad top first of all, then an unknown setting
 abbrev pub checkSays : List ℕ → List Float → List ℕ → List ℕ → Told
-checkSays bs xs pw iw = known bs badTop unknownSetting (toldVerdict (verdict (settingsIn bs) (patchIn bs xs) pw iw))
+checkSays bs xs pw iw = known bs badTop unknownSetting (checkVerdict (settingsIn bs) (patchIn bs xs) pw iw)

@@ -1,2 +1,3 @@
 -- The definitions of `mesh_exports`.
 pub mod Founds
+pub mod Exactly

@@ -1,2 +1,3 @@
 -- The laws of `replies`.
 pub mod Replies
+pub mod ClampBytes

@@ -21,6 +21,10 @@ tells-as e h = rw e h
 pub tells-one : {n : ℕ} {reply : Reply} → Tells (drewBoth n 0) reply → Tells (drew n) reply
 tells-one h = record { number = h .number; first = h .first; second = h .second }
 
+-- values after the second are not told
+pub tells-more : {p i : ℕ} {vs : List ℕ} {reply : Reply} → Tells (drewBoth p i) reply → Tells (record { number = 0; values = p ∷ i ∷ vs }) reply
+tells-more h = record { number = h .number; first = h .first; second = h .second }
+
 -- how an answer is said
 module _ {t : Told} {reply : Reply} {c′ : List ℕ} {r : ℕ} (tells : Tells t reply) where
   pub said-two : (r ≡ reply .number) × (c′ ≡ reply .first ∷ reply .second ∷ []) → Says twoWords t c′ r

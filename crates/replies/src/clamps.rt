@@ -1,13 +1,15 @@
 // What measuring says of each level, as bytes in the caller's memory.
 ghost use mathlib.Core.Path.{_≡_};
 ghost use Rattle.level_clamps.specs.declared.Clamps.the-variants.{Triangles, Quads, Isolines};
-ghost use Rattle.replies.specs.Clamps.{clampByte, clampBytes, sizeClamps, noClamps};
+ghost use Rattle.level_clamps.specs.Numbers.{clampNumber, clampNumbers};
+ghost use Rattle.tessellate.specs.Answers.{toldSize};
+ghost use Rattle.replies.specs.Clamps.{clampBytes, noClamps};
 use level::Clamp;
 use level_clamps::Clamps;
 use tessellate::answer::Size;
 
 fn byte_of(clamp: Clamp) -> u8
-    ensures { λ r. ⌜ r ≡ clampByte clamp ⌝ }
+    ensures { λ r. ⌜ r ≡ clampNumber clamp ⌝ }
 {
     match clamp {
         Clamp::Below => 1,
@@ -17,13 +19,13 @@ fn byte_of(clamp: Clamp) -> u8
 }
 
 fn triangle_bytes(a: Clamp, b: Clamp, c: Clamp, inside: Clamp) -> [u8; 6]
-    ensures { λ r. ⌜ r ≡ clampBytes (Triangles a b c inside) ⌝ }
+    ensures { λ r. ⌜ r ≡ clampNumbers (Triangles a b c inside) ⌝ }
 {
     [byte_of(a), byte_of(b), byte_of(c), 0, byte_of(inside), 0]
 }
 
 fn quad_bytes(a: Clamp, b: Clamp, c: Clamp, d: Clamp, rows: Clamp, columns: Clamp) -> [u8; 6]
-    ensures { λ r. ⌜ r ≡ clampBytes (Quads a b c d rows columns) ⌝ }
+    ensures { λ r. ⌜ r ≡ clampNumbers (Quads a b c d rows columns) ⌝ }
 {
     [
         byte_of(a),
@@ -36,13 +38,13 @@ fn quad_bytes(a: Clamp, b: Clamp, c: Clamp, d: Clamp, rows: Clamp, columns: Clam
 }
 
 fn isoline_bytes(lines: Clamp, along: Clamp) -> [u8; 6]
-    ensures { λ r. ⌜ r ≡ clampBytes (Isolines lines along) ⌝ }
+    ensures { λ r. ⌜ r ≡ clampNumbers (Isolines lines along) ⌝ }
 {
     [byte_of(lines), byte_of(along), 0, 0, 0, 0]
 }
 
 fn bytes_of(clamps: Clamps) -> [u8; 6]
-    ensures { λ r. ⌜ r ≡ clampBytes clamps ⌝ }
+    ensures { λ r. ⌜ r ≡ clampNumbers clamps ⌝ }
 {
     match clamps {
         Clamps::Triangles {
@@ -70,7 +72,7 @@ pub fn say_nothing(clamps: &mut [u8; 6])
 }
 
 pub fn say_clamps(size: Size, clamps: &mut [u8; 6])
-    ensures { λ _. ⌜ now (clamps .exit) ≡ sizeClamps size ⌝ }
+    ensures { λ _. ⌜ now (clamps .exit) ≡ clampBytes (toldSize size .values) ⌝ }
 {
     match size {
         Size::Counts {

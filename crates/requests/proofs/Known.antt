@@ -1,14 +1,16 @@
 -- Which answer a call gives: its own for known settings, else that of the refusal. Assumes nothing.
 use Prim.Native.Nat.{ℕ, _<_, _≤_}
-use mathlib.Core.Path.{_≡_, refl}
+use mathlib.Core.Path.{_≡_, refl, sym, _∙_}
 use mathlib.Core.Bool.{Bool, true, false, cond}
 use mathlib.Core.List.{List}
 use native.Mathlib.Omega.{arith}
-use borrow.Author.Tests.{lt-ltb, le-ltb}
+use borrow.Author.Tests.{lt-ltb, le-ltb, ltb-true, ltb-false}
 use lib.Dec.{ltb}
-use Rattle.level.specs.Top.{isTop}
-use Rattle.job_fields.specs.Settings.{firstUnknown}
+use Rattle.level.specs.Top.{Top, isTop}
+use Rattle.job_fields.specs.Settings.{choices, firstUnknown, FirstOver, AllBelow}
+use Rattle.job_fields.proofs.Limits.{first-is, first-none}
 use Rattle.tessellate.specs.Answers.{Told}
+use Rattle.tessellate.proofs.Tops.{top-as, no-top}
 use Rattle.replies.specs.Replies.{unknownSetting, badTop}
 use Rattle.requests.specs.Inputs.{topIn}
 use Rattle.requests.specs.Asked.{known}
@@ -35,3 +37,22 @@ known-zero bs t = go (isTop (topIn bs)) (ltb (firstUnknown bs 0) 5)
     go false b e = absurd (omega arith)
     go true true e = absurd (omega arith)
     go true false e = refl
+
+-- ---- settings that are refused or known, for anything that is said of them
+-- the top is none; or it is one, and a setting byte is the first out of range; or all are in range
+pub known-cases : {A : Type 0} (bs : List ℕ) (bad : A) (other : ℕ → A) (t : A) (P : A → Type 0) → ((Top (topIn bs) → ⊥) → P bad)
+    → ((k : ℕ) → Top (topIn bs) → FirstOver choices bs 0 k → P (other k)) → (Top (topIn bs) → AllBelow choices bs 0 → P t) → P (known bs bad other t)
+unfolding known
+known-cases bs bad other t P p q r = go (isTop (topIn bs)) (ltb (firstUnknown bs 0) 5) refl refl
+  where
+    go : (a b : Bool) → isTop (topIn bs) ≡ a → ltb (firstUnknown bs 0) 5 ≡ b → P (cond a (cond b (other (firstUnknown bs 0)) t) bad)
+    go false b e f = p (no-top (topIn bs) e)
+    go true true e f = q (firstUnknown bs 0) (top-as (topIn bs) e) (first-is choices bs 0 (firstUnknown bs 0) .0 (refl, ltb-true (firstUnknown bs 0) 5 f))
+    go true false e f = r (top-as (topIn bs) e) (first-none choices bs 0 .0 (ltb-false (firstUnknown bs 0) 5 f))
+
+-- one byte is the first out of range, and then not all are in range
+pub one-first : (bs : List ℕ) (k m : ℕ) → FirstOver choices bs 0 k → FirstOver choices bs 0 m → k ≡ m
+one-first bs k m f g = sym (first-is choices bs 0 k .1 f .0) ∙ first-is choices bs 0 m .1 g .0
+
+pub not-all : (bs : List ℕ) (k : ℕ) → FirstOver choices bs 0 k → AllBelow choices bs 0 → ⊥
+not-all bs k f a = omega (arith, first-is choices bs 0 k .1 f .0, first-is choices bs 0 k .1 f .1, first-none choices bs 0 .1 a)

@@ -14,6 +14,7 @@ use Rattle.job_fields.specs.Settings.{firstUnknown, settingsAt}
 use Rattle.tessellate.specs.Answers.{Told}
 use Rattle.replies.specs.declared.reply.Reply.{Reply}
 use Rattle.replies.specs.Replies.{replyOf, Tells, unknownSetting, badTop}
+use Rattle.replies.specs.Clamps.{clampBytes, noClamps}
 use Rattle.replies.proofs.Replies.{tells-is, tells-of}
 use Rattle.requests.specs.declared.asked.Asked.{Asked}
 use Rattle.requests.specs.declared.asked.Asked.the-variants.{Refused, Known}
@@ -43,7 +44,7 @@ pub record Instead (bs : List ℕ) (reply : Reply) : Type 0 where
   pub number : told .number ≡ suc less
   pub tells : Tells told reply
   pub answer : (t : Told) → known bs badTop unknownSetting t ≡ told
-  pub nothing : (none some : List ℕ) → known bs none (λ (place : ℕ). none) some ≡ none
+  pub clamps : clampBytes (told .values) ≡ noClamps
 
 -- a call whose settings are known: the operation tells
 pub record Granted (bs : List ℕ) (xs : List Float) (set : Settings) (p : Patch) : Type 0 where
@@ -66,7 +67,7 @@ module _ (bs : List ℕ) (xs : List Float) {a : Asked} (is : a ≡ askedIn bs xs
       go : (t u : Bool) → isTop (topIn bs) ≡ t → ltb place 5 ≡ u → Refused reply ≡ read t u → Instead bs reply
       go false u f g h =
           let k : reply ≡ replyOf badTop = cc in
-          record { told = badTop; less = 10; number = refl; tells = tells-of k; answer = λ t. top-bad bs badTop unknownSetting t f; nothing = λ n s. top-bad bs n (λ (x : ℕ). n) s f }
+          record { told = badTop; less = 10; number = refl; tells = tells-of k; answer = λ t. top-bad bs badTop unknownSetting t f; clamps = refl }
       go true true f g h =
           let k : reply ≡ replyOf (unknownSetting place) = cc in
           let low = ltb-true place 5 g in
@@ -76,7 +77,7 @@ module _ (bs : List ℕ) (xs : List Float) {a : Asked} (is : a ≡ askedIn bs xs
             number = refl;
             tells = tells-of k;
             answer = λ t. setting-unknown bs badTop unknownSetting t f low;
-            nothing = λ n s. setting-unknown bs n (λ (x : ℕ). n) s f low;
+            clamps = refl;
           }
       go true false f g h = let z : _≡_ {A = ℕ} 0 1 = cc in absurd (omega arith)
 

@@ -1,3 +1,4 @@
 -- The definitions of `requests`.
 pub mod Inputs
 pub mod Asked
+pub mod Exactly

@@ -24,6 +24,16 @@ pub empty : {A : Type 0} (xs : List A) → length xs ≡ 0 → xs ≡ []
 empty [] e = refl
 empty (x ∷ xs) e = absurd (omega arith)
 
+-- ---- the same: no differences
+pub same-none : (l r : Mesh) → SameMesh l r → differences l r ≡ []
+same-none l r s = empty (differences l r)
+    (parts-count l r ∙ rw (
+      within-none samePoint _≡_ same-is is-same points-join (l .points) (r .points) (s .leftPoints),
+      within-none samePoint _≡_ same-is is-same points-join (r .points) (l .points) (s .rightPoints),
+      within-none sameFace _ face-is is-face rotation-joins (l .faces) (r .faces) (s .leftFaces),
+      within-none sameFace _ face-is is-face rotation-joins (r .faces) (l .faces) (s .rightFaces),
+    ))
+
 -- ---- no differences: the same
 pub none-same : (l r : Mesh) → differences l r ≡ [] → SameMesh l r
 none-same l r e =
@@ -35,16 +45,6 @@ none-same l r e =
       leftFaces = none-within sameFace _ face-is is-face rotation-joins (l .faces) (r .faces) (empty _ (omega arith));
       rightFaces = none-within sameFace _ face-is is-face rotation-joins (r .faces) (l .faces) (empty _ (omega arith));
     }
-
--- ---- the same: no differences
-pub same-none : (l r : Mesh) → SameMesh l r → differences l r ≡ []
-same-none l r s = empty (differences l r)
-    (parts-count l r ∙ rw (
-      within-none samePoint _≡_ same-is is-same points-join (l .points) (r .points) (s .leftPoints),
-      within-none samePoint _≡_ same-is is-same points-join (r .points) (l .points) (s .rightPoints),
-      within-none sameFace _ face-is is-face rotation-joins (l .faces) (r .faces) (s .leftFaces),
-      within-none sameFace _ face-is is-face rotation-joins (r .faces) (l .faces) (s .rightFaces),
-    ))
 
 -- ---- a mesh and itself
 pub self-none : (m : Mesh) → differences m m ≡ []

@@ -3,7 +3,7 @@
 -- Assumes nothing.
 use Prim.Native.Nat.{ℕ, _+_}
 use mathlib.Core.Path.{_≡_, refl, sym, ap, _∙_}
-use mathlib.Core.Bool.{Bool, true, false, cond}
+use mathlib.Core.Bool.{Bool, true}
 use mathlib.Core.List.{List, [], _∷_}
 use native.Mathlib.Omega.{arith}
 use borrow.Author.Tests.{leb-true}
@@ -14,10 +14,11 @@ use Rattle.shared_lists.specs.declared.state.Designer.{Designer}
 use Rattle.shared_lists.specs.declared.state.Designer.the-variants.{First, Second}
 use Rattle.shared_lists.specs.declared.state.Quota.{Quota}
 use Rattle.shared_lists.specs.Answers.{quotasFit}
-use Rattle.share_runs.specs.Session.{Call, Session, Answered, answers, play, answer, next, same, of, callsOf, answersOf, ownState, OwnState, View, view, quotaOf, begun}
+use Rattle.share_runs.specs.Session.{Call, Session, Answered, answers, play, reply, next, same, callsOf, answersOf, ownState, OwnState, View, view, quotaOf, begun}
 use Rattle.shared_lists.proofs.Sound.{both}
+use Rattle.share_runs.proofs.Steps.{those-twice, seen, answered, kept-after}
 use Rattle.share_runs.proofs.Seen.{same-is}
-use Rattle.share_runs.proofs.OwnState.{ownStateAnswers, viewAfter}
+use Rattle.share_runs.proofs.OwnState.{ownStateNext, viewNext, ownReply, ownStateAnswers, viewAfter}
 use Rattle.share_runs.proofs.Step.{Good, good-next, length-next, other-next, own-answer, own-next, own-state-next}
 
 -- an accepted start begins a good session
@@ -33,56 +34,34 @@ begun-good a b v i e =
       indices = refl;
     }
 
--- an answer before others
-pub answered-then : (d : Designer) {t t′ : Told} {xs xs′ : List Answered} → t ≡ t′ → xs ≡ xs′
-    → _≡_ {A = List Answered} (record { to = d; told = t } ∷ xs) (record { to = d; told = t′ } ∷ xs′)
-answered-then d e f = cc
-
 module _ (d : Designer) where
+  abbrev mine : Call → Bool
+  mine c = same d (c .by)
+
+  abbrev its : Answered → Bool
+  its a = same d (a .to)
+
   -- the view after calls is that of the own calls alone
   own-view : (s : Session) → Good s → (cs : List Call) → view d (play s cs) ≡ viewAfter (view d s) (callsOf d cs)
-  unfolding play viewAfter of
-  own-view s g [] = refl
-  own-view s g (c ∷ cs) = go (same d (c .by)) refl (own-view (next s c) (good-next s g c) cs)
-    where
-      go : (b : Bool) → same d (c .by) ≡ b → view d (play (next s c) cs) ≡ viewAfter (view d (next s c)) (callsOf d cs)
-          → view d (play (next s c) cs) ≡ viewAfter (view d s) (cond b (c ∷ callsOf d cs) (callsOf d cs))
-      go true e h = h ∙ ap (λ (w : View). viewAfter w (callsOf d cs)) (own-next s g d c (same-is d (c .by) e))
-      go false e h = h ∙ ap (λ (w : View). viewAfter w (callsOf d cs)) (other-next s g d c e)
+  own-view = seen next Good good-next mine (view d) viewNext (λ s g c e. own-next s g d c (same-is d (c .by) e)) (λ s g c e. other-next s g d c e)
 
   -- and so are the answers
   own-answers : (s : Session) → Good s → (cs : List Call) → answersOf d (answers s cs) ≡ ownStateAnswers (ownState d (s .state)) (callsOf d cs)
-  unfolding answers ownStateAnswers of
-  own-answers s g [] = refl
-  own-answers s g (c ∷ cs) = go (same d (c .by)) refl (own-answers (next s c) (good-next s g c) cs)
-    where
-      go : (b : Bool) → same d (c .by) ≡ b → answersOf d (answers (next s c) cs) ≡ ownStateAnswers (ownState d (next s c .state)) (callsOf d cs)
-          → cond b (record { to = c .by; told = answer s c } ∷ answersOf d (answers (next s c) cs)) (answersOf d (answers (next s c) cs))
-          ≡ ownStateAnswers (ownState d (s .state)) (cond b (c ∷ callsOf d cs) (callsOf d cs))
-      go true e h =
-          let own = same-is d (c .by) e in
-          answered-then (c .by) (own-answer s g d c own) (h ∙ ap (λ (x : OwnState). ownStateAnswers x (callsOf d cs)) (own-state-next s g d c own))
-      go false e h = h ∙ ap (λ (w : View). ownStateAnswers (w .state) (callsOf d cs)) (other-next s g d c e)
+  own-answers =
+      answered next Good good-next mine (λ (s : Session). ownState d (s .state)) ownStateNext (λ s g c e. own-state-next s g d c (same-is d (c .by) e))
+      (λ s g c e. ap (λ (w : View). w .state) (other-next s g d c e)) its reply ownReply (λ s c. refl)
+      (λ s g c e. ap (λ (t : Told). record { to = c .by; told = t }) (own-answer s g d c (same-is d (c .by) e)))
 
   -- the own calls are all of the own calls
   own-calls : (cs : List Call) → callsOf d (callsOf d cs) ≡ callsOf d cs
-  unfolding of
-  own-calls [] = refl
-  own-calls (c ∷ cs) = go (same d (c .by)) refl (own-calls cs)
-    where
-      go : (b : Bool) → same d (c .by) ≡ b → callsOf d (callsOf d cs) ≡ callsOf d cs
-          → callsOf d (cond b (c ∷ callsOf d cs) (callsOf d cs)) ≡ cond b (c ∷ callsOf d cs) (callsOf d cs)
-      go true e h = rw (e, h)
-      go false e h = h
+  own-calls = those-twice mine
 
 -- calls leave the lists' lengths
 pub kept-lengths : (s : Session) → Good s → (cs : List Call) → (length (play s cs .vertices) ≡ length (s .vertices)) × (length (play s cs .indices) ≡ length (s .indices))
-unfolding play
-kept-lengths s g [] = (refl, refl)
-kept-lengths s g (c ∷ cs) =
-    let h = kept-lengths (next s c) (good-next s g c) cs in
-    let k = length-next s g c in
-    (h .0 ∙ k .0, h .1 ∙ k .1)
+kept-lengths s g cs = (
+  kept-after next Good good-next (λ (x : Session). length (x .vertices)) (λ x h c. length-next x h c .0) s g cs,
+  kept-after next Good good-next (λ (x : Session). length (x .indices)) (λ x h c. length-next x h c .1) s g cs,
+)
 
 -- what one designer has of calls, and of the own calls among them played alone
 pub record Undisturbed (d : Designer) (s : Session) (cs : List Call) : Type 0 where
@@ -102,7 +81,7 @@ isolated a b v i ok d cs =
     }
 
 -- the part of the state that a start gives depends on the own quota and the lengths
-start-own-state : (d : Designer) (a b a′ b′ : Quota) (v v′ i i′ : List ℕ) → quotaOf d a b ≡ quotaOf d a′ b′ → length v ≡ length v′ → length i ≡ length i′
+pub start-own-state : (d : Designer) (a b a′ b′ : Quota) (v v′ i i′ : List ℕ) → quotaOf d a b ≡ quotaOf d a′ b′ → length v ≡ length v′ → length i ≡ length i′
     → ownState d (begun a b v i .state) ≡ ownState d (begun a′ b′ v′ i′ .state)
 start-own-state First a b a′ b′ v v′ i i′ q m n = rw (q, m, n)
 start-own-state Second a b a′ b′ v v′ i i′ q m n = rw (q, m, n)

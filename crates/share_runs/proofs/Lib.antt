@@ -1,7 +1,8 @@
 -- The laws of `share_runs`.
+pub mod Steps
 mod Beside
 mod Seen
-mod OwnState
+pub mod OwnState
 pub mod Step
 pub mod Lengths
 pub mod Isolation

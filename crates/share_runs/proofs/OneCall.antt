@@ -30,14 +30,14 @@ use Rattle.shares.proofs.Counts.{point-words, index-words}
 use Rattle.shares.proofs.Drawn.{ready}
 
 -- numbers raised by n, and n taken off again
-lowered : (n : ℕ) (xs : List ℕ) → map (λ x. x - n) (map (λ x. n + x) xs) ≡ xs
+pub lowered : (n : ℕ) (xs : List ℕ) → map (λ x. x - n) (map (λ x. n + x) xs) ≡ xs
 lowered n [] = refl
 lowered n (x ∷ xs) =
     let e : n + x - n ≡ x = omega arith in
     rw (e, lowered n xs)
 
 -- the words from a on, m of them, are those that were written there
-written : (xs : List ℕ) {xs′ : List ℕ} (a m : ℕ) (ws : List ℕ) → m ≡ length ws → a ≤ length xs → xs′ ≡ over xs a ws → take m (drop a xs′) ≡ ws
+pub written : (xs : List ℕ) {xs′ : List ℕ} (a m : ℕ) (ws : List ℕ) → m ≡ length ws → a ≤ length xs → xs′ ≡ over xs a ws → take m (drop a xs′) ≡ ws
 written xs {xs′} a m ws e h is =
     let n : a + m - a ≡ m = omega arith in
     rw is (ap (λ (j : ℕ). take j (drop a (over xs a ws))) (sym n) ∙ lent-words xs a (a + m) ws (omega arith) h)

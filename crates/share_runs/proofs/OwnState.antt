@@ -1,7 +1,7 @@
 -- A designer alone: the answers and the words that come of the own part of the state and the own calls.
 -- Assumes nothing.
 use Prim.Native.Nat.{ℕ, _+_, _-_, _/_}
-use mathlib.Core.List.{List, [], _∷_}
+use mathlib.Core.List.{List}
 use lib.ListN.{length}
 use Rattle.buffer.specs.Over.{over}
 use Rattle.patch.specs.declared.kinds.Patch.{Patch}
@@ -13,6 +13,7 @@ use Rattle.shared_lists.specs.Answers.{lent, clearVerdict}
 use Rattle.shares.specs.Answers.{verdict}
 use Rattle.shared_lists.specs.Operations.{unlessRefused}
 use Rattle.shares.specs.Operations.{shifted}
+use Rattle.share_runs.specs.Steps.{after, replies}
 use Rattle.share_runs.specs.Session.{Request, draw, clear, Call, Answered, OwnState, View}
 
 -- the answer to a request, lent lists of v and i words
@@ -54,11 +55,12 @@ ownStateNext a c = unlessRefused (callAnswer a c .number) (ownStateServed a (c .
 abbrev pub viewNext : View → Call → View
 viewNext w c = unlessRefused (callAnswer (w .state) c .number) (viewServed w (c .request)) w
 
--- the answers to calls, and the view after them
-unfoldable pub ownStateAnswers : OwnState → List Call → List Answered
-ownStateAnswers a [] = []
-ownStateAnswers a (c ∷ cs) = record { to = c .by; told = callAnswer a c } ∷ ownStateAnswers (ownStateNext a c) cs
+abbrev pub ownReply : OwnState → Call → Answered
+ownReply a c = record { to = c .by; told = callAnswer a c }
 
-unfoldable pub viewAfter : View → List Call → View
-viewAfter w [] = w
-viewAfter w (c ∷ cs) = viewAfter (viewNext w c) cs
+-- the answers to calls, and the view after them
+abbrev pub ownStateAnswers : OwnState → List Call → List Answered
+ownStateAnswers a cs = replies ownStateNext ownReply a cs
+
+abbrev pub viewAfter : View → List Call → View
+viewAfter w cs = after viewNext w cs

@@ -17,26 +17,23 @@ use Rattle.shared_lists.specs.Answers.{done, toldClear, quotasFit}
 use Rattle.shares.specs.Answers.{toldDraw}
 use Rattle.shared_lists.specs.Operations.{unlessRefused, startState, clearedState}
 use Rattle.shares.specs.Operations.{newIndices, drawnState}
-use Rattle.share_runs.specs.Session.{draw, clear, Call, Session, Answered, answerTo, served, answer, next, answers, play, callsOf, answersOf, view, quotaOf, begun}
-use Rattle.share_runs.specs.Run.{Begun, begin, Made, drew, cleared, Ran, none, more}
-use Rattle.share_runs.proofs.Isolation.{begun-good, answered-then, kept-lengths, isolated, own-only}
+use Rattle.share_runs.specs.Session.{draw, clear, Call, Session, Answered, answerTo, served, reply, next, callsOf, answersOf, view, quotaOf, begun}
+use Rattle.share_runs.specs.Run.{Begun, begin, Made, drew, cleared, Ran}
+use Rattle.share_runs.proofs.Steps.{Played, ran-is}
+use Rattle.share_runs.proofs.Isolation.{begun-good, kept-lengths, isolated, own-only}
 
 -- a session by its parts
-session-of : {a a′ : State} {b b′ c c′ : List ℕ} → a ≡ a′ → b ≡ b′ → c ≡ c′
+pub session-of : {a a′ : State} {b b′ c c′ : List ℕ} → a ≡ a′ → b ≡ b′ → c ≡ c′
     → _≡_ {A = Session} (record { state = a; vertices = b; indices = c }) (record { state = a′; vertices = b′; indices = c′ })
 session-of e f g = cc
 
 -- what a call does
-record Is (s : Session) (c : Call) (t : Told) (s′ : Session) : Type 0 where
-  told : t ≡ answer s c
-  left : s′ ≡ next s c
-
-made-is : {s s′ : Session} {c : Call} {t : Told} → Made s c t s′ → Is s c t s′
+made-is : (s s′ : Session) (c : Call) (a : Answered) → Made s c a s′ → (a ≡ reply s c) × (s′ ≡ next s c)
 unfolding answerTo served
-made-is (drew s d set p v v′ i i′ r h l) = record {
-  told = h .answer;
-  left = go (toldDraw (r .answer) .number) refl ∙ ap (λ (t : Told). unlessRefused (t .number) (served s d (draw set p)) s) (h .answer);
-}
+made-is _ _ _ _ (drew s d set p v v′ i i′ r h l) = (
+  ap (λ (t : Told). record { to = d; told = t }) (h .answer),
+  go (toldDraw (r .answer) .number) refl ∙ ap (λ (t : Told). unlessRefused (t .number) (served s d (draw set p)) s) (h .answer),
+)
   where
     go : (n : ℕ) → toldDraw (r .answer) .number ≡ n
         → _≡_ {A = Session} (record { state = r .state; vertices = unlessRefused n v′ (s .vertices); indices = unlessRefused n i′ (s .indices) }) (unlessRefused n (served s d (draw set p)) s)
@@ -46,31 +43,15 @@ made-is (drew s d set p v v′ i i′ r h l) = record {
         (h .indices ∙ ap (λ (n : ℕ). unlessRefused n (appended d (newIndices d (s .state) set p) (s .state .indices) i) i) e
         ∙ ap (appended d (newIndices d (s .state) set p) (s .state .indices)) (l .indices e))
     go (suc n) e = session-of (h .state ∙ ap (λ (n : ℕ). unlessRefused n (drawnState d (s .state) set p) (s .state)) e) refl refl
-made-is (cleared s d v i r h) = record {
-  told = h .answer;
-  left = go (toldClear (r .answer) .number) refl ∙ ap (λ (t : Told). unlessRefused (t .number) (served s d clear) s) (h .answer);
-}
+made-is _ _ _ _ (cleared s d v i r h) = (
+  ap (λ (t : Told). record { to = d; told = t }) (h .answer),
+  go (toldClear (r .answer) .number) refl ∙ ap (λ (t : Told). unlessRefused (t .number) (served s d clear) s) (h .answer),
+)
   where
     go : (n : ℕ) → toldClear (r .answer) .number ≡ n
         → _≡_ {A = Session} (record { state = r .state; vertices = s .vertices; indices = s .indices }) (unlessRefused n (served s d clear) s)
     go zero e = session-of (h .state ∙ ap (λ (n : ℕ). unlessRefused n (clearedState d (s .state)) (s .state)) e) refl refl
     go (suc n) e = session-of (h .state ∙ ap (λ (n : ℕ). unlessRefused n (clearedState d (s .state)) (s .state)) e) refl refl
-
--- a run of calls is what is played
-pub record Played (s : Session) (cs : List Call) (xs : List Answered) (s′ : Session) : Type 0 where
-  pub told : xs ≡ answers s cs
-  pub left : s′ ≡ play s cs
-
-pub ran-is : {s s′ : Session} {cs : List Call} {xs : List Answered} → Ran s cs xs s′ → Played s cs xs s′
-unfolding answers play
-ran-is (none s) = record { told = refl; left = refl }
-ran-is (more s s₁ s₂ c t cs xs m r) =
-    let i = made-is m in
-    let p = ran-is r in
-    record {
-      told = answered-then (c .by) (i .told) (p .told ∙ ap (λ (x : Session). answers x cs) (i .left));
-      left = p .left ∙ ap (λ (x : Session). play x cs) (i .left);
-    }
 
 -- ---- an accepted start
 -- the quotas fit, and the session is the definitions'
@@ -89,8 +70,8 @@ begun-is {a} {b} {v} {i} (begin s h) = go (quotasFit (length v) (length i) a b) 
 
 -- what a run from an accepted start plays
 run-is : {a b : Quota} {v i : List ℕ} {s s′ : Session} {cs : List Call} {xs : List Answered} → Begun a b v i s → Ran s cs xs s′
-    → Played (begun a b v i) cs xs s′
-run-is {s′ = s′} {cs = cs} {xs = xs} b r = subst (λ (x : Session). Played x cs xs s′) (begun-is b .is) (ran-is r)
+    → Played next reply (begun a b v i) cs xs s′
+run-is {s′ = s′} {cs = cs} {xs = xs} b r = subst (λ (x : Session). Played next reply x cs xs s′) (begun-is b .is) (ran-is Made (λ x. x) next reply made-is r)
 
 -- what one designer has of a run, and of another in which the other's calls were never made: the same answers with their counts, the same
 -- part of the state and the same words

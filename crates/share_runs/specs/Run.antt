@@ -2,7 +2,7 @@
 -- Assumes nothing.
 use Prim.Native.Nat.{ℕ}
 use mathlib.Core.Path.{_≡_}
-use mathlib.Core.List.{List, [], _∷_}
+use mathlib.Core.List.{List}
 use lib.ListN.{length}
 use Rattle.patch.specs.declared.kinds.Patch.{Patch}
 use Rattle.patch.specs.declared.settings.Settings.{Settings}
@@ -17,6 +17,7 @@ use Rattle.shared_lists.specs.Answers.{toldClear}
 use Rattle.shares.specs.Answers.{toldDraw}
 use Rattle.shared_lists.specs.Operations.{unlessRefused, DidStart, DidClear}
 use Rattle.shares.specs.Operations.{DidDraw}
+use Rattle.share_runs.specs.Steps as steps
 use Rattle.share_runs.specs.Session.{draw, clear, Call, Session, Answered}
 
 -- an accepted start, with these quotas, on the lists v and i: the session that it begins
@@ -29,20 +30,18 @@ pub record SameLists (s : Session) (t : Told) (v i : List ℕ) : Type 0 where
   pub indices : t .number ≡ 0 → i ≡ s .indices
 
 -- one call: handed the session's state, it answers, and leaves the next session
-pub data Made : Session → Call → Told → Session → Type 0 where
+pub data Made : Session → Call → Answered → Session → Type 0 where
   drew : (s : Session) (d : Designer) (set : Settings) (p : Patch) (v v′ i i′ : List ℕ) (r : DrawResult) → DidDraw d (s .state) set p v v′ i i′ r
       → SameLists s (toldDraw (r .answer)) v i
-      → Made s (record { by = d; request = draw set p; vertices = length v; indices = length i }) (toldDraw (r .answer)) (record {
+      → Made s (record { by = d; request = draw set p; vertices = length v; indices = length i }) (record { to = d; told = toldDraw (r .answer) }) (record {
         state = r .state;
         vertices = unlessRefused (toldDraw (r .answer) .number) v′ (s .vertices);
         indices = unlessRefused (toldDraw (r .answer) .number) i′ (s .indices);
       })
   cleared : (s : Session) (d : Designer) (v i : List ℕ) (r : ClearResult) → DidClear d (s .state) (length v) (length i) r
-      → Made s (record { by = d; request = clear; vertices = length v; indices = length i }) (toldClear (r .answer))
+      → Made s (record { by = d; request = clear; vertices = length v; indices = length i }) (record { to = d; told = toldClear (r .answer) })
       (record { state = r .state; vertices = s .vertices; indices = s .indices })
 
 -- calls, the answers to them, and the session after them
-pub data Ran : Session → List Call → List Answered → Session → Type 0 where
-  none : (s : Session) → Ran s [] [] s
-  more : (s s₁ s₂ : Session) (c : Call) (t : Told) (cs : List Call) (xs : List Answered) → Made s c t s₁ → Ran s₁ cs xs s₂
-      → Ran s (c ∷ cs) (record { to = c .by; told = t } ∷ xs) s₂
+abbrev pub Ran : Session → List Call → List Answered → Session → Type 0
+Ran s cs xs s′ = steps.Ran Made s cs xs s′

@@ -1,8 +1,8 @@
 -- Calls since a start, one after the other, and what one designer sees of them.
 -- Assumes nothing.
 use Prim.Native.Nat.{ℕ}
-use mathlib.Core.Bool.{Bool, true, false, cond}
-use mathlib.Core.List.{List, [], _∷_}
+use mathlib.Core.Bool.{Bool, true, false}
+use mathlib.Core.List.{List}
 use lib.ListN.{length}
 use Rattle.patch.specs.declared.kinds.Patch.{Patch}
 use Rattle.patch.specs.declared.settings.Settings.{Settings}
@@ -18,6 +18,7 @@ use Rattle.shared_lists.specs.Answers.{accepted, clearVerdict}
 use Rattle.shares.specs.Answers.{drawVerdict}
 use Rattle.shared_lists.specs.Operations.{unlessRefused, startState, clearedState}
 use Rattle.shares.specs.Operations.{newIndices, drawnState}
+use Rattle.share_runs.specs.Steps.{those, after, replies}
 
 -- what a designer may ask for after the start
 pub data Request : Type 0 where
@@ -63,14 +64,16 @@ pub record Answered : Type 0 where
   pub to : Designer
   pub told : Told
 
--- the answers to calls, one after the other, and the session after them
-unfoldable pub answers : Session → List Call → List Answered
-answers s [] = []
-answers s (c ∷ cs) = record { to = c .by; told = answer s c } ∷ answers (next s c) cs
+-- the answer as it is listed
+abbrev pub reply : Session → Call → Answered
+reply s c = record { to = c .by; told = answer s c }
 
-unfoldable pub play : Session → List Call → Session
-play s [] = s
-play s (c ∷ cs) = play (next s c) cs
+-- the answers to calls, one after the other, and the session after them
+abbrev pub answers : Session → List Call → List Answered
+answers s cs = replies next reply s cs
+
+abbrev pub play : Session → List Call → Session
+play s cs = after next s cs
 
 -- whether two designers are one
 abbrev pub same : Designer → Designer → Bool
@@ -79,17 +82,12 @@ same First Second = false
 same Second First = false
 same Second Second = true
 
--- those of a list that belong to a designer
-unfoldable pub of : {A : Type 0} → (A → Designer) → Designer → List A → List A
-of who d [] = []
-of who d (x ∷ xs) = cond (same d (who x)) (x ∷ of who d xs) (of who d xs)
-
 -- a designer's calls, and the answers to them
 abbrev pub callsOf : Designer → List Call → List Call
-callsOf d cs = of (λ c. c .by) d cs
+callsOf d cs = those (λ c. same d (c .by)) cs
 
 abbrev pub answersOf : Designer → List Answered → List Answered
-answersOf d xs = of (λ a. a .to) d xs
+answersOf d xs = those (λ a. same d (a .to)) xs
 
 -- a designer's part of the state, with the lengths of the start
 pub record OwnState : Type 0 where

@@ -1,7 +1,7 @@
 // Reading standard input.
 ghost use Prim.Native.Nat.{_+_, _≤_};
 ghost use lib.ListN.{length};
-ghost use Rattle.io.specs.Counts.{Counts};
+ghost use Rattle.streams.specs.Moved.{Filled};
 use libc::STDIN_FILENO;
 
 // How many bytes were read, and whether reading stopped at a read that failed. Fewer bytes than asked for and no failure: the input
@@ -26,7 +26,7 @@ fn read_on(bytes: &mut [u8], at: usize) -> Input
 
 // Reads to the front of `bytes` until they are full, the input ends or a read fails.
 pub fn read_front(bytes: &mut [u8]) -> Input
-    ensures { λ r. ⌜ Counts (r .count) (now (bytes .exit)) ⌝ }
+    ensures { λ r. ⌜ Filled (length (now (bytes .exit))) (now (bytes .exit)) r ⌝ }
 {
     let mut at = 0;
     while at < bytes.len() {

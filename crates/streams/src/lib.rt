@@ -1,9 +1,10 @@
-// Standard input and output for the programs: a read that fails is told apart from the end of the input, and what fails is told on
-// standard error. No contract can say what was read or written.
+// Standard input and output for the programs: a read that fails is distinguished from the end of the input, and a write that fails from
+// one that took all bytes. The contracts say how many bytes were moved; no contract can say which.
 mod input;
 mod output;
 
 pub use input::Input;
 pub use input::read_front;
+pub use output::Output;
 pub use output::tell;
 pub use output::write_or_tell;

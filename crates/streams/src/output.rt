@@ -1,17 +1,61 @@
 // Writing standard output and standard error.
+ghost use Prim.Native.Nat.{_+_, _≤_};
+ghost use lib.ListN.{length};
+ghost use Rattle.streams.specs.Moved.{Taken};
 use libc::STDERR_FILENO;
 use libc::STDOUT_FILENO;
 
-// A line on standard error. Where even that fails, there is nobody to tell.
-pub fn tell(line: &[u8]) {
-    io::write_all(STDERR_FILENO, line);
+// How many bytes were taken of those that were handed to writing, and whether they are fewer: then a write failed.
+pub struct Output {
+    pub count: usize,
+    pub failed: bool,
 }
 
-// Writes all of `bytes` to standard output and answers true, or tells the line and answers false.
-pub fn write_or_tell(bytes: &[u8], line: &[u8]) -> bool {
-    if io::write_all(STDOUT_FILENO, bytes) {
-        return true;
+// One write, of the bytes from `at` on: how many it took.
+fn write_on(file: i32, bytes: &[u8], at: usize) -> usize
+    requires { ⌜ at ≤ length (now bytes) ⌝ }
+    ensures { λ r. ⌜ at + r ≤ length (now (bytes .entry)) ⌝ }
+{
+    let rest = &bytes[at..];
+    let got = libc::write(file, rest);
+    io::count(got, rest)
+}
+
+// Writes until all of `bytes` is taken or a write takes nothing.
+fn write_front(file: i32, bytes: &[u8]) -> Output
+    ensures { λ r. ⌜ Taken (length (now (bytes .entry))) r ⌝ }
+{
+    let mut at = 0;
+    while at < bytes.len() {
+        let next = write_on(file, bytes, at);
+        if next == 0 {
+            return Output {
+                count: at,
+                failed: true,
+            };
+        }
+        at += next;
     }
-    tell(line);
-    false
+    Output {
+        count: at,
+        failed: false,
+    }
+}
+
+// Writes a line to standard error.
+pub fn tell(line: &[u8]) -> Output
+    ensures { λ r. ⌜ Taken (length (now (line .entry))) r ⌝ }
+{
+    write_front(STDERR_FILENO, line)
+}
+
+// Writes `bytes` to standard output, and a line to standard error where that fails.
+pub fn write_or_tell(bytes: &[u8], line: &[u8]) -> Output
+    ensures { λ r. ⌜ Taken (length (now (bytes .entry))) r ⌝ }
+{
+    let output = write_front(STDOUT_FILENO, bytes);
+    if output.failed {
+        tell(line);
+    }
+    output
 }

@@ -5,3 +5,4 @@ pub mod Order
 pub mod Strips
 pub mod Reached
 pub mod Mirror
+pub mod Loop

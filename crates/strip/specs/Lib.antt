@@ -3,3 +3,4 @@ pub mod Lines
 pub mod Rule
 pub mod Strips
 pub mod Mirror
+pub mod Loop

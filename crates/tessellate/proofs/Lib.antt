@@ -3,4 +3,5 @@ pub mod Tops
 mod Counted
 mod Cutting
 pub mod Draws
+pub mod Measured
 pub mod Together

@@ -82,16 +82,16 @@ module _ (set : Settings) (p : Patch) where
       (f .top, f .drawn, front I I d e (f .count))
 
   -- demand 3 of what the two operations give for the same patch and settings
-  pub together : (r : PointsAnswer) (s : IndicesAnswer) {v v′ i i′ : List ℕ} {P I : ℕ} → DrewPoints set p v v′ r → DrewIndices set p i i′ s
+  pub demand-together : (r : PointsAnswer) (s : IndicesAnswer) {v v′ i i′ : List ℕ} {P I : ℕ} → DrewPoints set p v v′ r → DrewIndices set p i i′ s
       → toldPoints r ≡ drew P → toldIndices s ≡ drew I → Demand set p (readPoints (take (3 * P) v′)) (take I i′)
-  together r s d d′ e e′ =
+  demand-together r s d d′ e e′ =
       let ps = points-drawn r d e in
       rw (ps .2, indices-drawn s d′ e′ .2) (demand set (ps .0) p (ps .1))
 
   -- and no spot is cut twice
   pub once-together : (r : PointsAnswer) (s : IndicesAnswer) {v v′ i i′ : List ℕ} {P I : ℕ} → DrewPoints set p v v′ r → DrewIndices set p i i′ s
       → toldPoints r ≡ drew P → toldIndices s ≡ drew I → SpotsOnce set p (readPoints (take (3 * P) v′)) (take I i′)
-  once-together r s d d′ e e′ = demand-once set (points-drawn r d e .0) p (together r s d d′ e e′)
+  once-together r s d d′ e e′ = demand-once set (points-drawn r d e .0) p (demand-together r s d d′ e e′)
 
 -- patches that are alike get equal indices where both are drawn
 pub kept : (set set′ : Settings) (p p′ : Patch) (r r′ : IndicesAnswer) {i₀ i₁ j₀ j₁ : List ℕ} {m n : ℕ} → Alike set set′ p p′

@@ -10,6 +10,7 @@ use Rattle.patch.specs.declared.kinds.Patch.{Patch}
 use Rattle.patch.specs.declared.settings.Settings.{Settings}
 use Rattle.patch.specs.Subdivide.{discards, subdivision}
 use Rattle.level_clamps.specs.Clamps.{clampsOf}
+use Rattle.level_clamps.specs.Numbers.{clampNumbers}
 use Rattle.drawing.specs.Points.{points}
 use Rattle.drawing.specs.Primitives.{indexWords}
 use Rattle.tessellate.specs.declared.answer.PointsAnswer.{PointsAnswer}
@@ -49,11 +50,11 @@ toldIndices indices.Discarded = refused 1
 toldIndices indices.NoRoomForIndices = refused 4
 toldIndices indices.BadTop = refused 11
 
--- measuring gives the counts of both, "discarded" or "bad top"
+-- measuring gives the counts of both with where each level lies, "discarded" or "bad top"
 abbrev pub toldSize : Size → Told
-toldSize (Counts p i c) = record { number = 0; values = p ∷ i ∷ [] }
-toldSize NoCounts = record { number = 1; values = [] }
-toldSize NoTop = record { number = 11; values = [] }
+toldSize (Counts p i c) = record { number = 0; values = p ∷ i ∷ clampNumbers c }
+toldSize NoCounts = refused 1
+toldSize NoTop = refused 11
 
 -- the points and the indices of a patch drawn with these settings
 abbrev pub pointsOf : Settings → Patch → ℕ
@@ -76,6 +77,9 @@ pointsVerdict set p v = verdict set p 3 (3 * pointsOf set p) v (pointsOf set p)
 abbrev pub indicesVerdict : Settings → Patch → ℕ → Told
 indicesVerdict set p i = verdict set p 4 (indicesOf set p) i (indicesOf set p)
 
--- what measuring has to say: a discarded patch says nothing of its levels
-unfoldable pub measured : Settings → Patch → Size
-measured set p = cond (isTop (set .top)) (cond (discards p) NoCounts (Counts (pointsOf set p) (indicesOf set p) (clampsOf (set .spacing) (set .top) p))) NoTop
+-- measuring: first of all a bad top; a discarded patch has neither counts nor clamps
+unfoldable pub measureVerdict : Settings → Patch → Told
+measureVerdict set p =
+    cond (isTop (set .top))
+    (cond (discards p) (refused 1) (record { number = 0; values = pointsOf set p ∷ indicesOf set p ∷ clampNumbers (clampsOf (set .spacing) (set .top) p) }))
+    (refused 11)

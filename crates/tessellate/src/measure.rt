@@ -1,7 +1,7 @@
 // Measuring: how many points and indices drawing would write, and which levels were clamped. It writes nothing and asks for
 // no room.
 ghost use mathlib.Core.Path.{_≡_};
-ghost use Rattle.tessellate.specs.Answers.{measured};
+ghost use Rattle.tessellate.specs.Answers.{toldSize, measureVerdict};
 use crate::answer::Size;
 use crate::cut::Cut;
 use crate::cut::cut_with;
@@ -9,7 +9,7 @@ use patch::kinds::Patch;
 use patch::settings::Settings;
 
 pub fn measure(patch: Patch, settings: Settings) -> Size
-    ensures { λ r. ⌜ r ≡ measured settings patch ⌝ }
+    ensures { λ r. ⌜ toldSize r ≡ measureVerdict settings patch ⌝ }
 {
     let spacing = settings.spacing;
     let top = settings.top;

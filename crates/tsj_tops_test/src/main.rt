@@ -1,6 +1,8 @@
 // The program of `tsj`, run on a job of version 2: patches under several tops, and tops that are none.
 fn main() {
+    let mut header = [0u8; 5];
+    let mut records = [0u8; 7680];
     let mut vertices: [u32; 12675] = [0; 12675];
     let mut indices: [u16; 24576] = [0; 24576];
-    report::run::run(&mut vertices, &mut indices);
+    report::run::run(&mut header, &mut records, &mut vertices, &mut indices);
 }

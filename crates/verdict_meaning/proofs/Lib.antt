@@ -7,6 +7,8 @@ pub mod SideTests
 pub mod Stages
 pub mod Forward
 pub mod Back
+pub mod Named
+pub mod Numbers
 pub mod Verdicts
 pub mod Accepted
 pub mod Own

@@ -23,6 +23,7 @@ use Rattle.sound.proofs.Patches.{drawn-words-sound}
 use Rattle.mesh_verdict.specs.declared.Verdict.{Verdict}
 use Rattle.mesh_verdict.specs.declared.Verdict.the-variants.{Accepted}
 use Rattle.verdict_meaning.specs.Means.{Checked}
+use Rattle.verdict_meaning.proofs.Numbers.{is-verdict}
 use Rattle.verdict_meaning.proofs.Verdicts.{answers}
 
 -- what "discarded" means
@@ -47,7 +48,7 @@ module _ (set : Settings) (p : Patch) (surface : Surface p) (filled : set .«poi
       → toldPoints r ≡ drew P → toldIndices s ≡ drew I → Checked set p (take (3 * P) v′) (take I i′) a → a ≡ Accepted
   drawn-accepted r s d d′ e e′ c =
       let w = points-drawn set p r d e in
-      c .is
+      is-verdict set p _ _ (c .answer)
       ∙ rw (point-words-drawn set p r d e, indices-drawn set p s d′ e′ .2)
       (answers set p _ _ Accepted (inr (record { asked = record { top = w .0; surface = surface; filled = filled }; kept = w .1 }, drawn-words-sound set (w .0) p surface (w .1) filled)))
 
@@ -55,4 +56,4 @@ module _ (set : Settings) (p : Patch) (surface : Surface p) (filled : set .«poi
   pub discarded-accepted : (r : PointsAnswer) {v v′ : List ℕ} → DrewPoints set p v v′ r → toldPoints r ≡ refused 1 → Checked set p [] [] a → a ≡ Accepted
   discarded-accepted r {v} d e c =
       let w = discarded-means set p 1 (3 * pointsOf set p) (length v) (pointsOf set p) (sym e ∙ d .answer) in
-      c .is ∙ answers set p [] [] Accepted (inl (record { top = w .0; surface = surface; filled = filled }, w .1, (refl, refl)))
+      is-verdict set p [] [] (c .answer) ∙ answers set p [] [] Accepted (inl (record { top = w .0; surface = surface; filled = filled }, w .1, (refl, refl)))

@@ -3,13 +3,12 @@
 use Prim.Native.Nat.{ℕ}
 use mathlib.Core.Path.{_≡_, refl, ap, sym, subst, _∙_}
 use mathlib.Core.Bool.{Bool, true, false, cond, _&&_, true≢false}
-use mathlib.Core.Logic.{_⊎_, inl, inr, ⊎-elim}
+use mathlib.Core.Logic.{_⊎_, _↔_, inl, inr, ⊎-elim}
 use mathlib.Core.List.{List}
 use lib.ListN.{length}
-use lib.Dec.{T, eqb}
+use lib.Dec.{eqb}
 use borrow.Author.Tests.{eqb-true, eq-eqb}
 use Rattle.level.specs.Top.{Top, isTop}
-use Rattle.level.proofs.Top.{of-top}
 use Rattle.patch.specs.declared.kinds.Patch.{Patch}
 use Rattle.patch.specs.declared.kinds.Patch.the-variants.{Triangles, Quads, Isolines}
 use Rattle.patch.specs.declared.settings.Settings.{Settings}
@@ -17,29 +16,15 @@ use Rattle.patch.specs.Subdivide.{discards}
 use Rattle.drawing.specs.Demand.{Surface}
 use Rattle.mesh_verdict.specs.declared.Verdict.{Verdict}
 use Rattle.mesh_verdict.specs.declared.Verdict.the-variants as said
-use Rattle.verdict_meaning.specs.Checks.{isIsolines, isEmpty, patchFault, verdict}
+use Rattle.verdict_meaning.specs.Checks.{isIsolines, isEmpty}
+use Rattle.verdict_meaning.proofs.Named.{patchFault, verdict}
 use Rattle.verdict_meaning.specs.Means.{Asked, Kept, Empty, Means, Checked}
-use Rattle.tessellate.proofs.Tops.{top-as}
+use Rattle.verdict_meaning.specs.Numbers.{toldVerdict}
+use Rattle.tessellate.proofs.Tops.{top-as, is-top, no-top, top-no}
 use Rattle.verdict_meaning.proofs.Sides.{both-which}
 use Rattle.verdict_meaning.proofs.Forward.{mesh-means}
+use Rattle.verdict_meaning.proofs.Numbers.{same-verdict, verdict-told}
 use Rattle.verdict_meaning.proofs.Back.{not-threes, unknown-index, outside, equal-points, turned, side-twice, open-side, missing-piece, accepted}
-
-is-top : (t : ℕ) → Top t → isTop t ≡ true
-is-top t h = go (isTop t) (of-top t h)
-  where
-    go : (b : Bool) → T b → b ≡ true
-    go true h = refl
-    go false h = absurd h
-
-no-top : (t : ℕ) → isTop t ≡ false → Top t → ⊥
-no-top t e h = true≢false (sym (is-top t h) ∙ e)
-
-top-no : (t : ℕ) → (Top t → ⊥) → isTop t ≡ false
-top-no t h = go (isTop t) refl
-  where
-    go : (b : Bool) → isTop t ≡ b → b ≡ false
-    go true e = absurd (h (top-as t e))
-    go false e = refl
 
 surface-is : (p : Patch) → isIsolines p ≡ false → Surface p
 surface-is (Triangles a b c i) e = tt
@@ -132,9 +117,12 @@ module _ (set : Settings) (p : Patch) (pw iw : List ℕ) where
   answers (said.MissingPiece k) h = to-mesh (h .0 .0 .0 .0 .0 .0 .0 .0) (missing-piece set p pw iw k (h .0) (h .1))
   answers said.Accepted h = ⊎-elim (λ w. empty-accepted (w .0) (w .1) (w .2)) (λ w. to-mesh (w .0) (accepted set p pw iw (w .0) (w .1))) h
 
+  pub exactly : (v : Verdict) → verdict set p pw iw ≡ v ↔ Means set p pw iw v
+  exactly v = (λ h. subst (λ (x : Verdict). Means set p pw iw x) h means, answers v)
+
   -- the promise
   pub checked : {r : Verdict} → r ≡ verdict set p pw iw → Checked set p pw iw r
   checked e = record {
-    is = e;
-    exactly = λ v. (λ h. subst (λ (x : Verdict). Means set p pw iw x) (sym e ∙ h) means, λ m. e ∙ answers v m);
+    answer = ap toldVerdict e ∙ verdict-told set p pw iw;
+    exactly = λ v. (λ h. exactly v .0 (sym e ∙ same-verdict _ v h), λ m. ap toldVerdict (e ∙ answers v m));
   }

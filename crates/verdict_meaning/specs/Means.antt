@@ -20,8 +20,9 @@ use Rattle.drawing.specs.InPatch.{InPatch, domainOf}
 use Rattle.sound.specs.Sound.{sidesIn, SoundWords}
 use Rattle.mesh_verdict.specs.declared.Verdict.{Verdict}
 use Rattle.mesh_verdict.specs.declared.Verdict.the-variants as said
-use Rattle.verdict_meaning.specs.Checks.{verdict}
+use Rattle.verdict_meaning.specs.Answers.{checkVerdict}
 use Rattle.verdict_meaning.specs.Firsts.{Every, FirstNot, NoPair, FirstPair}
+use Rattle.verdict_meaning.specs.Numbers.{toldVerdict}
 
 -- triangles can be asked for: the top is one, the patch is a triangle or a quad, and not of dots
 pub record Asked (set : Settings) (p : Patch) : Type 0 where
@@ -119,7 +120,7 @@ Means set p pw iw (said.OpenSide k e) = Single set p pw iw × (e < 3) × FirstNo
 Means set p pw iw (said.MissingPiece k) = Closed set p pw iw × FirstNot (DrawnAt set p (readPoints pw) iw) (length (outline (set .spacing) (set .top) p)) k
 Means set p pw iw said.Accepted = Accepts set p pw iw
 
--- what checking promises: the answer, and exactly when it is each one
+-- what checking promises: the answer's number and values, and that they are those of a verdict exactly where that one is right
 pub record Checked (set : Settings) (p : Patch) (pw iw : List ℕ) (r : Verdict) : Type 0 where
-  pub is : r ≡ verdict set p pw iw
-  pub exactly : (v : Verdict) → r ≡ v ↔ Means set p pw iw v
+  pub answer : toldVerdict r ≡ checkVerdict set p pw iw
+  pub exactly : (v : Verdict) → toldVerdict r ≡ toldVerdict v ↔ Means set p pw iw v

@@ -1,6 +1,6 @@
 -- Meets its contract. Assumes nothing.
 use mathlib.Core.Path.{_≡_, sym, ap, _∙_}
-use Rattle.verdict_meaning.specs.Checks.{patchFault, verdict}
+use Rattle.verdict_meaning.proofs.Named.{patchFault, verdict}
 use Rattle.verdict_meaning.proofs.Verdicts.{checked}
 use Rattle.tessellate.proofs.Tops.{bad, good, top-as}
 use Rattle.checker.proofs.Arms.{flag}

@@ -11,18 +11,6 @@ use Rattle.isoline_vertices.proofs.Lines.{lines-are}
 use Rattle.isoline_vertices.proofs.isoline.write_rows.Statement.{statement}
 use Rattle.isoline_vertices.proofs.isoline.write_rows.Tie as tie
 
-sub-n : tie.Need-sub-n
-sub-n c = search needs
-
-sub-write-grid : tie.Need-sub-write-grid
-sub-write-grid c = search needs
-
-part-write-grid-start : tie.Need-part-write-grid-start
-part-write-grid-start c = search needs
-
-part-write-grid-end : tie.Need-part-write-grid-end
-part-write-grid-end c = search needs
-
 write-grid-requires : tie.Need-write-grid-requires
 write-grid-requires c κs =
     let s = c .before .before .before .before .before in
@@ -31,9 +19,6 @@ write-grid-requires c κs =
     let same = lines-are (a .lines .now) (a .along .now) n (omega arith) (omega (arith, s .pre .0 .1 .some)) in
     let front = take n (a .lines .now) in
     omega (arith, ap length same, grid-length (crossing front (a .along .now)) (length front) (length (a .along .now)))
-
-same-length : tie.Need-same-length
-same-length c = search needs
 
 returns : tie.Need-returns
 returns c =
@@ -47,10 +32,10 @@ pub write-rows-spec : {M : Type 1} → statement M
 write-rows-spec =
     tie.close
     (tie.spec
-    sub-n
-    sub-write-grid
-    part-write-grid-start
-    part-write-grid-end
+    (λ c. search needs)
+    (λ c. search needs)
+    (λ c. search needs)
+    (λ c. search needs)
     write-grid-requires
-    same-length
+    (λ c. search needs)
     returns)

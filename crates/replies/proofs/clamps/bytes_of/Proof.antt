@@ -1,7 +1,7 @@
 -- Meets its contract: a return for each kind. Assumes nothing.
 use borrow.Author.Needs.{needs}
 use mathlib.Core.Path.{sym, ap, _∙_}
-use Rattle.replies.specs.Clamps.{clampBytes}
+use Rattle.level_clamps.specs.Numbers.{clampNumbers}
 use Rattle.replies.proofs.clamps.bytes_of.Statement.{statement}
 use Rattle.replies.proofs.clamps.bytes_of.Tie as tie
 
@@ -24,13 +24,13 @@ isoline-bytes-requires : tie.Need-isoline-bytes-requires
 isoline-bytes-requires c κs = search needs
 
 returns : tie.Need-returns
-returns c = c .triangle-bytes .ensures ∙ ap clampBytes (sym (c .before .before .clamps .given .1))
+returns c = c .triangle-bytes .ensures ∙ ap clampNumbers (sym (c .before .before .clamps .given .1))
 
 returns-2 : tie.Need-returns-2
-returns-2 c = c .quad-bytes .ensures ∙ ap clampBytes (sym (c .before .before .clamps2 .given .1))
+returns-2 c = c .quad-bytes .ensures ∙ ap clampNumbers (sym (c .before .before .clamps2 .given .1))
 
 returns-3 : tie.Need-returns-3
-returns-3 c = c .isoline-bytes .ensures ∙ ap clampBytes (sym (c .before .before .clamps3 .given .1))
+returns-3 c = c .isoline-bytes .ensures ∙ ap clampNumbers (sym (c .before .before .clamps3 .given .1))
 
 pub bytes-of-spec : {M : Type 1} → statement M
 bytes-of-spec =

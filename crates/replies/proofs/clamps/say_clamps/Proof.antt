@@ -1,7 +1,6 @@
 -- Meets its contract. Assumes nothing.
 use borrow.Author.Needs.{needs}
-use mathlib.Core.Path.{sym, ap, _∙_}
-use Rattle.replies.specs.Clamps.{sizeClamps}
+use Rattle.replies.proofs.ClampBytes.{bytes-as, size-bytes}
 use Rattle.replies.proofs.clamps.say_clamps.Statement.{statement}
 use Rattle.replies.proofs.clamps.say_clamps.Tie as tie
 
@@ -24,13 +23,13 @@ say-nothing-requires-2 : tie.Need-say-nothing-requires-2
 say-nothing-requires-2 c κs = search needs
 
 returns : tie.Need-returns
-returns c = c .bytes-of .ensures ∙ ap sizeClamps (sym (c .before .before .size .given .1))
+returns c = size-bytes (c .before .before .size .given .1) (c .bytes-of .ensures)
 
 returns-2 : tie.Need-returns-2
-returns-2 c = search needs
+returns-2 c = bytes-as (c .before .before .enum-told .given .1) (c .say-nothing .ensures)
 
 returns-3 : tie.Need-returns-3
-returns-3 c = search needs
+returns-3 c = bytes-as (c .before .before .enum-told2 .given .1) (c .say-nothing2 .ensures)
 
 pub say-clamps-spec : {M : Type 1} → statement M
 say-clamps-spec =

@@ -2,7 +2,7 @@
 use borrow.Author.Needs.{needs}
 use mathlib.Core.Path.{ap}
 use Rattle.tessellate.specs.Answers.{toldSize}
-use Rattle.replies.proofs.Replies.{tells-as}
+use Rattle.replies.proofs.Replies.{tells-as, tells-more}
 use Rattle.replies.proofs.reply.of_size.Statement.{statement}
 use Rattle.replies.proofs.reply.of_size.Tie as tie
 
@@ -25,7 +25,7 @@ bad-top-requires : tie.Need-bad-top-requires
 bad-top-requires c κs = search needs
 
 returns : tie.Need-returns
-returns c = tells-as (ap toldSize (c .before .before .size .given .1)) (c .success .ensures)
+returns c = tells-as (ap toldSize (c .before .before .size .given .1)) (tells-more (c .success .ensures))
 
 returns-2 : tie.Need-returns-2
 returns-2 c = search needs

@@ -1,6 +1,6 @@
 -- Meets its contract: a return for a bad top, one for a discarded patch and one for the counts. Assumes nothing.
 use borrow.Author.Needs.{needs}
-use Rattle.tessellate.specs.Answers.{measured}
+use Rattle.tessellate.specs.Answers.{measureVerdict}
 use Rattle.tessellate.proofs.Tops.{top-as}
 use Rattle.tessellate.proofs.Cutting.{bad-top, is-discarded, is-cut, cut-valid, cut-points, cut-indices}
 use Rattle.tessellate.proofs.measure.measure.Statement.{statement}
@@ -40,14 +40,14 @@ clamps-of-requires c κs =
     top-as _ (is-cut (a .settings) (a .patch) (cut .cut-with .ensures) (arm .cut .given .1) .top)
 
 returns : tie.Need-returns
-unfolding measured
+unfolding measureVerdict
 returns c =
     let cut = c .before .before in
     let a = cut .before .args in
     rw (bad-top (a .settings) (a .patch) (cut .cut-with .ensures) (c .enum-told .given .1))
 
 returns-2 : tie.Need-returns-2
-unfolding measured
+unfolding measureVerdict
 returns-2 c =
     let cut = c .before .before in
     let a = cut .before .args in
@@ -55,7 +55,7 @@ returns-2 c =
     rw (d .0, d .1)
 
 returns-3 : tie.Need-returns-3
-unfolding measured
+unfolding measureVerdict
 returns-3 c =
     let arm = c .before .before .before .before in
     let cut = arm .before .before in

@@ -1,0 +1,2 @@
+-- The law of `answer_codes`.
+pub mod Exactly

@@ -1,0 +1,2 @@
+-- The definitions of `answer_codes`.
+pub mod Reports

@@ -1,0 +1,12 @@
+-- The outer edges of a patch by number. Assumes nothing.
+use Prim.Native.Nat.{ℕ}
+use Rattle.level.specs.declared.Spacing.{Spacing}
+use Rattle.level.specs.Segments.{segmentsOf}
+use Rattle.patch.specs.declared.kinds.Patch.{Patch}
+use Rattle.mesh.specs.Edge.{Run}
+use Rattle.drawing.specs.Points.{run}
+use Rattle.drawing.specs.Demand.{outerLevel}
+
+-- n and q of outer edge k: of the spacing, that edge's own level and the top t
+abbrev pub outerEdge : Spacing → ℕ → Patch → ℕ → Run
+outerEdge s t p k = run (segmentsOf s t (outerLevel p k))

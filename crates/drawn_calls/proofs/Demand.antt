@@ -1,0 +1,53 @@
+-- What is promised of all calls from C that draw, whichever they are: the third demand, the seam between any two, each spot held once, and
+-- equal indices for patches alike. Assumes nothing.
+use Prim.Native.Nat.{ℕ}
+use mathlib.Core.Path.{_≡_, sym, _∙_}
+use mathlib.Core.List.{List}
+use lib.Ieee.{Float}
+use Rattle.patch.specs.declared.kinds.Patch.{Patch}
+use Rattle.patch.specs.declared.settings.Settings.{Settings}
+use Rattle.mesh.specs.declared.Point.{Point}
+use Rattle.drawing.specs.Words.{readPoints}
+use Rattle.drawing.specs.Demand.{Surface, Demand}
+use Rattle.drawing.specs.Inside.{SpotsOnce}
+use Rattle.drawing.specs.Kept.{Alike}
+use Rattle.drawing.proofs.Once.{demand-once}
+use Rattle.drawing.proofs.Kept.{kept-connections}
+use Rattle.requests.specs.Inputs.{patchIn, settingsIn}
+use Rattle.third_demand.specs.Seams.{Seam}
+use Rattle.third_demand.specs.ThirdDemand.{ThirdDemand}
+use Rattle.third_demand.proofs.AllPoints.{AllPoints, all-demand, seam-between, demand-of}
+use Rattle.drawn_calls.specs.Written.{CallDrew, CallConnected, SomeCallDrew, call}
+use Rattle.drawn_calls.specs.Edges.{EdgeIn, EdgesAlikeIn}
+use Rattle.drawn_calls.proofs.Edges.{edge-in, alike-in}
+use Rattle.drawn_calls.proofs.Words.{drew-words, connected-words, drew-all}
+
+some-all : (set : Settings) (p : Patch) (ps : List Point) → SomeCallDrew set p ps → AllPoints set p ps
+some-all set p ps (call bs xs pw d) = drew-all bs xs d
+
+-- take any two outer edges, of one patch or of two, triangle or quad, drawn with or without the point switch, by whichever calls: with the same
+-- spacing byte, level and top byte, the points drawn lie at the same places on them, q(0) to q(n), and these mirror
+pub call-seam : (bs bs′ : List ℕ) (xs xs′ : List Float) {pw pw′ : List ℕ} → CallDrew bs xs pw → CallDrew bs′ xs′ pw′ → (j k : ℕ) → EdgeIn bs j → EdgeIn bs′ k
+    → EdgesAlikeIn bs bs′ xs xs′ j k → Seam (settingsIn bs) (patchIn bs xs) (patchIn bs′ xs′) j k (readPoints pw) (readPoints pw′)
+call-seam bs bs′ xs xs′ d d′ j k e f a =
+    seam-between (drew-all bs xs d) (drew-all bs′ xs′ d′) j k (edge-in bs xs j e) (edge-in bs′ xs′ k f) (alike-in bs bs′ xs xs′ j k e f a)
+
+module _ (bs : List ℕ) (xs : List Float) {pw iw : List ℕ} (d : CallDrew bs xs pw) (c : CallConnected bs xs iw) where
+  demand-drawn : Demand (settingsIn bs) (patchIn bs xs) (readPoints pw) iw
+  demand-drawn = rw (connected-words bs xs c .are) (all-demand (drew-all bs xs d))
+
+  -- the third demand of points and indices that calls drew for the same bytes and levels
+  pub call-demand : Surface (patchIn bs xs) → ThirdDemand SomeCallDrew (settingsIn bs) (patchIn bs xs) (readPoints pw) iw
+  call-demand f = demand-of SomeCallDrew some-all f (drew-all bs xs d) demand-drawn
+
+  -- and no spot is cut twice
+  pub call-once : SpotsOnce (settingsIn bs) (patchIn bs xs) (readPoints pw) iw
+  call-once = demand-once (settingsIn bs) (drew-words bs xs d .top) (patchIn bs xs) demand-drawn
+
+-- patches that are alike get equal indices from any two calls
+pub call-kept : (bs bs′ : List ℕ) (xs xs′ : List Float) {iw iw′ : List ℕ} → Alike (settingsIn bs) (settingsIn bs′) (patchIn bs xs) (patchIn bs′ xs′)
+    → CallConnected bs xs iw → CallConnected bs′ xs′ iw′ → iw ≡ iw′
+call-kept bs bs′ xs xs′ a c c′ =
+    let w = connected-words bs xs c in
+    let u = connected-words bs′ xs′ c′ in
+    w .are ∙ kept-connections (settingsIn bs) (settingsIn bs′) (w .top) (u .top) (patchIn bs xs) (patchIn bs′ xs′) (w .drawn) (u .drawn) a ∙ sym (u .are)

@@ -1,0 +1,3 @@
+-- The definitions of `drawn_calls`.
+pub mod Written
+pub mod Edges

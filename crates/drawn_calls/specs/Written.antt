@@ -1,0 +1,36 @@
+-- The points and the connections that a call from C drew, read off the lists that it left.
+-- Assumes nothing.
+use Prim.Native.Nat.{ℕ, _-_, _*_}
+use mathlib.Core.List.{List, map}
+use lib.Ieee.{Float}
+use lib.ListN.{getD, take, drop}
+use Rattle.patch.specs.declared.kinds.Patch.{Patch}
+use Rattle.patch.specs.declared.settings.Settings.{Settings}
+use Rattle.mesh.specs.declared.Point.{Point}
+use Rattle.drawing.specs.Words.{readPoints}
+use Rattle.requests.specs.Inputs.{patchIn, settingsIn}
+use Rattle.shared_lists.specs.SharedList.{firstFree}
+use Rattle.shares.specs.Answers.{pointsIn}
+use Rattle.share_words.specs.Words.{stateIn, designerOf}
+use Rattle.exports.specs.Calls.{PointsCalled, IndicesCalled}
+use Rattle.float_exports.specs.Calls.{FloatsCalled}
+use Rattle.share_exports.specs.Calls.{DrawCalled}
+
+-- a call with the setting bytes bs and the levels xs was answered with 0, and these are the words of all points that it drew: as many as its
+-- count says, at the front of the vertex list, or on shared lists from the first free word of the designer's part on
+pub data CallDrew (bs : List ℕ) (xs : List Float) : List ℕ → Type 0 where
+  points : (v v′ c′ : List ℕ) → PointsCalled bs xs v v′ c′ 0 → CallDrew bs xs (take (3 * getD c′ 0 0) v′)
+  with-floats : (v v′ i i′ : List ℕ) (f f′ : List Float) (c′ : List ℕ) → FloatsCalled bs xs v v′ i i′ f f′ c′ 0 → CallDrew bs xs (take (3 * getD c′ 0 0) v′)
+  shared : (d : ℕ) (w w′ v v′ i i′ c′ : List ℕ) → DrawCalled bs xs d w w′ v v′ i i′ c′ 0
+      → CallDrew bs xs (take (3 * getD c′ 0 0) (drop (firstFree (designerOf d) (stateIn w .vertices)) v′))
+
+-- and these are the indices; on shared lists less the number of points that the part held
+pub data CallConnected (bs : List ℕ) (xs : List Float) : List ℕ → Type 0 where
+  indices : (i i′ c′ : List ℕ) → IndicesCalled bs xs i i′ c′ 0 → CallConnected bs xs (take (getD c′ 0 0) i′)
+  with-floats : (v v′ i i′ : List ℕ) (f f′ : List Float) (c′ : List ℕ) → FloatsCalled bs xs v v′ i i′ f f′ c′ 0 → CallConnected bs xs (take (getD c′ 1 0) i′)
+  shared : (d : ℕ) (w w′ v v′ i i′ c′ : List ℕ) → DrawCalled bs xs d w w′ v v′ i i′ c′ 0
+      → CallConnected bs xs (map (λ x. x - pointsIn (designerOf d) (stateIn w)) (take (getD c′ 1 0) (drop (firstFree (designerOf d) (stateIn w .indices)) i′)))
+
+-- ps are all points that some call drew for these settings and this patch
+pub data SomeCallDrew : Settings → Patch → List Point → Type 0 where
+  call : (bs : List ℕ) (xs : List Float) (pw : List ℕ) → CallDrew bs xs pw → SomeCallDrew (settingsIn bs) (patchIn bs xs) (readPoints pw)

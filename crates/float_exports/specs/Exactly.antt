@@ -1,0 +1,30 @@
+-- When a call that draws with floats answers what. Assumes nothing.
+use Prim.Native.Nat.{ℕ, _*_, _≤_, _<_}
+use mathlib.Core.Path.{_≡_}
+use mathlib.Core.List.{List}
+use lib.Ieee.{Float}
+use Rattle.level.specs.Top.{Top}
+use Rattle.patch.specs.declared.kinds.Patch.{Patch}
+use Rattle.patch.specs.declared.settings.Settings.{Settings}
+use Rattle.tessellate.specs.Answers.{pointsOf, indicesOf}
+use Rattle.float_drawing.specs.declared.answer.FloatsAnswer.{FloatsAnswer}
+use Rattle.float_drawing.specs.declared.answer.FloatsAnswer.the-variants as floats
+use Rattle.float_drawing.specs.Answers.{toldFloats}
+use Rattle.replies.specs.Replies.{twoWords}
+use Rattle.requests.specs.Inputs.{patchIn, settingsIn}
+use Rattle.requests.specs.Exactly.{CalledExactly}
+use Rattle.exports.specs.Exactly.{Discarded, Drawable}
+
+-- when each answer is right, for lists of v, i and f words: a list is asked for room where those before it have it
+abbrev pub FloatsMeans : Settings → Patch → ℕ → ℕ → ℕ → FloatsAnswer → Type 0
+FloatsMeans set p v i f floats.BadTop = Top (set .top) → ⊥
+FloatsMeans set p v i f floats.Discarded = Discarded set p
+FloatsMeans set p v i f floats.NoRoomForVertices = Drawable set p × (v < 3 * pointsOf set p)
+FloatsMeans set p v i f floats.NoRoomForIndices = Drawable set p × (3 * pointsOf set p ≤ v) × (i < indicesOf set p)
+FloatsMeans set p v i f floats.NoRoomForFloats = Drawable set p × (3 * pointsOf set p ≤ v) × (indicesOf set p ≤ i) × (f < 3 * pointsOf set p)
+FloatsMeans set p v i f (floats.Drawn m k) =
+    Drawable set p × (3 * pointsOf set p ≤ v) × (indicesOf set p ≤ i) × (3 * pointsOf set p ≤ f) × (m ≡ pointsOf set p) × (k ≡ indicesOf set p)
+
+-- each number with its words is answered exactly where it means; c′ are the counts at exit
+abbrev pub FloatsExactly : List ℕ → List Float → ℕ → ℕ → ℕ → List ℕ → ℕ → Type 0
+FloatsExactly bs xs v i f c′ r = CalledExactly twoWords toldFloats bs (FloatsMeans (settingsIn bs) (patchIn bs xs) v i f) c′ r

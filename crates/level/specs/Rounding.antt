@@ -1,0 +1,37 @@
+-- Document 01's sentences on n and L, as properties: what they are the least of. Assumes nothing.
+use Prim.Native.Nat.{ℕ, _*_, _%_, _≤_}
+use mathlib.Core.Path.{_≡_}
+use lib.Ieee.{Float}
+use Rattle.level.specs.Clamp.{clampedLevel}
+use Rattle.level.specs.Scale.{LeastParts}
+use Rattle.level.specs.declared.Spacing.{Spacing}
+use Rattle.level.specs.declared.Spacing.the-variants.{Equal, FractionalEven, FractionalOdd}
+use Rattle.level.specs.declared.Segments.{Segments}
+
+-- the numbers that a spacing rounds to: whole, even or odd
+abbrev pub Kind : Spacing → ℕ → Type 0
+Kind Equal n = Unit
+Kind FractionalEven n = n % 2 ≡ 0
+Kind FractionalOdd n = n % 2 ≡ 1
+
+-- n is the least number of the spacing's kind that is not below L / 65536
+pub record LeastCount (s : Spacing) (L n : ℕ) : Type 0 where
+  pub kind : Kind s n
+  pub enough : L ≤ 65536 * n
+  pub least : (k : ℕ) → Kind s k → L ≤ 65536 * k → n ≤ k
+
+-- L after the rounding: 65536 * n for equal spacing, and as it was for the others
+abbrev pub scaledAfter : Spacing → ℕ → ℕ → ℕ
+scaledAfter Equal L n = 65536 * n
+scaledAfter FractionalEven L n = L
+scaledAfter FractionalOdd L n = L
+
+-- n and L of g are those that L before the rounding gives
+pub record Rounded (s : Spacing) (L : ℕ) (g : Segments) : Type 0 where
+  pub count : LeastCount s L (g .count)
+  pub scaled : g .scaled ≡ scaledAfter s L (g .count)
+
+-- the same from the level x on, clamped for the top level t: L is the least whole number not below it times 65536
+pub record FromLevel (s : Spacing) (t : ℕ) (x : Float) (L : ℕ) (g : Segments) : Type 0 where
+  pub parts : LeastParts (clampedLevel s t x) L
+  pub rounded : Rounded s L g

@@ -1,0 +1,2 @@
+-- The laws of `level_clamps`.
+pub mod Numbers

@@ -1,0 +1,2 @@
+-- The laws of `replay_exports`.
+pub mod Exactly

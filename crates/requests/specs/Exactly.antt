@@ -1,0 +1,28 @@
+-- When a call answers what, for any operation, whose answers are of type A. Assumes nothing.
+use Prim.Native.Nat.{ℕ}
+use mathlib.Core.List.{List}
+use Rattle.level.specs.Top.{Top}
+use Rattle.job_fields.specs.Settings.{choices, FirstOver, AllBelow}
+use Rattle.tessellate.specs.Answers.{Told}
+use Rattle.replies.specs.Replies.{unknownSetting}
+use Rattle.answer_codes.specs.Reports.{AnsweredExactly}
+use Rattle.requests.specs.Inputs.{topIn}
+
+-- what a call answers: the place of the first setting byte that is out of range, or what its operation answers
+pub data CallAnswer (A : Type 0) : Type 0 where
+  unknown : ℕ → CallAnswer A
+  found : A → CallAnswer A
+
+abbrev pub toldCall : {A : Type 0} → (A → Told) → CallAnswer A → Told
+toldCall told (unknown place) = unknownSetting place
+toldCall told (found v) = told v
+
+-- when each is right, of setting bytes bs, where Means says it of the operation's: a bad top comes first of all, then an unknown setting, and
+-- beside a top the operation answers only where all settings are in range
+abbrev pub CallMeans : {A : Type 0} → List ℕ → (A → Type 0) → CallAnswer A → Type 0
+CallMeans bs Means (unknown place) = Top (topIn bs) × FirstOver choices bs 0 place
+CallMeans bs Means (found v) = (Top (topIn bs) → AllBelow choices bs 0) × Means v
+
+-- a call answered the number r and left the words w, which it writes for an answer's values by `words`
+abbrev pub CalledExactly : {A : Type 0} → (List ℕ → List ℕ) → (A → Told) → List ℕ → (A → Type 0) → List ℕ → ℕ → Type 0
+CalledExactly words told bs Means w r = AnsweredExactly (λ a. toldCall told a .number) (λ a. words (toldCall told a .values)) (CallMeans bs Means) w r

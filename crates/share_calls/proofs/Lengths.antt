@@ -1,0 +1,32 @@
+-- Until it draws, a call from C looks at the lists that it is lent by their lengths only. Assumes nothing.
+use Prim.Native.Nat.{ℕ}
+use mathlib.Core.Path.{_≡_, sym, ap, ap₂, _∙_}
+use mathlib.Core.List.{List}
+use lib.Ieee.{Float}
+use lib.ListN.{length}
+use Rattle.tessellate.specs.Answers.{Told}
+use Rattle.replies.specs.Replies.{twoWords}
+use Rattle.requests.specs.Inputs.{patchIn, settingsIn}
+use Rattle.shared_lists.specs.Operations.{unlessRefused}
+use Rattle.shares.specs.Operations.{drawnState}
+use Rattle.share_words.specs.Words.{stateIn, stateWords, designerOf}
+use Rattle.share_exports.specs.Calls.{drawSays, DrawCalled}
+
+-- the same answer, the same counts and the same ten words
+pub record SameAnswer (r s : ℕ) (c e w u : List ℕ) : Type 0 where
+  pub number : r ≡ s
+  pub counts : c ≡ e
+  pub words : w ≡ u
+
+-- lists of equal lengths get the same answer and leave the same state; of clearing the promise itself says so
+pub by-lengths : (bs : List ℕ) (xs : List Float) (d : ℕ) {w w′ u′ v v′ i i′ l l′ k k′ c′ e′ : List ℕ} {r s : ℕ} → DrawCalled bs xs d w w′ v v′ i i′ c′ r
+    → DrawCalled bs xs d w u′ l l′ k k′ e′ s → length v ≡ length l → length i ≡ length k → SameAnswer r s c′ e′ w′ u′
+by-lengths bs xs d {w} h g m n =
+    let says : ℕ → ℕ → Told = λ (a b : ℕ). drawSays bs d (designerOf d) (stateIn w) (settingsIn bs) (patchIn bs xs) a b in
+    let told = ap₂ says m n in
+    let number = h .says .number ∙ ap (λ (t : Told). t .number) told ∙ sym (g .says .number) in
+    record {
+      number = number;
+      counts = h .says .counts ∙ ap (λ (t : Told). twoWords (t .values)) told ∙ sym (g .says .counts);
+      words = h .state ∙ ap (λ (k : ℕ). unlessRefused k (stateWords (drawnState (designerOf d) (stateIn w) (settingsIn bs) (patchIn bs xs))) w) number ∙ sym (g .state);
+    }

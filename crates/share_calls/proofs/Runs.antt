@@ -1,0 +1,114 @@
+-- Runs of the exported calls: the other's calls, and calls of nobody, do not show in what a designer gets. Assumes nothing.
+use Prim.Native.Nat.{ℕ, _≤_}
+use mathlib.Core.Path.{_≡_, refl, sym, ap, ap₂, _∙_}
+use mathlib.Core.Bool.{Bool, true, false, cond}
+use mathlib.Core.List.{List, [], _∷_}
+use native.Mathlib.Omega.{arith}
+use lib.Dec.{eqb}
+use lib.ListN.{length}
+use Rattle.tessellate.specs.Answers.{Told, refused}
+use Rattle.shared_lists.specs.declared.state.State.{State}
+use Rattle.shared_lists.specs.Answers.{done, quotasFit}
+use Rattle.shared_lists.specs.Operations.{startState}
+use Rattle.share_words.specs.Words.{stateIn, quotaIn, designerOf}
+use Rattle.share_runs.specs.Session.{Session, OwnState, View, ownState, begun}
+use Rattle.share_runs.specs.Session as runs
+use Rattle.share_runs.proofs.Step.{Good}
+use Rattle.share_runs.proofs.Isolation.{begun-good, start-own-state}
+use Rattle.share_calls.specs.Run.{Call, Memory, Answered, Begun, begin, Made, Ran, callsOf, answersOf, sessionIn, view, quotaOf}
+use Rattle.share_runs.specs.Steps.{those, after, replies}
+use Rattle.share_runs.proofs.Steps.{Played, ran-is, those-twice, kept-after, seen, answered}
+use Rattle.share_calls.proofs.Calls.{reply, step, ownReply, ownStep, viewStep, good-step, length-step, own-reply, own-step, own-view, other-view, made-is}
+
+-- a run of calls is what the steps give
+played : {m m′ : Memory} {cs : List Call} {xs : List Answered} → Ran m cs xs m′ → Played step reply (sessionIn m) cs xs (sessionIn m′)
+played = ran-is Made sessionIn step reply made-is
+
+-- a start that was answered with 0: the quotas fit, and the session in memory is the operation's
+record Is-begun (q v i : List ℕ) (m : Memory) : Type 0 where
+  fit : quotasFit (length v) (length i) (quotaIn q 0) (quotaIn q 2) ≡ true
+  is : sessionIn m ≡ begun (quotaIn q 0) (quotaIn q 2) v i
+
+begun-is : {q v i : List ℕ} {m : Memory} → Begun q v i m → Is-begun q v i m
+begun-is {q} {v} {i} (begin w w′ h) = record { fit = go (quotasFit (length v) (length i) (quotaIn q 0) (quotaIn q 2)) (h .number); is = ap of (h .state) }
+  where
+    go : (b : Bool) → 0 ≡ cond b done (refused 12) .number → b ≡ true
+    go true e = refl
+    go false e = absurd (omega arith)
+
+    of : List ℕ → Session
+    of ws = record { state = stateIn ws; vertices = v; indices = i }
+
+module _ (d : ℕ) (known : d ≤ 1) where
+  abbrev mine : Call → Bool
+  mine c = eqb (c .by) d
+
+  abbrev its : Answered → Bool
+  its a = eqb (a .to) d
+
+  -- the answers come of the own part of the state and the own calls
+  own-answers : (s : Session) → Good s → (cs : List Call) → answersOf d (replies step reply s cs) ≡ replies ownStep ownReply (ownState (designerOf d) (s .state)) (callsOf d cs)
+  own-answers =
+      answered step Good good-step mine (λ (s : Session). ownState (designerOf d) (s .state)) ownStep (λ s g c e. own-step s g d c e)
+      (λ s g c e. ap (λ (w : View). w .state) (other-view s g d known c e)) its reply ownReply (λ s c. refl) (λ s g c e. own-reply s g d c e)
+
+  -- and the view comes of the own view and the own calls
+  own-views : (s : Session) → Good s → (cs : List Call) → runs.view (designerOf d) (after step s cs) ≡ after viewStep (runs.view (designerOf d) s) (callsOf d cs)
+  own-views = seen step Good good-step mine (λ (s : Session). runs.view (designerOf d) s) viewStep (λ s g c e. own-view s g d c e) (λ s g c e. other-view s g d known c e)
+
+  module _ {q v i : List ℕ} {m₀ : Memory} (b : Begun q v i m₀) where
+    good-start : Good (sessionIn m₀)
+    good-start = rw (begun-is b .is) (begun-good (quotaIn q 0) (quotaIn q 2) v i (begun-is b .fit))
+
+    answers-are : {cs : List Call} {xs : List Answered} {m : Memory} → Ran m₀ cs xs m
+        → answersOf d xs ≡ replies ownStep ownReply (ownState (designerOf d) (sessionIn m₀ .state)) (callsOf d cs)
+    answers-are {cs} r = ap (answersOf d) (played r .told) ∙ own-answers (sessionIn m₀) good-start cs
+
+    -- what one designer has of a run, and of another in which nobody else's calls were made: the same answers with their counts, the same
+    -- quotas and used words, and the same words in both parts
+    pub undisturbed : (cs : List Call) {xs ys : List Answered} {m m′ : Memory} → Ran m₀ cs xs m → Ran m₀ (callsOf d cs) ys m′
+        → (answersOf d xs ≡ answersOf d ys) × (view d m ≡ view d m′)
+    undisturbed cs r r′ =
+        let twice = those-twice mine cs in
+        let s = sessionIn m₀ in (
+          answers-are r ∙ ap (replies ownStep ownReply (ownState (designerOf d) (s .state))) (sym twice) ∙ sym (answers-are r′),
+          ap (runs.view (designerOf d)) (played r .left) ∙ own-views s good-start cs ∙ ap (after viewStep (runs.view (designerOf d) s)) (sym twice)
+              ∙ sym (own-views s good-start (callsOf d cs)) ∙ ap (runs.view (designerOf d)) (sym (played r′ .left)),
+        )
+
+  -- answers depend on the own quota, the own calls and the lengths of the two lists at the start alone
+  pub own-runs : (q q′ v v′ i i′ : List ℕ) → quotaOf d q ≡ quotaOf d q′ → length v ≡ length v′ → length i ≡ length i′ → (cs cs′ : List Call)
+      → callsOf d cs ≡ callsOf d cs′ → {xs ys : List Answered} {m₀ m₀′ m m′ : Memory} → Begun q v i m₀ → Begun q′ v′ i′ m₀′ → Ran m₀ cs xs m → Ran m₀′ cs′ ys m′
+      → answersOf d xs ≡ answersOf d ys
+  own-runs q q′ v v′ i i′ e n k cs cs′ f {m₀ = m₀} {m₀′ = m₀′} b b′ r r′ =
+      let own : Session → OwnState = λ (s : Session). ownState (designerOf d) (s .state) in
+      let same : own (sessionIn m₀) ≡ own (sessionIn m₀′) =
+      ap own (begun-is b .is) ∙ start-own-state (designerOf d) (quotaIn q 0) (quotaIn q 2) (quotaIn q′ 0) (quotaIn q′ 2) v v′ i i′ e n k ∙ ap own (sym (begun-is b′ .is)) in
+      answers-are b r ∙ ap₂ (λ (o : OwnState) (l : List Call). replies ownStep ownReply o l) same f ∙ sym (answers-are b′ r′)
+
+-- a run leaves lists of the start's lengths
+kept-lengths : (s : Session) → Good s → (cs : List Call) → (length (after step s cs .vertices) ≡ length (s .vertices)) × (length (after step s cs .indices) ≡ length (s .indices))
+kept-lengths s g cs = (
+  kept-after step Good good-step (λ (x : Session). length (x .vertices)) (λ x h c. length-step x h c .0) s g cs,
+  kept-after step Good good-step (λ (x : Session). length (x .indices)) (λ x h c. length-step x h c .1) s g cs,
+)
+
+pub record SameLengths (v i : List ℕ) (m : Memory) : Type 0 where
+  pub vertices : length (m .vertices) ≡ length v
+  pub indices : length (m .indices) ≡ length i
+
+pub same-lengths : {q v i : List ℕ} {m₀ m : Memory} {cs : List Call} {xs : List Answered} → Begun q v i m₀ → Ran m₀ cs xs m → SameLengths v i m
+same-lengths {q} {v} {i} {cs = cs} b r =
+    let s = begun (quotaIn q 0) (quotaIn q 2) v i in
+    let h = kept-lengths s (begun-good (quotaIn q 0) (quotaIn q 2) v i (begun-is b .fit)) cs in
+    let e = played r .left ∙ ap (λ (x : Session). after step x cs) (begun-is b .is) in
+    record { vertices = ap (λ (x : Session). length (x .vertices)) e ∙ h .0; indices = ap (λ (x : Session). length (x .indices)) e ∙ h .1 }
+
+-- a fresh start, on the lists that a run left, begins anew: a designer's answers are those after a start with the same own quota on lists
+-- that nobody used before
+pub anew : (d : ℕ) → d ≤ 1 → (q q′ q″ v i : List ℕ) (before cs cs′ : List Call) {xs ys zs : List Answered} {m₀ m m₁ m₁′ m₂ m₂′ : Memory}
+    → Begun q v i m₀ → Ran m₀ before xs m → Begun q′ (m .vertices) (m .indices) m₁ → Ran m₁ cs ys m₁′ → Begun q″ v i m₂ → Ran m₂ cs′ zs m₂′
+    → quotaOf d q′ ≡ quotaOf d q″ → callsOf d cs ≡ callsOf d cs′ → answersOf d ys ≡ answersOf d zs
+anew d known q q′ q″ v i before cs cs′ {m = m} b r b₁ r₁ b₂ r₂ e f =
+    let h = same-lengths b r in
+    own-runs d known q′ q″ (m .vertices) v (m .indices) i e (h .vertices) (h .indices) cs cs′ f b₁ b₂ r₁ r₂

@@ -1,0 +1,2 @@
+-- The definitions of `share_calls`.
+pub mod Run

@@ -1,0 +1,77 @@
+-- When a call on shared lists answers what. Assumes nothing.
+use Prim.Native.Nat.{ℕ, _+_, _*_, _≤_, _<_}
+use mathlib.Core.Path.{_≡_}
+use mathlib.Core.Bool.{Bool, true, false}
+use mathlib.Core.List.{List}
+use mathlib.Core.Logic.{_↔_}
+use lib.Ieee.{Float}
+use Rattle.level.specs.Top.{Top}
+use Rattle.patch.specs.declared.kinds.Patch.{Patch}
+use Rattle.patch.specs.Subdivide.{discards}
+use Rattle.job_fields.specs.Settings.{choices, FirstOver, AllBelow}
+use Rattle.tessellate.specs.Answers.{Told, pointsOf, indicesOf}
+use Rattle.replies.specs.Replies.{unknownSetting, twoWords}
+use Rattle.requests.specs.Inputs.{topIn, patchIn, settingsIn}
+use Rattle.answer_codes.specs.Reports.{AnsweredExactly}
+use Rattle.shared_lists.specs.declared.state.Quota.{Quota}
+use Rattle.shared_lists.specs.SharedList.{left}
+use Rattle.shared_lists.specs.Answers.{accepted}
+use Rattle.shares.specs.declared.answer.DrawAnswer.{DrawAnswer}
+use Rattle.shares.specs.declared.answer.DrawAnswer.the-variants as drawing
+use Rattle.shares.specs.Answers.{toldDraw, pointsIn}
+use Rattle.share_words.specs.Words.{stateIn, quotaIn, designerOf}
+use Rattle.share_exports.specs.Calls.{unknownDesigner}
+
+-- ---- starting: the quotas a and b lie in lists of v and i words
+abbrev pub Fit : ℕ → ℕ → Quota → Quota → Type 0
+Fit v i a b = (a .vertices + b .vertices ≤ v) × (a .indices + b .indices ≤ i)
+
+pub record StartExactly (q : List ℕ) (v i r : ℕ) : Type 0 where
+  pub started : (r ≡ 0) ↔ Fit v i (quotaIn q 0) (quotaIn q 2)
+  pub too-large : (r ≡ 12) ↔ (Fit v i (quotaIn q 0) (quotaIn q 2) → ⊥)
+
+-- ---- clearing, for the designer of number d: w are the words of the state
+pub record ClearExactly (d v i : ℕ) (w : List ℕ) (r : ℕ) : Type 0 where
+  pub cleared : (r ≡ 0) ↔ ((accepted v i (stateIn w) ≡ true) × (d ≤ 1))
+  pub bad-state : (r ≡ 14) ↔ (accepted v i (stateIn w) ≡ false)
+  pub unknown-designer : (r ≡ 15) ↔ ((accepted v i (stateIn w) ≡ true) × (1 < d))
+
+-- ---- drawing
+-- what is answered: the designer's number is none, a setting byte is the first out of range, or what the operation answers
+pub data ShareAnswer : Type 0 where
+  no-designer : ShareAnswer
+  unknown : ℕ → ShareAnswer
+  found : DrawAnswer → ShareAnswer
+
+abbrev pub toldShare : ShareAnswer → Told
+toldShare no-designer = unknownDesigner
+toldShare (unknown place) = unknownSetting place
+toldShare (found a) = toldDraw a
+
+-- the settings, the state and the designer are known; `ok` is whether the state and the lists are accepted
+abbrev pub Known : List ℕ → ℕ → Bool → Type 0
+Known bs d ok = Top (topIn bs) × (ok ≡ true) × (d ≤ 1) × AllBelow choices bs 0
+
+-- and the patch is not discarded
+abbrev pub Drawable : List ℕ → ℕ → Bool → Patch → Type 0
+Drawable bs d ok p = Known bs d ok × (discards p ≡ false)
+
+-- when each answer is right, in the order of finding, of a part that holds n points and has v and i words left, for m points and k indices
+abbrev pub ShareMeans : List ℕ → ℕ → Bool → Patch → ℕ → ℕ → ℕ → ℕ → ℕ → ShareAnswer → Type 0
+ShareMeans bs d ok p n v i m k (found drawing.BadTop) = Top (topIn bs) → ⊥
+ShareMeans bs d ok p n v i m k (found drawing.BadState) = Top (topIn bs) × (ok ≡ false)
+ShareMeans bs d ok p n v i m k no-designer = Top (topIn bs) × (ok ≡ true) × (1 < d)
+ShareMeans bs d ok p n v i m k (unknown place) = Top (topIn bs) × (ok ≡ true) × (d ≤ 1) × FirstOver choices bs 0 place
+ShareMeans bs d ok p n v i m k (found drawing.Discarded) = Known bs d ok × (discards p ≡ true)
+ShareMeans bs d ok p n v i m k (found drawing.TooManyPoints) = Drawable bs d ok p × (65535 < n + m)
+ShareMeans bs d ok p n v i m k (found drawing.NoRoomForVertices) = Drawable bs d ok p × (n + m ≤ 65535) × (v < 3 * m)
+ShareMeans bs d ok p n v i m k (found drawing.NoRoomForIndices) = Drawable bs d ok p × (n + m ≤ 65535) × (3 * m ≤ v) × (i < k)
+ShareMeans bs d ok p n v i m k (found (drawing.Drawn x y)) = Drawable bs d ok p × (n + m ≤ 65535) × (3 * m ≤ v) × (k ≤ i) × (x ≡ m) × (y ≡ k)
+
+-- each number with its words is answered exactly where it means: w are the words of the state at entry, c′ the counts at exit
+abbrev pub DrawExactly : List ℕ → List Float → ℕ → List ℕ → ℕ → ℕ → List ℕ → ℕ → Type 0
+DrawExactly bs xs d w v i c′ r =
+    AnsweredExactly (λ a. toldShare a .number) (λ a. twoWords (toldShare a .values))
+    (ShareMeans bs d (accepted v i (stateIn w)) (patchIn bs xs) (pointsIn (designerOf d) (stateIn w))
+    (left (designerOf d) (stateIn w .vertices)) (left (designerOf d) (stateIn w .indices)) (pointsOf (settingsIn bs) (patchIn bs xs)) (indicesOf (settingsIn bs) (patchIn bs xs)))
+    c′ r

@@ -1,0 +1,3 @@
+-- The laws of `streams`.
+pub mod Takes
+pub mod Fills

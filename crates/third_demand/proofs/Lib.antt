@@ -1,0 +1,3 @@
+-- The laws of `third_demand`.
+pub mod AllPoints
+pub mod Drawn

@@ -1,0 +1,21 @@
+-- The points that a drawing operation wrote, read off the list that it left.
+-- Assumes nothing.
+use Prim.Native.Nat.{ℕ, _*_}
+use mathlib.Core.Path.{_≡_}
+use mathlib.Core.List.{List}
+use lib.ListN.{take}
+use Rattle.patch.specs.declared.kinds.Patch.{Patch}
+use Rattle.patch.specs.declared.settings.Settings.{Settings}
+use Rattle.mesh.specs.declared.Point.{Point}
+use Rattle.drawing.specs.Words.{readPoints}
+use Rattle.tessellate.specs.declared.answer.PointsAnswer.{PointsAnswer}
+use Rattle.tessellate.specs.Answers.{drew, toldPoints}
+use Rattle.tessellate.specs.Draws.{DrewPoints}
+
+-- all points drawn: P of them, three words each, at the front of a list
+abbrev pub drawnPoints : ℕ → List ℕ → List Point
+drawnPoints n v = readPoints (take (3 * n) v)
+
+-- drawing the points of a patch was answered with "drawn", and these are all of them
+pub data WrotePoints (set : Settings) (p : Patch) : List Point → Type 0 where
+  wrote : (r : PointsAnswer) (v v′ : List ℕ) (P : ℕ) → DrewPoints set p v v′ r → toldPoints r ≡ drew P → WrotePoints set p (drawnPoints P v′)

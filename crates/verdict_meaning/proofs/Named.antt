@@ -1,0 +1,27 @@
+-- The right answer by name, as the searches find it: `verdict-told` says that it has the right number and values.
+-- Assumes nothing.
+use Prim.Native.Nat.{ℕ}
+use mathlib.Core.Bool.{cond}
+use mathlib.Core.List.{List}
+use Rattle.level.specs.Top.{isTop}
+use Rattle.patch.specs.declared.kinds.Patch.{Patch}
+use Rattle.patch.specs.declared.settings.Settings.{Settings}
+use Rattle.patch.specs.Subdivide.{discards}
+use Rattle.patch.specs.Turn.{positive}
+use Rattle.drawing.specs.Demand.{outline}
+use Rattle.mesh_verdict.specs.declared.Verdict.{Verdict}
+use Rattle.mesh_verdict.specs.declared.Verdict.the-variants.{BadTop, Isolines, Dots, ShouldBeDiscarded, Accepted}
+use Rattle.mesh_verdict.specs.Faults.{meshFault}
+use Rattle.verdict_meaning.specs.Checks.{isIsolines, isTriangles, isEmpty}
+
+-- the fault of a mesh for a patch that is not discarded
+unfoldable pub patchFault : Settings → Patch → List ℕ → List ℕ → Verdict
+patchFault set p pw iw = meshFault (isTriangles p) (positive (set .order) (set .origin)) (outline (set .spacing) (set .top) p) pw iw
+
+-- the answer: 11 first of all, then isolines, dots and a patch that should be discarded, then the mesh's own faults
+unfoldable pub verdict : Settings → Patch → List ℕ → List ℕ → Verdict
+verdict set p pw iw =
+    cond (isTop (set .top))
+    (cond (isIsolines p) Isolines
+    (cond (set .«point_mode») Dots
+    (cond (discards p) (cond (isEmpty pw iw) Accepted ShouldBeDiscarded) (patchFault set p pw iw)))) BadTop

@@ -1,0 +1,60 @@
+-- The right answer by its number and values: the kinds of fault in the order of finding, each at its first place.
+-- Assumes nothing.
+use Prim.Native.Nat.{ℕ, _*_, _/_, _%_}
+use mathlib.Core.Bool.{Bool, cond, _&&_}
+use mathlib.Core.List.{List, [], _∷_}
+use lib.Dec.{ltb, eqb}
+use lib.ListN.{length}
+use Rattle.level.specs.Top.{isTop}
+use Rattle.patch.specs.declared.kinds.Patch.{Patch}
+use Rattle.patch.specs.declared.settings.Settings.{Settings}
+use Rattle.patch.specs.Subdivide.{discards}
+use Rattle.patch.specs.Turn.{positive}
+use Rattle.strip.specs.declared.triangle.Triangle.{Triangle}
+use Rattle.mesh.specs.declared.Point.{Point}
+use Rattle.mesh.specs.Faces.{at}
+use Rattle.drawing.specs.Words.{readPoints, readTriangles}
+use Rattle.drawing.specs.Demand.{outline}
+use Rattle.searches.specs.Indices.{firstUnknown}
+use Rattle.searches.specs.Points.{firstEqual, firstRepeated}
+use Rattle.searches.specs.Triangles.{triangleAt, firstSharing, firstReused}
+use Rattle.mesh_faults.specs.Inside.{firstOutside}
+use Rattle.mesh_faults.specs.Turns.{firstTurned}
+use Rattle.mesh_faults.specs.Outline.{firstOpen, firstMissing}
+use Rattle.tessellate.specs.Answers.{Told, refused}
+use Rattle.verdict_meaning.specs.Checks.{isIsolines, isTriangles, isEmpty}
+
+-- a search among n places found x: where x is one of them this fault with its values, else what comes next
+abbrev pub faultAt : ℕ → ℕ → ℕ → (ℕ → List ℕ) → Told → Told
+faultAt number n x values rest = cond (ltb x n) (record { number = number; values = values x }) rest
+
+-- the value of a fault at one place
+abbrev pub here : ℕ → List ℕ
+here x = x ∷ []
+
+-- the faults of points ps and triangles ts: equal points and a side used twice have the first partner before the place
+unfoldable pub faultVerdict : Bool → Bool → List Point → List Point → List Triangle → Told
+faultVerdict triangles positive outline ps ts =
+    faultAt 25 (length ps) (firstOutside triangles ps) here
+    (faultAt 26 (length ps) (firstRepeated ps) (λ j. firstEqual ps (at ps j) j ∷ j ∷ [])
+    (faultAt 27 (length ts) (firstTurned positive ps ts) here
+    (faultAt 28 (length ts) (firstReused ts) (λ j. firstSharing ts (triangleAt ts j) j ∷ j ∷ [])
+    (faultAt 29 (length ts * 3) (firstOpen positive outline ps ts) (λ m. m / 3 ∷ m % 3 ∷ [])
+    (faultAt 30 (length outline) (firstMissing positive outline ps ts) here (refused 0))))))
+
+-- of a mesh for a patch that is not discarded, given as words
+unfoldable pub meshVerdict : Settings → Patch → List ℕ → List ℕ → Told
+meshVerdict set p pw iw =
+    cond (eqb (length pw % 3) 0 && eqb (length iw % 3) 0)
+    (faultAt 24 (length iw) (firstUnknown iw (length (readPoints pw))) here
+    (faultVerdict (isTriangles p) (positive (set .order) (set .origin)) (outline (set .spacing) (set .top) p) (readPoints pw) (readTriangles iw)))
+    (refused 23)
+
+-- of a mesh for any patch
+unfoldable pub checkVerdict : Settings → Patch → List ℕ → List ℕ → Told
+checkVerdict set p pw iw =
+    cond (isTop (set .top))
+    (cond (isIsolines p) (refused 20)
+    (cond (set .«point_mode») (refused 21)
+    (cond (discards p) (cond (isEmpty pw iw) (refused 0) (refused 22)) (meshVerdict set p pw iw))))
+    (refused 11)
