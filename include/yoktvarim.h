@@ -126,6 +126,19 @@ enum {
     YOKTVARIM_INDEX_WORDS = 24576
 };
 
+/* The greatest stack of each call in bytes, on x86-64: a thread that makes the call needs so much beside its own. This is measured and
+ * not proved: tests/stack makes each call on its largest inputs and on those that take other ways through it. */
+enum {
+    YOKTVARIM_STACK_MEASURE = 4096,
+    YOKTVARIM_STACK_DRAW = 20480,     /* points, indices */
+    YOKTVARIM_STACK_FLOATS = 16384,   /* drawing with floats */
+    YOKTVARIM_STACK_JOB = 4096,       /* writing and reading job files */
+    YOKTVARIM_STACK_CHECK = 143360,   /* checking a mesh */
+    YOKTVARIM_STACK_REPLAY = 118784,  /* replaying a recording */
+    YOKTVARIM_STACK_SHARE = 16384,    /* starting, drawing and clearing on shared lists */
+    YOKTVARIM_STACK_COMPARE = 172032  /* comparing two meshes */
+};
+
 /* What stands for 1 in the coordinates of a point. */
 enum {
     YOKTVARIM_ONE_IN_TRIANGLES = 196608, /* triangles: u + v + w of every point */
@@ -134,8 +147,8 @@ enum {
 
 /* Of every call in this header: all memory is the caller's. No pointer is NULL, not even that of a list of 0 words, each is aligned for
  * its type, and what a call writes overlaps nothing else that is passed to it; what is only read may overlap. Nothing else is asked,
- * whatever the numbers are, and nothing is kept once the call is over. There is no heap: a call takes up to about 20 kB of the stack for
- * drawing, 40 kB for comparing, 120 kB for replaying and 140 kB for checking a mesh, as measured.
+ * whatever the numbers are, and nothing is kept once the call is over. There is no heap; YOKTVARIM_STACK_..
+ * says how much of the stack each call takes.
  *
  * Of measuring and drawing: counts are always written. Beside UNKNOWN_SETTING the first, or only, one is the setting's place; beside
  * every other refusal all are 0. Where several refusals apply, BAD_TOP comes first, then UNKNOWN_SETTING, then the lowest number.
@@ -364,7 +377,7 @@ typedef struct yoktvarim_replay_told {
 
 /* Replays a recording of byte_count bytes: a header, the letters "TSR" and the version 1 in two bytes, and then entries of 34 bytes,
  * each a job record of version 1, the number of the answer in a byte, and points and indices in two bytes each, low byte first.
- * Draws each record into full-size lists of its own (about 100 kB on the stack) and compares number and counts. A record with a
+ * Draws each record into full-size lists of its own, on the stack, and compares number and counts. A record with a
  * setting out of range agrees exactly if it carries 8 and zero counts. *told is always written; whatever is not told is 0. */
 YOKTVARIM_MUST_USE yoktvarim_replay_answer yoktvarim_replay(const uint8_t *bytes, size_t byte_count, yoktvarim_replay_told *told);
 

@@ -66,7 +66,7 @@ pub const CASES: [Case; 8] = [
         EQUAL,
         [64.0; 6],
         Some(419_558),
-        Some(60_000),
+        Some(37_300),
     ),
     case(
         "quads odd, mixed",
@@ -83,7 +83,7 @@ pub const CASES: [Case; 8] = [
         EQUAL,
         [4.0; 6],
         Some(3_640),
-        Some(1_150),
+        Some(1_200),
     ),
     case("triangles odd 4.3", TRIANGLES, ODD, [4.3; 6], None, None),
     case("quads odd 3.7", QUADS, ODD, [3.7; 6], None, None),
@@ -96,6 +96,9 @@ pub const CASES: [Case; 8] = [
         Some(25_000),
     ),
 ];
+
+/// What quads 64 are compared with.
+pub const HALF: Case = case("quads even 63.5", QUADS, EVEN, [63.5; 6], None, None);
 
 /// The other small patches that are checked, so that both kinds with triangles come with each spacing and both turns.
 pub const SMALL: [Case; 10] = [

@@ -1,12 +1,16 @@
 //! Speed of drawing: `bench` prints times as ratios, `bench draw CASE TIMES` draws one case for an instruction counter. A draw
-//! is both calls, that for points and that for indices; `bench floats CASE TIMES` draws by the one call with floats.
+//! is both calls, that for points and that for indices; `bench floats CASE TIMES` draws by the one call with floats, and
+//! `bench shared CASE TIMES` on shared lists, and clears.
 //! `bench check CASE TIMES` draws once and checks that mesh, and `bench shuffled CASE TIMES` the same with its triangles shuffled;
-//! `bench checks` lists their cases, which are more than those for drawing.
+//! `bench checks` lists their cases, which are more than those for drawing. `bench refused CASE TIMES` checks a mesh that is refused and
+//! `bench compare CASE TIMES` compares two meshes; `bench refusals` and `bench comparisons` list these.
 
 mod cases;
+mod meshes;
 mod proved;
 
 use cases::{Case, CASES, SMALL};
+use meshes::{Mesh, PAIRS, REFUSED};
 use proved::Lists;
 use reference::{DomainOrigin, Patch, Settings, Spacing, VertexOrder};
 use std::hint::black_box;
@@ -67,6 +71,68 @@ fn nanoseconds(mut call: impl FnMut()) -> f64 {
 }
 
 fn ratios() {
+    drawing_ratios();
+    checking_ratios();
+    comparing_ratios();
+}
+
+/// What the reference program, with its hash maps, takes for the same call, over ours.
+fn ratio(name: &str, ours: f64, theirs: f64) {
+    println!("{name:<32} {ours:>10.0} {:>12.1}", theirs / ours);
+}
+
+fn checking_ratios() {
+    println!(
+        "\n{:<32} {:>10} {:>12}",
+        "case", "ns a check", "hash maps /"
+    );
+    for (name, mesh) in REFUSED {
+        let Mesh {
+            case,
+            points,
+            indices,
+        } = mesh();
+        let (patch, settings) = (patch_of(case), settings_of(case));
+        let ours = nanoseconds(|| {
+            black_box(proved::check(case, black_box(&points), &indices));
+        });
+        let theirs = nanoseconds(|| {
+            black_box(reference::verdict::check_mesh(
+                &patch,
+                &settings,
+                black_box(&points),
+                &indices,
+            ));
+        });
+        ratio(name, ours, theirs);
+    }
+}
+
+fn comparing_ratios() {
+    println!("\n{:<32} {:>10} {:>12}", "case", "ns", "hash maps /");
+    let mut differences = differences();
+    for (name, pair) in PAIRS {
+        let (left, right) = pair();
+        let ours = nanoseconds(|| {
+            black_box(proved::compare(black_box(&left), &right, &mut differences));
+        });
+        let theirs = nanoseconds(|| {
+            black_box(reference::compare(
+                black_box(&left).lent(),
+                right.lent(),
+                &mut differences,
+            ));
+        });
+        ratio(name, ours, theirs);
+    }
+}
+
+/// Room for all differences of two of the largest meshes.
+fn differences() -> Vec<u64> {
+    vec![0; 3 * 2 * (4_225 + 8_193)]
+}
+
+fn drawing_ratios() {
     println!(
         "{:<20} {:>10} {:>12} {:>12}",
         "case", "ns a draw", "reference /", "/ copy"
@@ -107,6 +173,16 @@ fn repeat(call: impl Fn(&Case, &mut Lists) -> (usize, usize), case: &str, times:
     }
 }
 
+/// Draws case number `case` on shared lists, and clears, so many times.
+fn repeat_shared(case: &str, times: &str) {
+    let case = &CASES[case.parse::<usize>().expect("a case")];
+    let mut lists = Lists::new();
+    let mut state = proved::start_shared(&lists);
+    for _ in 0..times.parse().expect("a number") {
+        proved::draw_shared(case, &mut lists, &mut state);
+    }
+}
+
 /// Puts the triangles into another order, the same in every run.
 fn shuffle(indices: &mut [u16]) {
     let mut state = 1u64;
@@ -137,8 +213,40 @@ fn repeat_check(case: &str, times: &str, shuffled: bool) {
         shuffle(&mut lists.indices[..indices]);
     }
     for _ in 0..times.parse().expect("a number") {
-        proved::check(case, black_box(&lists), points, indices);
+        let lists = black_box(&lists);
+        let answer = proved::check(
+            case,
+            &lists.vertices[..3 * points],
+            &lists.indices[..indices],
+        );
+        assert_eq!(answer, 0, "the mesh of {} is accepted", case.name);
     }
+}
+
+/// Checks a mesh that is refused so many times.
+fn repeat_refused(number: &str, times: &str) {
+    let (name, mesh) = REFUSED[number.parse::<usize>().expect("a case")];
+    let mesh = mesh();
+    for _ in 0..times.parse().expect("a number") {
+        let answer = proved::check(mesh.case, black_box(&mesh.points), &mesh.indices);
+        assert_ne!(answer, 0, "{name} is refused");
+    }
+}
+
+/// Compares two meshes so many times.
+fn repeat_compare(number: &str, times: &str) {
+    let (left, right) = PAIRS[number.parse::<usize>().expect("a case")].1();
+    let mut differences = differences();
+    for _ in 0..times.parse().expect("a number") {
+        black_box(proved::compare(black_box(&left), &right, &mut differences));
+    }
+}
+
+/// Names with their numbers.
+fn numbered<'a>(names: impl Iterator<Item = &'a str>) {
+    names
+        .enumerate()
+        .for_each(|(number, name)| println!("{number};{name}"));
 }
 
 /// The cases' names with the instructions that are the goal and the floats of a draw, for the script that counts.
@@ -165,10 +273,15 @@ fn main() {
         ["checks"] => checked().for_each(|(number, case)| println!("{number};{}", case.name)),
         ["draw", case, times] => repeat(proved::draw, case, times),
         ["floats", case, times] => repeat(proved::draw_with_floats, case, times),
+        ["shared", case, times] => repeat_shared(case, times),
         ["check", case, times] => repeat_check(case, times, false),
         ["shuffled", case, times] => repeat_check(case, times, true),
-        _ => {
-            panic!("usage: bench | bench list|checks | bench draw|floats|check|shuffled CASE TIMES")
-        }
+        ["refusals"] => numbered(REFUSED.iter().map(|(name, _)| *name)),
+        ["comparisons"] => numbered(PAIRS.iter().map(|(name, _)| *name)),
+        ["refused", case, times] => repeat_refused(case, times),
+        ["compare", case, times] => repeat_compare(case, times),
+        _ => panic!(
+            "usage: bench | bench list|checks|refusals|comparisons | bench draw|floats|shared|check|shuffled|refused|compare CASE TIMES"
+        ),
     }
 }

@@ -2,12 +2,12 @@
 -- Assumes nothing.
 use Prim.Native.Nat.{ℕ, zero, suc, _+_, _*_, _/_, _%_, _≤_, _<_}
 use mathlib.Core.Path.{_≡_, refl, ap}
-use mathlib.Core.Bool.{Bool, true, false, not, _||_}
+use mathlib.Core.Bool.{Bool, true, false, _||_}
 use mathlib.Core.List.{List, [], _∷_}
 use mathlib.Core.Logic.{_⊎_, inl, inr}
 use native.Mathlib.Omega.{arith}
 use native.Mathlib.Decide.{decLe}
-use lib.ListN.{length, getD, set}
+use lib.ListN.{length, getD, set, replicate}
 use lib.Seq.{getD-set-other}
 use Rattle.strip.specs.declared.triangle.Triangle.{Triangle}
 use Rattle.mesh.specs.declared.Point.{Point}
@@ -16,14 +16,15 @@ use Rattle.mesh.specs.Faces.{at, faceOf}
 use Rattle.searches.specs.First.{some}
 use Rattle.searches.specs.Points.{samePoint}
 use Rattle.searches.specs.Triangles.{triangleAt, hasSide, someSide}
-use Rattle.searches.proofs.First.{some-here, some-which, first-none}
+use Rattle.searches.proofs.First.{some-here, some-which}
 use Rattle.searches.proofs.Equal.{same-is, is-same}
-use Rattle.mesh_faults.specs.Outline.{sameEnds, sideBetween, startOf, endOf, closes, bounds, isDrawn, firstOpen, firstMissing}
+use Rattle.mesh_faults.specs.Outline.{sameEnds, sideBetween, startOf, endOf, closes, bounds, isDrawn, ClosedTo, DrawnTo}
 use Rattle.side_chains.specs.Sides.{sideStart, sideEnd, isSide, Once}
-use Rattle.sides.specs.Opens.{meets, Among, Listed}
-use Rattle.closed.specs.Closing.{IsPiece, Marked, AllMarked, Joins, Joined, Closed}
+use Rattle.closed.specs.Closing.{IsPiece, Blank, Marked, AllMarked, Joins, Shown}
+use Rattle.side_chains.proofs.Table.{zero-at}
 use Rattle.side_chains.proofs.Numbers.{one-of, both, both-which, ends-same, side-there}
-use Rattle.sides.proofs.Repeats.{once-unused}
+use Rattle.sides.specs.Opens.{meets, Among, Listed}
+use Rattle.sides.proofs.Repeats.{once-new}
 
 -- the test of two sides is the one for equal sides
 ends-are : (s r : Side) → sameEnds s r ≡ true → s ≡ r
@@ -46,6 +47,9 @@ module _ (P : ℕ → Point) (t : Triangle) where
       let s = from (t .b) (t .c) in one-of (sameEnds (from (t .a) (t .b)) s) (sameEnds s s) (sameEnds (from (t .c) (t .a)) s) (inr (inl (ends-self s)))
   bounds-own (suc (suc e)) =
       let s = from (t .c) (t .a) in one-of (sameEnds (from (t .a) (t .b)) s) (sameEnds (from (t .b) (t .c)) s) (sameEnds s s) (inr (inr (ends-self s)))
+
+pub blank-all : (n : ℕ) → Blank (replicate n 0)
+blank-all n = record { at = zero-at n }
 
 -- a mark past the end of the list is not set
 pub set-past : (xs : List ℕ) (k v : ℕ) → length xs ≤ k → xs ≡ set xs k v
@@ -107,17 +111,25 @@ module _ (positive : Bool) (outline ps : List Point) (ts : List Triangle) where
     each = λ i l. elim (decLe n i) [ yes p ↦ (let d : i ≡ n = omega arith in rw d h) | no p ↦ j .each i (omega arith) ];
   }
 
+  -- a side that has its reverse or is among those of the list
+  pick : (opens : List ℕ) (n m : ℕ) → Joins positive outline ps ts opens n → (meets ts m ≡ true) ⊎ Among opens n m → closes positive outline ps ts m ≡ true
+  pick opens n m j (inl h) = reverse-closes m (length ts * 3) (omega arith) h
+  pick opens n m j (inr a) = rw (a .is) at (j .each (a .place) (a .within))
+
   -- all sides, where those of the list are all that have no reverse
-  pub joined : (opens : List ℕ) (n : ℕ) → Listed ts (length ts * 3) opens n → Joins positive outline ps ts opens n → Joined positive outline ps ts
-  joined opens n l j = record { each = λ m b. pick m (l .each m b) }
-    where
-      pick : (m : ℕ) → (meets ts m ≡ true) ⊎ Among opens n m → closes positive outline ps ts m ≡ true
-      pick m (inl h) = reverse-closes m (length ts * 3) (omega arith) h
-      pick m (inr a) = rw (a .is) at (j .each (a .place) (a .within))
+  pub joined-all : (opens : List ℕ) (n m : ℕ) → m ≤ length ts * 3 → Listed ts (length ts * 3) opens n → Joins positive outline ps ts opens n → ClosedTo positive outline ps ts m
+  joined-all opens n m b l j = record { each = λ i c. pick opens n i j (l .each i (omega arith)) }
+
+  -- those before number k of the list
+  pub joined-before : (opens : List ℕ) (n k : ℕ) → k < n → Listed ts (length ts * 3) opens n → Joins positive outline ps ts opens k → ClosedTo positive outline ps ts (getD opens k 0)
+  joined-before opens n k b l j = record { each = λ i c. pick opens k i j (l .before k b i c) }
+
+  pub closed-none : ClosedTo positive outline ps ts 0
+  closed-none = record { each = λ m l. absurd (omega arith) }
 
   -- the marks
-  pub marked-none : (marks : List ℕ) → ((k : ℕ) → getD marks k 0 ≡ 0) → Marked positive outline ps ts marks
-  marked-none marks z = record { drawn = λ k l h. absurd (omega (arith, z k)) }
+  pub marked-none : (marks : List ℕ) → Blank marks → Marked positive outline ps ts marks
+  marked-none marks z = record { drawn = λ k l h. absurd (omega (arith, z .at k)) }
 
   pub marked-more : (m k : ℕ) (marks : List ℕ) → m < length ts * 3 → IsPiece positive outline ps ts m k → Marked positive outline ps ts marks
       → Marked positive outline ps ts (set marks k 1)
@@ -134,12 +146,30 @@ module _ (positive : Bool) (outline ps : List Point) (ts : List Triangle) where
       other : (i : ℕ) → i < length outline → 0 < getD (set marks k 1) i 0 → (i ≡ k → ⊥) → isDrawn ps ts (piece positive outline i) ≡ true
       other i b p d = t .drawn i b (rw (getD-set-other marks k i 1 0 d) at p)
 
-  -- a mesh with all of it
-  pub all-closed : (marks : List ℕ) → Once ts (length ts * 3) → Joined positive outline ps ts → Marked positive outline ps ts marks → AllMarked marks (length outline)
-      → Closed positive outline ps ts
-  unfolding firstOpen firstMissing
-  all-closed marks o j t a = record {
-    once = once-unused ts o;
-    joined = first-none (λ m. not (closes positive outline ps ts m)) (length ts * 3) (λ m l. ap not (j .each m l));
-    bounded = first-none (λ k. not (isDrawn ps ts (piece positive outline k))) (length outline) (λ k l. ap not (t .drawn k l (a .each k l)));
+  -- the pieces that have a mark are drawn
+  pub drawn-none : DrawnTo positive outline ps ts 0
+  drawn-none = record { each = λ k l. absurd (omega arith) }
+
+  pub marked-drawn : (marks : List ℕ) (n : ℕ) → n ≤ length outline → Marked positive outline ps ts marks → AllMarked marks n → DrawnTo positive outline ps ts n
+  marked-drawn marks n l t a = record { each = λ k b. t .drawn k (omega arith) (a .each k b) }
+
+  -- nothing is shown
+  pub shown-none : Shown positive outline ps ts (record { once = 0; joined = 0; drawn = 0 })
+  shown-none = record {
+    once-most = omega arith;
+    once = record { each = λ j l. absurd (omega arith) };
+    joined-most = omega arith;
+    joined = closed-none;
+    drawn-most = omega arith;
+    drawn = drawn-none;
   }
+
+  -- a side is there twice
+  pub shown-once : (n : ℕ) → n ≤ length ts → Once ts (n * 3) → Shown positive outline ps ts (record { once = n; joined = 0; drawn = 0 })
+  shown-once n l o = record { once-most = l; once = once-new ts n o; joined-most = omega arith; joined = closed-none; drawn-most = omega arith; drawn = drawn-none }
+
+  -- none is
+  pub shown-all : (n m k : ℕ) (marks : List ℕ) → n ≤ length ts → Once ts (n * 3) → m ≤ length ts * 3 → ClosedTo positive outline ps ts m → k ≤ length outline
+      → Marked positive outline ps ts marks → AllMarked marks k → Shown positive outline ps ts (record { once = n; joined = m; drawn = k })
+  shown-all n m k marks l o b c d t a =
+      record { once-most = l; once = once-new ts n o; joined-most = b; joined = c; drawn-most = d; drawn = marked-drawn marks k d t a }

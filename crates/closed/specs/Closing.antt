@@ -1,6 +1,6 @@
--- A mesh whose sides all meet, with its outline whole, and what shows it.
+-- How far a mesh is shown to be without the faults of sides and the outline, and what shows it.
 -- Assumes nothing.
-use Prim.Native.Nat.{ℕ, _*_, _<_}
+use Prim.Native.Nat.{ℕ, _*_, _≤_, _<_}
 use mathlib.Core.Path.{_≡_}
 use mathlib.Core.Bool.{Bool, true}
 use mathlib.Core.List.{List}
@@ -8,14 +8,19 @@ use lib.ListN.{length, getD}
 use Rattle.strip.specs.declared.triangle.Triangle.{Triangle}
 use Rattle.mesh.specs.declared.Point.{Point}
 use Rattle.mesh.specs.Cover.{piece}
-use Rattle.searches.specs.Triangles.{firstReused}
-use Rattle.mesh_faults.specs.Outline.{sameEnds, sideBetween, closes, isDrawn, firstOpen, firstMissing}
+use Rattle.side_searches.specs.Skips.{NewTo}
+use Rattle.mesh_faults.specs.Outline.{sameEnds, sideBetween, closes, isDrawn, ClosedTo, DrawnTo}
+use Rattle.closed.specs.declared.closing.Reached.{Reached}
 use Rattle.side_chains.specs.Sides.{sideStart, sideEnd}
 
 -- piece number k of the outline is side number m
 pub record IsPiece (positive : Bool) (outline ps : List Point) (ts : List Triangle) (m k : ℕ) : Type 0 where
   pub within : k < length outline
   pub same : sameEnds (piece positive outline k) (sideBetween ps (sideStart ts m) (sideEnd ts m)) ≡ true
+
+-- no mark is there
+pub record Blank (marks : List ℕ) : Type 0 where
+  pub at : (k : ℕ) → getD marks k 0 ≡ 0
 
 -- every piece that has a mark is drawn
 pub record Marked (positive : Bool) (outline ps : List Point) (ts : List Triangle) (marks : List ℕ) : Type 0 where
@@ -29,12 +34,11 @@ pub record AllMarked (marks : List ℕ) (n : ℕ) : Type 0 where
 pub record Joins (positive : Bool) (outline ps : List Point) (ts : List Triangle) (opens : List ℕ) (n : ℕ) : Type 0 where
   pub each : (i : ℕ) → i < n → closes positive outline ps ts (getD opens i 0) ≡ true
 
--- all sides do
-pub record Joined (positive : Bool) (outline ps : List Point) (ts : List Triangle) : Type 0 where
-  pub each : (m : ℕ) → m < length ts * 3 → closes positive outline ps ts m ≡ true
-
--- none of the faults that sides and the outline show
-pub record Closed (positive : Bool) (outline ps : List Point) (ts : List Triangle) : Type 0 where
-  pub once : firstReused ts ≡ length ts
-  pub joined : firstOpen positive outline ps ts ≡ length ts * 3
-  pub bounded : firstMissing positive outline ps ts ≡ length outline
+-- how far none of the faults that sides and the outline show is found
+pub record Shown (positive : Bool) (outline ps : List Point) (ts : List Triangle) (r : Reached) : Type 0 where
+  pub once-most : r .once ≤ length ts
+  pub once : NewTo ts (r .once)
+  pub joined-most : r .joined ≤ length ts * 3
+  pub joined : ClosedTo positive outline ps ts (r .joined)
+  pub drawn-most : r .drawn ≤ length outline
+  pub drawn : DrawnTo positive outline ps ts (r .drawn)

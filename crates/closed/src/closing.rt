@@ -1,15 +1,22 @@
-// Whether a mesh closes: the table is as large as the mesh asks for, and a mesh too large for it is no yes.
-ghost use mathlib.Core.Path.{_≡_};
-ghost use mathlib.Core.Bool.{true};
+// How far a table shows a mesh to be without the faults of sides and the outline: the table is as large as the mesh asks for, and of a mesh too large for it
+// nothing is shown.
 ghost use Prim.Native.Nat.{_≤_, _<_};
 ghost use lib.ListN.{length};
 ghost use Rattle.drawing.specs.Words.{readPoints, readTriangles};
 ghost use Rattle.mesh_faults.specs.Turns.{AllNumbered};
 ghost use Rattle.sides.specs.Tables.{vertices, Room, Cleared};
-ghost use Rattle.closed.specs.Closing.{Closed};
+ghost use Rattle.closed.specs.Closing.{Blank, Shown};
 
-// With a table that is lent for it.
-fn closes_by(
+// So many triangles, from the first on, have no side that an earlier one has; so many sides meet their reverse or are pieces of the outline; so many pieces
+// are drawn.
+pub struct Reached {
+    pub once: usize,
+    pub joined: usize,
+    pub drawn: usize,
+}
+
+// With a table, a list for sides without a reverse and marks for pieces that are lent for it.
+fn reach_by(
     outline: &[u32],
     points: &[u32],
     indices: &[u16],
@@ -17,43 +24,49 @@ fn closes_by(
     rows: &mut [u64],
     heads: &mut [u16],
     links: &mut [u32],
+    opens: &mut [u16],
+    marks: &mut [u16],
     positive: bool,
-) -> bool
-    requires { ⌜ Cleared small (now rows) (now heads) ⌝ ∗ ⌜ Room small (length (now indices)) (now links) ⌝ ∗ ⌜ AllNumbered (length (readPoints (now points))) (now indices) ⌝ ∗ ⌜ length (readPoints (now points)) ≤ vertices small (now heads) ⌝ ∗ ⌜ length (now indices) < 65536 ⌝ }
-    ensures { λ r. ⌜ (r ≡ true → Closed positive (readPoints (now (outline .entry))) (readPoints (now (points .entry))) (readTriangles (now (indices .entry)))) ⌝ }
+) -> Reached
+    requires { ⌜ Cleared small (now rows) (now heads) ⌝ ∗ ⌜ Room small (length (now indices)) (now links) ⌝ ∗ ⌜ AllNumbered (length (readPoints (now points))) (now indices) ⌝ ∗ ⌜ length (readPoints (now points)) ≤ vertices small (now heads) ⌝ ∗ ⌜ (length (now indices) < 65536) × Blank (now marks) ⌝ }
+    ensures { λ r. ⌜ Shown positive (readPoints (now (outline .entry))) (readPoints (now (points .entry))) (readTriangles (now (indices .entry))) r ⌝ }
 {
-    if !sides::filling::fill(indices, small, rows, heads, links) {
-        return false;
+    let once = sides::filling::fill(indices, small, rows, heads, links);
+    if once < indices.len() / 3 {
+        return Reached {
+            once,
+            joined: 0,
+            drawn: 0,
+        };
     }
-    let mut opens = [0u16; 256];
-    let count = sides::opens::open_sides(indices, small, rows, heads, links, &mut opens);
-    if 256 < count {
-        return false;
+    let count = sides::opens::open_sides(indices, small, rows, heads, links, opens);
+    if opens.len() < count {
+        return Reached {
+            once,
+            joined: 0,
+            drawn: 0,
+        };
     }
-    let mut marks = [0u16; 256];
-    if !crate::pieces::all_pieces(
-        outline,
-        points,
-        indices,
-        &opens,
-        count,
-        &mut marks,
-        positive,
-    ) {
-        return false;
+    let joined = crate::pieces::all_pieces(outline, points, indices, opens, count, marks, positive);
+    let drawn = crate::pieces::first_unmarked(marks, outline.len() / 3);
+    Reached {
+        once,
+        joined,
+        drawn,
     }
-    crate::pieces::all_marked(&marks, outline.len() / 3)
 }
 
-// With rows of bits, for up to 64 points.
-fn closes_small(outline: &[u32], points: &[u32], indices: &[u16], positive: bool) -> bool
-    requires { ⌜ AllNumbered (length (readPoints (now points))) (now indices) ⌝ ∗ ⌜ length (now points) ≤ 192 ⌝ ∗ ⌜ length (now indices) ≤ 24576 ⌝ }
-    ensures { λ r. ⌜ (r ≡ true → Closed positive (readPoints (now (outline .entry))) (readPoints (now (points .entry))) (readTriangles (now (indices .entry)))) ⌝ }
+// With rows of bits, for up to 64 points, which have at most 64 pieces of an outline.
+fn reach_small(outline: &[u32], points: &[u32], indices: &[u16], positive: bool) -> Reached
+    requires { ⌜ AllNumbered (length (readPoints (now points))) (now indices) ⌝ ∗ ⌜ length (now points) ≤ 192 ⌝ ∗ ⌜ length (now indices) ≤ 25344 ⌝ }
+    ensures { λ r. ⌜ Shown positive (readPoints (now (outline .entry))) (readPoints (now (points .entry))) (readTriangles (now (indices .entry))) r ⌝ }
 {
     let mut rows = [0u64; 64];
     let mut heads = [0u16; 1];
     let mut links = [0u32; 1];
-    closes_by(
+    let mut opens = [0u16; 128];
+    let mut marks = [0u16; 64];
+    reach_by(
         outline,
         points,
         indices,
@@ -61,19 +74,23 @@ fn closes_small(outline: &[u32], points: &[u32], indices: &[u16], positive: bool
         &mut rows,
         &mut heads,
         &mut links,
+        &mut opens,
+        &mut marks,
         positive,
     )
 }
 
-// With chains, for up to 8192 points and 8192 triangles, which are as many as the largest patch is cut into.
-fn closes_large(outline: &[u32], points: &[u32], indices: &[u16], positive: bool) -> bool
-    requires { ⌜ AllNumbered (length (readPoints (now points))) (now indices) ⌝ ∗ ⌜ length (now points) ≤ 24576 ⌝ ∗ ⌜ length (now indices) ≤ 24576 ⌝ }
-    ensures { λ r. ⌜ (r ≡ true → Closed positive (readPoints (now (outline .entry))) (readPoints (now (points .entry))) (readTriangles (now (indices .entry)))) ⌝ }
+// With chains, for up to 8192 points and 8448 triangles; the largest patch is cut into 4225 and 8192, with 256 pieces of the outline.
+fn reach_large(outline: &[u32], points: &[u32], indices: &[u16], positive: bool) -> Reached
+    requires { ⌜ AllNumbered (length (readPoints (now points))) (now indices) ⌝ ∗ ⌜ length (now points) ≤ 24576 ⌝ ∗ ⌜ length (now indices) ≤ 25344 ⌝ }
+    ensures { λ r. ⌜ Shown positive (readPoints (now (outline .entry))) (readPoints (now (points .entry))) (readTriangles (now (indices .entry))) r ⌝ }
 {
     let mut rows = [0u64; 1];
     let mut heads = [0u16; 8192];
-    let mut links = [0u32; 24576];
-    closes_by(
+    let mut links = [0u32; 25344];
+    let mut opens = [0u16; 1024];
+    let mut marks = [0u16; 256];
+    reach_by(
         outline,
         points,
         indices,
@@ -81,23 +98,33 @@ fn closes_large(outline: &[u32], points: &[u32], indices: &[u16], positive: bool
         &mut rows,
         &mut heads,
         &mut links,
+        &mut opens,
+        &mut marks,
         positive,
     )
 }
 
-// True only where no side is used twice, every side meets its reverse or is a piece of the outline, and no piece is missing.
-pub fn is_closed(outline: &[u32], points: &[u32], indices: &[u16], positive: bool) -> bool
+// How far none of the faults of sides and the outline is found. A search that starts there finds the first of each kind.
+pub fn reach(outline: &[u32], points: &[u32], indices: &[u16], positive: bool) -> Reached
     requires { ⌜ AllNumbered (length (readPoints (now points))) (now indices) ⌝ }
-    ensures { λ r. ⌜ (r ≡ true → Closed positive (readPoints (now (outline .entry))) (readPoints (now (points .entry))) (readTriangles (now (indices .entry)))) ⌝ }
+    ensures { λ r. ⌜ Shown positive (readPoints (now (outline .entry))) (readPoints (now (points .entry))) (readTriangles (now (indices .entry))) r ⌝ }
 {
     if 24576 < points.len() {
-        return false;
+        return Reached {
+            once: 0,
+            joined: 0,
+            drawn: 0,
+        };
     }
-    if 24576 < indices.len() {
-        return false;
+    if 25344 < indices.len() {
+        return Reached {
+            once: 0,
+            joined: 0,
+            drawn: 0,
+        };
     }
     if 192 < points.len() {
-        return closes_large(outline, points, indices, positive);
+        return reach_large(outline, points, indices, positive);
     }
-    closes_small(outline, points, indices, positive)
+    reach_small(outline, points, indices, positive)
 }

@@ -6,9 +6,9 @@ ghost use lib.ListN.{length, set};
 ghost use Rattle.mesh.specs.Cover.{piece};
 ghost use Rattle.drawing.specs.Words.{readPoints, readTriangles};
 ghost use Rattle.mesh_faults.specs.Turns.{AllNumbered};
-ghost use Rattle.mesh_faults.specs.Outline.{sameEnds, closes};
+ghost use Rattle.mesh_faults.specs.Outline.{sameEnds, closes, ClosedTo};
 ghost use Rattle.sides.specs.Opens.{Listed};
-ghost use Rattle.closed.specs.Closing.{Marked, AllMarked, Joined};
+ghost use Rattle.closed.specs.Closing.{Marked, AllMarked};
 use mesh::Point;
 use mesh_faults::outline::is_piece_at;
 use searches::point::point_at;
@@ -65,7 +65,8 @@ fn mark_piece(
     k
 }
 
-// Whether the first `count` sides of a list are pieces of the outline, where every other side meets its reverse; their pieces are marked.
+// How many sides, from the first on, meet their reverse or are pieces of the outline. The first `count` sides of a list are all that have no reverse; those that
+// are pieces are marked, up to the first that is none.
 pub(crate) fn all_pieces(
     outline: &[u32],
     points: &[u32],
@@ -74,9 +75,9 @@ pub(crate) fn all_pieces(
     count: usize,
     marks: &mut [u16],
     positive: bool,
-) -> bool
+) -> usize
     requires { ⌜ AllNumbered (length (readPoints (now points))) (now indices) ⌝ ∗ ⌜ count ≤ length (now opens) ⌝ ∗ ⌜ Listed (readTriangles (now indices)) (length (readTriangles (now indices)) * 3) (now opens) count ⌝ ∗ ⌜ Marked positive (readPoints (now outline)) (readPoints (now points)) (readTriangles (now indices)) (now marks) ⌝ }
-    ensures { λ r. ⌜ (r ≡ true → Joined positive (readPoints (now (outline .entry))) (readPoints (now (points .entry))) (readTriangles (now (indices .entry)))) ⌝ ∗ ⌜ Marked positive (readPoints (now (outline .entry))) (readPoints (now (points .entry))) (readTriangles (now (indices .entry))) (now (marks .exit)) ⌝ }
+    ensures { λ r. ⌜ (r ≤ length (readTriangles (now (indices .entry))) * 3) × ClosedTo positive (readPoints (now (outline .entry))) (readPoints (now (points .entry))) (readTriangles (now (indices .entry))) r ⌝ ∗ ⌜ Marked positive (readPoints (now (outline .entry))) (readPoints (now (points .entry))) (readTriangles (now (indices .entry))) (now (marks .exit)) ⌝ }
 {
     let pieces = outline.len() / 3;
     let mut near = 0;
@@ -85,27 +86,27 @@ pub(crate) fn all_pieces(
         let m = opens[k] as usize;
         let piece = mark_piece(outline, points, indices, marks, positive, near, m);
         if pieces <= piece {
-            return false;
+            return m;
         }
         near = piece + 1;
         k += 1;
     }
-    true
+    indices.len() / 3 * 3
 }
 
-// Whether the first `count` marks are all there.
-pub(crate) fn all_marked(marks: &[u16], count: usize) -> bool
-    ensures { λ r. ⌜ (r ≡ true → AllMarked (now (marks .entry)) count) ⌝ }
+// How many of the first `count` marks, from the first on, are there.
+pub(crate) fn first_unmarked(marks: &[u16], count: usize) -> usize
+    ensures { λ r. ⌜ (r ≤ count) × AllMarked (now (marks .entry)) r ⌝ }
 {
-    if marks.len() < count {
-        return false;
-    }
     let mut k = 0;
     while k < count {
+        if marks.len() <= k {
+            return k;
+        }
         if marks[k] == 0 {
-            return false;
+            return k;
         }
         k += 1;
     }
-    true
+    k
 }

@@ -1,7 +1,7 @@
 -- The four parts of the list of differences: how many there are, and how they are written one after the other.
 -- Assumes nothing.
 use Prim.Native.Nat.{ℕ, _+_, _≤_}
-use mathlib.Core.Path.{_≡_, refl, ap, _∙_}
+use mathlib.Core.Path.{_≡_, refl, sym, ap, _∙_}
 use mathlib.Core.List.{List, _++_, append-assoc}
 use native.Mathlib.Omega.{arith}
 use lib.ListN.{length, length-append, length-map}
@@ -29,21 +29,20 @@ module _ (l r : Mesh) where
       ∙ ap (λ (w : List ℕ). w ++ words (rightFaces l r)) (words-append ((leftPoints l r) ++ (rightPoints l r)) (leftFaces l r) ∙ ap (λ (w : List ℕ). w ++ words (leftFaces l r)) (words-append (leftPoints l r) (rightPoints l r)))
       ∙ simp append-assoc
 
-  -- what is left to write after the first part
-  pub after-first : {xs xs₁ : List ℕ} {w : ℕ} → length (words (differences l r)) ≤ length xs → Wrote xs 0 (words (leftPoints l r)) xs₁ w
-      → Left xs₁ w (words (rightPoints l r) ++ (words (leftFaces l r) ++ words (rightFaces l r))) xs 0 (words (differences l r))
-  after-first h p = left-step p parts-words (left-all refl (omega arith))
+  -- what is left to write after the points
+  pub after-points : {xs xs₁ : List ℕ} {w : ℕ} → length (words (differences l r)) ≤ length xs → Wrote xs 0 (words (leftPoints l r) ++ words (rightPoints l r)) xs₁ w
+      → Left xs₁ w (words (leftFaces l r) ++ words (rightFaces l r)) xs 0 (words (differences l r))
+  after-points h p = left-step p (parts-words ∙ sym (append-assoc (words (leftPoints l r)) (words (rightPoints l r)) (words (leftFaces l r) ++ words (rightFaces l r)))) (left-all refl (omega arith))
 
-  -- after the second
-  pub after-second : {xs xs₁ xs₂ : List ℕ} {w v : ℕ} → length (words (differences l r)) ≤ length xs → Wrote xs 0 (words (leftPoints l r)) xs₁ w
-      → Wrote xs₁ w (words (rightPoints l r)) xs₂ v → Left xs₂ v (words (leftFaces l r) ++ words (rightFaces l r)) xs 0 (words (differences l r))
-  after-second h p q = left-step q refl (after-first h p)
+  -- and after the left side's triangles
+  pub after-faces : {xs xs₁ xs₂ : List ℕ} {w v : ℕ} → length (words (differences l r)) ≤ length xs → Wrote xs 0 (words (leftPoints l r) ++ words (rightPoints l r)) xs₁ w
+      → Wrote xs₁ w (words (leftFaces l r)) xs₂ v → Left xs₂ v (words (rightFaces l r)) xs 0 (words (differences l r))
+  after-faces h p q = left-step q refl (after-points h p)
 
-  -- after the third
-  pub after-third : {xs xs₁ xs₂ xs₃ : List ℕ} {w v u : ℕ} → length (words (differences l r)) ≤ length xs → Wrote xs 0 (words (leftPoints l r)) xs₁ w
-      → Wrote xs₁ w (words (rightPoints l r)) xs₂ v → Wrote xs₂ v (words (leftFaces l r)) xs₃ u → Left xs₃ u (words (rightFaces l r)) xs 0 (words (differences l r))
-  after-third h p q s = left-step s refl (after-second h p q)
-
-  -- there is room for the first part
-  pub first-fits : (xs : List ℕ) → length (words (differences l r)) ≤ length xs → 0 + length (words (leftPoints l r)) ≤ length xs
-  first-fits xs h = omega (arith, ap length parts-words, length-append (words (leftPoints l r)) (words (rightPoints l r) ++ (words (leftFaces l r) ++ words (rightFaces l r))))
+  -- there is room for the points
+  pub points-fit : (xs : List ℕ) → length (words (differences l r)) ≤ length xs → length (words (leftPoints l r) ++ words (rightPoints l r)) ≤ length xs
+  points-fit xs h =
+      let P = words (leftPoints l r) in
+      let Q = words (rightPoints l r) in
+      let F = words (leftFaces l r) ++ words (rightFaces l r) in
+      omega (arith, ap length parts-words, length-append P (Q ++ F), length-append Q F, length-append P Q)

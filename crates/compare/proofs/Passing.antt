@@ -1,7 +1,7 @@
 -- The numbers that pass a test: how a loop counts them, and how a loop writes their words.
 -- Assumes nothing.
 use Prim.Native.Nat.{ℕ, zero, suc, _+_, _*_, _-_, _/_, _≤_, _<_}
-use mathlib.Core.Path.{_≡_, refl, ap, _∙_}
+use mathlib.Core.Path.{_≡_, refl, sym, ap, _∙_}
 use mathlib.Core.Bool.{Bool, true, false, cond, true≢false}
 use mathlib.Core.List.{List, [], _∷_, _++_}
 use native.Mathlib.Nat.{add-zero}
@@ -9,16 +9,19 @@ use native.Mathlib.Omega.{arith}
 use lib.ListN.{length, length-append}
 use Rattle.buffer.specs.Over.{flat}
 use Rattle.buffer.proofs.Laws.{flat-step, flat-all, flat-done}
+use Rattle.copies.proofs.Shifts.{flat-below}
 use Rattle.mesh.specs.Cover.{Face}
 use Rattle.drawing.specs.Words.{readPoints, readTriangles}
 use Rattle.searches.specs.Points.{samePoint}
-use Rattle.searches.proofs.First.{Below}
+use Rattle.searches.proofs.First.{Below, some-here}
+use Rattle.searches.proofs.Equal.{is-same}
 use Rattle.searches.proofs.Read.{points-count, triangles-count}
 use Rattle.differences.specs.Lacking.{Row, passing, lacks, lacking}
-use Rattle.differences.specs.Meshes.{pointsIn, facesIn, sameFace}
-use Rattle.differences.specs.Found.{AllInPlace}
-use Rattle.differences.proofs.Lacks.{in-place-found}
-use Rattle.differences.specs.Differences.{Difference, each, words, wordsIf}
+use Rattle.differences.specs.Meshes.{Mesh, readMesh, pointsIn, facesIn, sameFace}
+use Rattle.differences.proofs.Tests.{lacks-found, in-order}
+use Rattle.compare_flags.specs.Flags.{isSet, Flagged}
+use Rattle.compare_flags.proofs.Tables.{flag-tells}
+use Rattle.differences.specs.Differences.{Difference, each, differences, words, wordsIf}
 
 -- the number k, if it passes
 abbrev pub one : (ℕ → Bool) → ℕ → List ℕ
@@ -53,6 +56,12 @@ pub tally-done : {t : ℕ → Bool} {k n c : ℕ} → n ≤ k → Tally t k n c 
 tally-done {t} {k} {n} {c} l h =
     let s = ap length (flat-done (one t) k n l) in
     omega arith
+
+-- flags that are set pass, and they are those of the test
+pub flags-pass : {t : ℕ → Bool} {n m c : ℕ} {fs : List ℕ} → Flagged t n fs → n ≡ m → c ≡ length (passing (isSet fs) n) → c ≡ length (passing t m)
+unfolding passing
+flags-pass {t} {n} {m} {c} {fs} h e p =
+    p ∙ ap length (flat-below (one (isSet fs)) (one t) 0 n (λ j l. ap (λ (b : Bool). cond b (j ∷ []) []) (flag-tells h j (omega arith)))) ∙ ap (λ (k : ℕ). length (flat (one t) 0 k)) e
 
 -- at most all of them pass
 flat-most : (t : ℕ → Bool) (i k : ℕ) → length (flat (one t) i k) ≤ k
@@ -109,9 +118,22 @@ pub passing-none : (t : ℕ → Bool) (n : ℕ) → Below t n → passing t n �
 unfolding passing
 passing-none t n h = flat-none t 0 n (λ j l. let e : 0 + j ≡ j = omega arith in rw e (h j l))
 
--- every triangle is in its place
-pub in-place-none : (xs ys : Row Face) → AllInPlace xs ys → lacking sameFace xs ys ≡ []
-in-place-none xs ys h = passing-none (lacks sameFace xs ys) (xs .count) (λ k l. in-place-found xs ys k (h .each k l))
+-- an entry that is the same as itself is no difference
+pub itself-none : {A : Type 0} (same : A → A → Bool) (xs : Row A) → ((x : A) → same x x ≡ true) → lacking same xs xs ≡ []
+itself-none same xs h =
+    passing-none (lacks same xs xs) (xs .count) (λ k l. lacks-found same xs xs k (some-here (λ i. same (xs .entry i) (xs .entry k)) (xs .count) k l (h (xs .entry k))))
+
+same-face-itself : (f : Face) → sameFace f f ≡ true
+same-face-itself f = in-order f f (rw (is-same (f .p) (f .p) refl, is-same (f .q) (f .q) refl, is-same (f .r) (f .r) refl))
+
+-- a mesh differs nowhere from itself
+pub differences-itself : (m : Mesh) → differences m m ≡ []
+unfolding differences
+differences-itself m = rw (itself-none samePoint (m .points) (λ p. is-same p p refl), itself-none sameFace (m .faces) same-face-itself)
+
+-- nor do meshes of the same words differ
+pub same-none : (lp li rp ri : List ℕ) → lp ≡ rp → li ≡ ri → 0 ≡ length (differences (readMesh lp li) (readMesh rp ri))
+same-none lp li rp ri e h = rw (e, h) (sym (ap length (differences-itself (readMesh rp ri))))
 
 -- ---- no more differ than there are, in meshes given as words
 few-points : (pw qw : List ℕ) → length (lacking samePoint (pointsIn pw) (pointsIn qw)) ≤ length pw / 3

@@ -2,15 +2,16 @@
 ghost use mathlib.Core.Path.{_≡_};
 ghost use mathlib.Core.Bool.{cond};
 ghost use mathlib.Core.List.{[], _∷_};
-ghost use Prim.Native.Nat.{_+_, _≤_};
+ghost use Prim.Native.Nat.{_+_, _/_, _≤_};
 ghost use lib.ListN.{length};
 ghost use Rattle.buffer.specs.Over.{Wrote};
 ghost use Rattle.searches.specs.Points.{samePoint};
-ghost use Rattle.differences.specs.Lacking.{lacking};
+ghost use Rattle.differences.specs.Lacking.{passing, lacks, lacking};
 ghost use Rattle.differences.specs.Meshes.{Single, Good, pointsIn, facesIn, sameFace};
+ghost use Rattle.compare_flags.specs.Flags.{isSet, KnownFlags};
 ghost use Rattle.differences.specs.Differences.{wordsIf, pointDifferences, faceDifferences, words};
-use differences::side::lacks_face;
-use differences::side::lacks_point;
+use compare_flags::ask::lacks_face;
+use compare_flags::ask::lacks_point;
 
 // 1 for true.
 fn one_if(is: bool) -> usize
@@ -19,15 +20,32 @@ fn one_if(is: bool) -> usize
     if is { 1 } else { 0 }
 }
 
-pub fn count_points(points: &[u32], others: &[u32]) -> usize
-    requires { ⌜ Single (now points) ⌝ }
-    ensures { λ n. ⌜ n ≡ length (lacking samePoint (pointsIn (now (points .entry))) (pointsIn (now (others .entry)))) ⌝ }
+// How many of the first flags are set.
+fn count_set(flags: &[u8], count: usize) -> usize
+    requires { ⌜ count ≤ length (now flags) ⌝ }
+    ensures { λ n. ⌜ n ≡ length (passing (isSet (now (flags .entry))) count) ⌝ }
 {
-    let count = points.len() / 3;
     let mut n = 0;
     let mut k = 0;
     while k < count {
-        n += one_if(lacks_point(points, k, others));
+        n += one_if(flags[k] == 1);
+        k += 1;
+    }
+    n
+}
+
+pub fn count_points(points: &[u32], others: &[u32], known: bool, flags: &[u8]) -> usize
+    requires { ⌜ Single (now points) ⌝ ∗ ⌜ KnownFlags known (lacks samePoint (pointsIn (now points)) (pointsIn (now others))) (length (now points) / 3) (now flags) ⌝ }
+    ensures { λ n. ⌜ n ≡ length (lacking samePoint (pointsIn (now (points .entry))) (pointsIn (now (others .entry)))) ⌝ }
+{
+    let count = points.len() / 3;
+    if known {
+        return count_set(flags, count);
+    }
+    let mut n = 0;
+    let mut k = 0;
+    while k < count {
+        n += one_if(lacks_point(points, k, others, known, flags));
         k += 1;
     }
     n
@@ -38,15 +56,28 @@ pub fn count_faces(
     indices: &[u16],
     other_points: &[u32],
     other_indices: &[u16],
+    known: bool,
+    flags: &[u8],
 ) -> usize
-    requires { ⌜ Good (now points) (now indices) ⌝ ∗ ⌜ Good (now «other_points») (now «other_indices») ⌝ }
+    requires { ⌜ Good (now points) (now indices) ⌝ ∗ ⌜ Good (now «other_points») (now «other_indices») ⌝ ∗ ⌜ KnownFlags known (lacks sameFace (facesIn (now points) (now indices)) (facesIn (now «other_points») (now «other_indices»))) (length (now indices) / 3) (now flags) ⌝ }
     ensures { λ n. ⌜ n ≡ length (lacking sameFace (facesIn (now (points .entry)) (now (indices .entry))) (facesIn (now («other_points» .entry)) (now («other_indices» .entry)))) ⌝ }
 {
     let count = indices.len() / 3;
+    if known {
+        return count_set(flags, count);
+    }
     let mut n = 0;
     let mut k = 0;
     while k < count {
-        n += one_if(lacks_face(points, indices, k, other_points, other_indices));
+        n += one_if(lacks_face(
+            points,
+            indices,
+            k,
+            other_points,
+            other_indices,
+            known,
+            flags,
+        ));
         k += 1;
     }
     n
@@ -75,15 +106,30 @@ fn put_if(out: &mut [u64], at: usize, is: bool, kind: u64, side: u64, number: us
     }
 }
 
-pub fn write_points(out: &mut [u64], at: usize, side: u64, points: &[u32], others: &[u32]) -> usize
-    requires { ⌜ Single (now points) ⌝ ∗ ⌜ at + length (words (pointDifferences side (pointsIn (now points)) (pointsIn (now others)))) ≤ length (now out) ⌝ }
+pub fn write_points(
+    out: &mut [u64],
+    at: usize,
+    side: u64,
+    points: &[u32],
+    others: &[u32],
+    known: bool,
+    flags: &[u8],
+) -> usize
+    requires { ⌜ Single (now points) ⌝ ∗ ⌜ KnownFlags known (lacks samePoint (pointsIn (now points)) (pointsIn (now others))) (length (now points) / 3) (now flags) ⌝ ∗ ⌜ at + length (words (pointDifferences side (pointsIn (now points)) (pointsIn (now others)))) ≤ length (now out) ⌝ }
     ensures { λ r. ⌜ Wrote (now (out .entry)) at (words (pointDifferences side (pointsIn (now (points .entry))) (pointsIn (now (others .entry))))) (now (out .exit)) r ⌝ }
 {
     let count = points.len() / 3;
     let mut to = at;
     let mut k = 0;
     while k < count {
-        to = put_if(out, to, lacks_point(points, k, others), 0, side, k);
+        to = put_if(
+            out,
+            to,
+            lacks_point(points, k, others, known, flags),
+            0,
+            side,
+            k,
+        );
         k += 1;
     }
     to
@@ -97,15 +143,25 @@ pub fn write_faces(
     indices: &[u16],
     other_points: &[u32],
     other_indices: &[u16],
+    known: bool,
+    flags: &[u8],
 ) -> usize
-    requires { ⌜ Good (now points) (now indices) ⌝ ∗ ⌜ Good (now «other_points») (now «other_indices») ⌝ ∗ ⌜ at + length (words (faceDifferences side (facesIn (now points) (now indices)) (facesIn (now «other_points») (now «other_indices»)))) ≤ length (now out) ⌝ }
+    requires { ⌜ Good (now points) (now indices) ⌝ ∗ ⌜ Good (now «other_points») (now «other_indices») ⌝ ∗ ⌜ KnownFlags known (lacks sameFace (facesIn (now points) (now indices)) (facesIn (now «other_points») (now «other_indices»))) (length (now indices) / 3) (now flags) ⌝ ∗ ⌜ at + length (words (faceDifferences side (facesIn (now points) (now indices)) (facesIn (now «other_points») (now «other_indices»)))) ≤ length (now out) ⌝ }
     ensures { λ r. ⌜ Wrote (now (out .entry)) at (words (faceDifferences side (facesIn (now (points .entry)) (now (indices .entry))) (facesIn (now («other_points» .entry)) (now («other_indices» .entry))))) (now (out .exit)) r ⌝ }
 {
     let count = indices.len() / 3;
     let mut to = at;
     let mut k = 0;
     while k < count {
-        let is = lacks_face(points, indices, k, other_points, other_indices);
+        let is = lacks_face(
+            points,
+            indices,
+            k,
+            other_points,
+            other_indices,
+            known,
+            flags,
+        );
         to = put_if(out, to, is, 1, side, k);
         k += 1;
     }

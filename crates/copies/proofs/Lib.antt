@@ -1,2 +1,3 @@
 -- The laws of copies, for the crates above.
 pub mod Shifts
+pub mod Again

@@ -22,7 +22,7 @@ unfolding shifted
 shifted-append d [] ys = refl
 shifted-append d (x ∷ xs) ys = ap (λ (l : List ℕ). (x + d) % 65536 ∷ l) (shifted-append d xs ys)
 
-shifted-twice : (d e : ℕ) (xs : List ℕ) → shifted d (shifted e xs) ≡ shifted (e + d) xs
+pub shifted-twice : (d e : ℕ) (xs : List ℕ) → shifted d (shifted e xs) ≡ shifted (e + d) xs
 unfolding shifted
 shifted-twice d e [] = refl
 shifted-twice d e (x ∷ xs) =

@@ -2,7 +2,7 @@
 -- Assumes nothing.
 use Prim.Native.Nat.{ℕ, _/_, _≤_, _<_}
 use mathlib.Core.Path.{_≡_, refl, sym, ap, _∙_}
-use mathlib.Core.Bool.{Bool, true, false, not, _&&_, true≢false}
+use mathlib.Core.Bool.{Bool, true, false, not}
 use mathlib.Core.List.{List}
 use native.Mathlib.Omega.{arith}
 use lib.ListN.{length, getD}
@@ -15,14 +15,13 @@ use Rattle.searches.specs.Points.{samePoint}
 use Rattle.searches.specs.Triangles.{triangleAt}
 use Rattle.side_searches.specs.Same.{sameTriangle, Held}
 use Rattle.searches.proofs.First.{some-here, some-none}
-use Rattle.searches.proofs.Equal.{same-is, is-same}
 use Rattle.searches.proofs.Read.{points-count, triangles-count}
 use Rattle.strip.specs.declared.triangle.Triangle.{Triangle}
 use Rattle.differences.specs.declared.corners.Match.{Match}
 use Rattle.differences.specs.declared.corners.Match.the-variants.{Corners, Missing}
 use Rattle.differences.specs.Lacking.{Row, among, lacks}
 use Rattle.differences.specs.Meshes.{Single, Indexed, Good, pointsIn, facesIn, sameFace}
-use Rattle.differences.specs.Found.{Found, Matched, isMatch, someTriangle, InPlace, AllInPlace}
+use Rattle.differences.specs.Found.{Found, Matched, isMatch, someTriangle, InPlace}
 use Rattle.differences.proofs.Tests.{in-order, some-same, lacks-single, lacks-found, lacks-other}
 use Rattle.differences.proofs.Numbers.{single-before, numbers-same, lies-itself, cornered}
 
@@ -45,25 +44,6 @@ module _ (pw ow : List ℕ) (k : ℕ) where
 -- a triangle in its place
 pub in-place-found : (xs ys : Row Face) (k : ℕ) → InPlace xs ys k → lacks sameFace xs ys k ≡ false
 in-place-found xs ys k h = lacks-found sameFace xs ys k (some-here (λ i. sameFace (ys .entry i) (xs .entry k)) (ys .count) k (h .number) (in-order (ys .entry k) (xs .entry k) (h .same)))
-
--- and the other way round
-swapped : (p q : Point) → samePoint p q ≡ true → samePoint q p ≡ true
-swapped p q h = is-same q p (sym (same-is p q h))
-
-all-three : (x y z : Bool) → (x && y && z) ≡ true → (x ≡ true) × (y ≡ true) × (z ≡ true)
-all-three true true z h = (refl, refl, h)
-all-three true false z h = absurd (true≢false (sym h))
-all-three false y z h = absurd (true≢false (sym h))
-
-pub in-place-back : (xs ys : Row Face) → AllInPlace xs ys → AllInPlace ys xs
-in-place-back xs ys h = record { count = sym (h .count); each = λ k l. back k (h .each k (omega (arith, h .count))) (omega (arith, h .count)) }
-  where
-    back : (k : ℕ) → InPlace xs ys k → k < xs .count → InPlace ys xs k
-    back k w l =
-        let f = ys .entry k in
-        let g = xs .entry k in
-        let v = all-three (samePoint (f .p) (g .p)) (samePoint (f .q) (g .q)) (samePoint (f .r) (g .r)) (w .same) in
-        record { number = l; same = rw (swapped (f .p) (g .p) (v .0), swapped (f .q) (g .q) (v .1), swapped (f .r) (g .r) (v .2)) }
 
 -- a search of all triangles
 pub held-all : (ts : List Triangle) (t : Triangle) (n : ℕ) (r : Bool) → Held ts 0 n t r → r ≡ some (λ i. sameTriangle (triangleAt ts i) t) n

@@ -57,8 +57,3 @@ someTriangle ts t = some (λ i. sameTriangle (triangleAt ts i) t) (length ts)
 pub record InPlace (xs ys : Row Face) (k : ℕ) : Type 0 where
   pub number : k < ys .count
   pub same : sameCorners (ys .entry k) (xs .entry k) ≡ true
-
--- and every one, of as many
-pub record AllInPlace (xs ys : Row Face) : Type 0 where
-  pub count : xs .count ≡ ys .count
-  pub each : (k : ℕ) → k < xs .count → InPlace xs ys k

@@ -1,6 +1,6 @@
 // What one of two meshes has and the other has not: whether a point or a triangle by its number is such a difference.
 mod corners;
-pub mod place;
+mod place;
 mod point;
 pub mod side;
 mod window;

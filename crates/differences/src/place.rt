@@ -1,11 +1,11 @@
-// The quickest test: the triangles with the same numbers.
+// The quickest test: the triangle with the same number.
 ghost use mathlib.Core.Path.{_≡_};
 ghost use mathlib.Core.Bool.{true};
 ghost use Prim.Native.Nat.{_/_, _<_};
 ghost use lib.ListN.{length};
 ghost use Rattle.searches.specs.Points.{samePoint};
 ghost use Rattle.differences.specs.Meshes.{Indexed, pointsIn, facesIn};
-ghost use Rattle.differences.specs.Found.{InPlace, AllInPlace};
+ghost use Rattle.differences.specs.Found.{InPlace};
 use searches::point::point_at;
 use searches::point::same_point;
 use searches::triangle::triangle_at;
@@ -38,28 +38,4 @@ pub(crate) fn is_in_place(
     } else {
         false
     }
-}
-
-// Whether both meshes have as many triangles, each with the same corners in the same order as the one with its number.
-pub fn all_in_place(
-    points: &[u32],
-    indices: &[u16],
-    other_points: &[u32],
-    other_indices: &[u16],
-) -> bool
-    requires { ⌜ Indexed (now points) (now indices) ⌝ ∗ ⌜ Indexed (now «other_points») (now «other_indices») ⌝ }
-    ensures { λ z. ⌜ (z ≡ true → AllInPlace (facesIn (now (points .entry)) (now (indices .entry))) (facesIn (now («other_points» .entry)) (now («other_indices» .entry)))) ⌝ }
-{
-    let count = indices.len() / 3;
-    if count != other_indices.len() / 3 {
-        return false;
-    }
-    let mut k = 0;
-    while k < count {
-        if !is_in_place(points, indices, k, other_points, other_indices) {
-            return false;
-        }
-        k += 1;
-    }
-    true
 }

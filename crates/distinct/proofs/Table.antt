@@ -13,7 +13,8 @@ use Rattle.mesh.specs.declared.Point.{Point}
 use Rattle.mesh.specs.Faces.{at}
 use Rattle.searches.specs.Points.{samePoint, repeats}
 use Rattle.searches.proofs.First.{some-none}
-use Rattle.distinct.specs.Marks.{slotOf, Names, Marks, Clear, Marked}
+use Rattle.point_table.specs.Trees.{slotOf}
+use Rattle.distinct.specs.Marks.{Names, Marks, Clear, Marked}
 use Rattle.searches.proofs.Equal.{same-is}
 
 -- a clear mark: no earlier point lies there

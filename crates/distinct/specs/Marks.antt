@@ -1,6 +1,6 @@
 -- A table of marks, one for each slot: which earlier points can lie where a point lies.
 -- Assumes nothing.
-use Prim.Native.Nat.{ℕ, _+_, _*_, _-_, _%_, _<_}
+use Prim.Native.Nat.{ℕ, _+_, _-_, _<_}
 use mathlib.Core.Path.{_≡_}
 use mathlib.Core.Bool.{false}
 use mathlib.Core.List.{List}
@@ -9,10 +9,7 @@ use lib.ListN.{getD}
 use Rattle.mesh.specs.declared.Point.{Point}
 use Rattle.mesh.specs.Faces.{at}
 use Rattle.searches.specs.Points.{samePoint}
-
--- the slot of a point, of n: few points of a tessellated patch have the same one
-unfoldable pub slotOf : ℕ → Point → ℕ
-slotOf n p = (p .u + 65 * p .v + 4225 * p .w) % n
+use Rattle.point_table.specs.Trees.{slotOf}
 
 -- the mark of slot s, of n, after the first j points: every point that has the slot is the one named, or there are several
 pub record Names (ps : List Point) (n j s mark : ℕ) : Type 0 where

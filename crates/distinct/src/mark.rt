@@ -1,21 +1,12 @@
 // A table of marks, one for each slot; every point has a slot. A mark is 0 for no point so far, 65535 for several, and else one more
-// than the number of the only point that has the slot.
+// than the number of the only point that has the slot. The marks need the same room for any number of points.
 ghost use mathlib.Core.Path.{_≡_};
 ghost use mathlib.Core.Bool.{true};
-ghost use Prim.Native.Nat.{_<_};
 ghost use Rattle.drawing.specs.Words.{readPoints};
-ghost use Rattle.distinct.specs.Marks.{slotOf, Clear, Marked};
+ghost use Rattle.distinct.specs.Marks.{Clear, Marked};
 use mesh::Point;
 use searches::point::point_at;
 use searches::point::same_point;
-
-// The slot of a point, of so many.
-pub(crate) fn slot_of(p: Point, slots: usize) -> usize
-    requires { ⌜ 0 < slots ⌝ }
-    ensures { λ r. ⌜ r ≡ slotOf slots p ⌝ ∗ ⌜ r < slots ⌝ }
-{
-    ((p.u as u64 + 65 * (p.v as u64) + 4225 * (p.w as u64)) % (slots as u64)) as usize
-}
 
 // Whether a mark tells that no earlier point lies at p. It may be false where none does.
 pub(crate) fn is_clear(points: &[u32], mark: u16, p: Point) -> bool

@@ -1,15 +1,16 @@
-// The search, with the table where it pays.
+// The search: with a table of points as far as there is room for one, else with marks.
 ghost use mathlib.Core.Path.{_≡_};
-ghost use Prim.Native.Nat.{_/_, _<_};
+ghost use Prim.Native.Nat.{_/_, _≤_, _<_};
 ghost use lib.ListN.{length};
 ghost use Rattle.mesh.specs.Faces.{at};
 ghost use Rattle.drawing.specs.Words.{readPoints};
 ghost use Rattle.searches.specs.Points.{repeats, firstRepeated};
-ghost use Rattle.distinct.specs.Marks.{slotOf, Names};
+ghost use Rattle.point_table.specs.Trees.{slotOf};
+ghost use Rattle.distinct.specs.Marks.{Names};
 use crate::mark::is_clear;
 use crate::mark::mark_after;
-use crate::mark::slot_of;
 use mesh::Point;
+use point_table::slot_of;
 use searches::point::first_equal;
 use searches::point::point_at;
 
@@ -24,8 +25,8 @@ fn repeats_earlier(points: &[u32], j: usize, p: Point, slots: usize, mark: u16) 
     first_equal(points, p, j) < j
 }
 
-// The first point that lies where an earlier one lies, or the number of points, with a table that is lent for it.
-fn by_table(points: &[u32], marks: &mut [u16]) -> usize
+// The first point that lies where an earlier one lies, or the number of points, with marks that are lent for it.
+fn by_marks(points: &[u32], marks: &mut [u16]) -> usize
     requires { ⌜ 0 < length (now marks) ⌝ }
     ensures { λ r. ⌜ r ≡ firstRepeated (readPoints (now (points .entry))) ⌝ }
 {
@@ -45,20 +46,30 @@ fn by_table(points: &[u32], marks: &mut [u16]) -> usize
     j
 }
 
-// With a table for up to 64 points.
-fn by_small_table(points: &[u32]) -> usize
-    ensures { λ r. ⌜ r ≡ firstRepeated (readPoints (now (points .entry))) ⌝ }
-{
-    let mut marks = [0u16; 251];
-    by_table(points, &mut marks)
-}
-
-// With a table for some thousands.
-fn by_large_table(points: &[u32]) -> usize
+// With marks, for any number of points.
+fn by_many_marks(points: &[u32]) -> usize
     ensures { λ r. ⌜ r ≡ firstRepeated (readPoints (now (points .entry))) ⌝ }
 {
     let mut marks = [0u16; 16381];
-    by_table(points, &mut marks)
+    by_marks(points, &mut marks)
+}
+
+// With a table for up to 64 points.
+fn by_small_table(points: &[u32]) -> usize
+    requires { ⌜ length (now points) ≤ 192 ⌝ }
+    ensures { λ r. ⌜ r ≡ firstRepeated (readPoints (now (points .entry))) ⌝ }
+{
+    let mut table = [0u16; 379];
+    point_table::fill(points, &mut table, 251)
+}
+
+// With a table for up to 8192 points.
+fn by_large_table(points: &[u32]) -> usize
+    requires { ⌜ length (now points) ≤ 24576 ⌝ }
+    ensures { λ r. ⌜ r ≡ firstRepeated (readPoints (now (points .entry))) ⌝ }
+{
+    let mut table = [0u16; 32765];
+    point_table::fill(points, &mut table, 16381)
 }
 
 // The same; a table for few points would cost more than it saves.
@@ -71,5 +82,8 @@ pub fn first_repeated(points: &[u32]) -> usize
     if points.len() <= 192 {
         return by_small_table(points);
     }
-    by_large_table(points)
+    if points.len() <= 24576 {
+        return by_large_table(points);
+    }
+    by_many_marks(points)
 }

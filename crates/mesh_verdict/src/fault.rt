@@ -1,32 +1,40 @@
 // The faults of a mesh one after the other, in the order of finding.
 ghost use mathlib.Core.Path.{_≡_};
+ghost use Prim.Native.Nat.{_*_, _/_, _≤_};
 ghost use lib.ListN.{length};
 ghost use Rattle.drawing.specs.Words.{readPoints, readTriangles};
 ghost use Rattle.mesh_faults.specs.Turns.{AllNumbered, AllSmall};
+ghost use Rattle.mesh_faults.specs.Outline.{ClosedTo, DrawnTo};
 ghost use Rattle.mesh_verdict.specs.Faults.{outlineFault, sideFault, pointFault, meshFault};
 use crate::Verdict;
 
-// The faults that single sides and the outline show.
-fn outline_fault(outline: &[u32], points: &[u32], indices: &[u16], positive: bool) -> Verdict
-    requires { ⌜ AllNumbered (length (readPoints (now points))) (now indices) ⌝ }
+// The faults that single sides and the outline show; the first sides are known to be joined, and the first pieces drawn.
+fn outline_fault(
+    outline: &[u32],
+    points: &[u32],
+    indices: &[u16],
+    positive: bool,
+    joined: usize,
+    drawn: usize,
+) -> Verdict
+    requires { ⌜ AllNumbered (length (readPoints (now points))) (now indices) ⌝ ∗ ⌜ joined ≤ length (now indices) / 3 * 3 ⌝ ∗ ⌜ ClosedTo positive (readPoints (now outline)) (readPoints (now points)) (readTriangles (now indices)) joined ⌝ ∗ ⌜ drawn ≤ length (now outline) / 3 ⌝ ∗ ⌜ DrawnTo positive (readPoints (now outline)) (readPoints (now points)) (readTriangles (now indices)) drawn ⌝ }
     ensures { λ r. ⌜ r ≡ outlineFault positive (readPoints (now (outline .entry))) (readPoints (now (points .entry))) (readTriangles (now (indices .entry))) ⌝ }
 {
-    let side = mesh_faults::side::first_open(outline, points, indices, positive);
+    let side = mesh_faults::side::first_open(outline, points, indices, positive, joined);
     if side < indices.len() / 3 * 3 {
         return Verdict::OpenSide {
             triangle: side / 3,
             corner: side % 3,
         };
     }
-    let piece = mesh_faults::outline::first_missing(outline, points, indices, positive);
+    let piece = mesh_faults::outline::first_missing(outline, points, indices, positive, drawn);
     if piece < outline.len() / 3 {
         return Verdict::MissingPiece { piece };
     }
     Verdict::Accepted
 }
 
-// The faults of triangles before those. A mesh without any is known by its table of sides; only another one is searched for its first
-// fault.
+// The faults of triangles before those. How far there are none is known by a table of sides, and each search starts there.
 fn side_fault(outline: &[u32], points: &[u32], indices: &[u16], positive: bool) -> Verdict
     requires { ⌜ AllNumbered (length (readPoints (now points))) (now indices) ⌝ ∗ ⌜ AllSmall (readPoints (now points)) ⌝ }
     ensures { λ r. ⌜ r ≡ sideFault positive (readPoints (now (outline .entry))) (readPoints (now (points .entry))) (readTriangles (now (indices .entry))) ⌝ }
@@ -36,10 +44,8 @@ fn side_fault(outline: &[u32], points: &[u32], indices: &[u16], positive: bool) 
     if triangle < count {
         return Verdict::Turned { triangle };
     }
-    if closed::closing::is_closed(outline, points, indices, positive) {
-        return Verdict::Accepted;
-    }
-    let reused = side_searches::pair::first_reused(indices);
+    let known = closed::closing::reach(outline, points, indices, positive);
+    let reused = side_searches::pair::first_reused(indices, known.once);
     if reused < count {
         let t = searches::triangle::triangle_at(indices, reused);
         return Verdict::SideTwice {
@@ -47,7 +53,14 @@ fn side_fault(outline: &[u32], points: &[u32], indices: &[u16], positive: bool) 
             second: reused,
         };
     }
-    outline_fault(outline, points, indices, positive)
+    outline_fault(
+        outline,
+        points,
+        indices,
+        positive,
+        known.joined,
+        known.drawn,
+    )
 }
 
 // The faults of points before those.

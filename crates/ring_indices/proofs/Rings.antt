@@ -1,7 +1,7 @@
 -- Lines of vertices along an edge of a ring.
 -- Assumes nothing.
 use Prim.Native.Nat.{ℕ, _+_, _≤_, _<_}
-use mathlib.Core.Path.{_≡_, subst}
+use mathlib.Core.Path.{_≡_, sym, ap, _∙_, subst}
 use mathlib.Core.Logic.{⊎-elim}
 use native.Mathlib.Omega.{arith}
 use Rattle.strip.specs.declared.line.Line.{Line}
@@ -9,7 +9,8 @@ use Rattle.strip.specs.Lines.{Follows}
 use Rattle.strip.proofs.Lines.{follows-line}
 use Rattle.cover.specs.Ring.{ringAt}
 use Rattle.cover.specs.Band.{from}
-use Rattle.cover.proofs.Ring.{ring-point}
+use Rattle.cover.proofs.Ring.{ring-point, ring-last}
+use Rattle.strip_blocks.specs.Blocks.{lineOf}
 
 -- along a ring it counts up by one, and its last vertex is the ring's
 pub follows-ring : (base total o n last : ℕ) → o + n ≤ total → base + total < 65536 → last ≡ ringAt base total (o + n)
@@ -21,3 +22,8 @@ follows-ring base total o n last fits small =
 -- the same line, by another name of its start
 pub follows-from : {l : Line} (F : ℕ → ℕ) (a b n : ℕ) → a ≡ b → Follows l (from a F) n → Follows l (from b F) n
 follows-from {l} F a b n e h = subst (λ (k : ℕ). Follows l (from k F) n) e h
+
+-- a line from x on that closes with the ring
+pub line-closed : (base total o n x last : ℕ) → x ≡ base + o → o + n ≡ total → base + total < 65536 → last ≡ base → Follows (lineOf x n last) (from o (ringAt base total)) n
+line-closed base total o n x last e fits small h =
+    rw e (follows-ring base total o n last (omega arith) small (h ∙ sym (ring-last base total) ∙ ap (ringAt base total) (sym fits)))

@@ -5,6 +5,8 @@ ghost use Rattle.buffer.specs.Over.{Wrote};
 ghost use Rattle.strip.specs.Triangles.{indices};
 ghost use Rattle.cover.specs.Ring.{ringAt};
 ghost use Rattle.cover.specs.Band.{band};
+ghost use mathlib.Core.Path.{_≡_};
+ghost use Rattle.strip_blocks.specs.Blocks.{patternOf};
 ghost use Rattle.cover.specs.Nest.{ringEdges, nest, count};
 use crate::ring::Ring;
 use strip::triangle::Triangle;
@@ -34,6 +36,58 @@ fn write_band(
     outer.write_strip(out, w, c0 + c1, c2, inner.line(2 * r, r), positive)
 }
 
+// The same where both rings' edges are long and of one length each, by four pairs at a time. The first two strips leave a triangle after
+// them, over which the next one is written.
+fn write_long_band(
+    out: &mut [u16],
+    at: usize,
+    base: u32,
+    r: u32,
+    pattern: &[u16; 48],
+    positive: bool,
+) -> usize
+    requires { ⌜ now pattern ≡ patternOf positive ⌝ ∗ ⌜ (10 ≤ r) × (r ≤ 62) × (base < 8192) ⌝ ∗ ⌜ at + 3 * (3 * (r + 2) + 3 * r) ≤ length (now out) ⌝ }
+    ensures { λ w. ⌜ Wrote (now (out .entry)) at (indices positive (band (ringAt base (r + 2 + (r + 2) + (r + 2))) (ringEdges (base + (r + 2 + (r + 2) + (r + 2))) r (r + 2) (r + 2) (r + 2)))) (now (out .exit)) w ⌝ }
+{
+    let p = r + 2;
+    let x0 = base as u16;
+    let x1 = (base + p) as u16;
+    let x2 = (base + 2 * p) as u16;
+    let inside = base + 3 * p;
+    let y0 = inside as u16;
+    let y1 = (inside + r) as u16;
+    let y2 = (inside + 2 * r) as u16;
+    let w = strip_blocks::write_open(out, at, x0, y0, r, pattern, positive);
+    let w = strip_blocks::write_open(out, w, x1, y1, r, pattern, positive);
+    strip_blocks::write_long(out, w, x2, y2, x0, y0, r, pattern, positive)
+}
+
+// The same in the way that is quicker.
+fn write_wide_band(
+    out: &mut [u16],
+    at: usize,
+    base: u32,
+    c0: u32,
+    c1: u32,
+    c2: u32,
+    r: u32,
+    pattern: &[u16; 48],
+    positive: bool,
+) -> usize
+    requires { ⌜ now pattern ≡ patternOf positive ⌝ ∗ ⌜ (c0 ≤ 64) × (c1 ≤ 64) × (c2 ≤ 64) × (10 ≤ r) × (r ≤ 62) × (base < 8192) ⌝ ∗ ⌜ at + 3 * (c0 + c1 + c2 + 3 * r) ≤ length (now out) ⌝ }
+    ensures { λ w. ⌜ Wrote (now (out .entry)) at (indices positive (band (ringAt base (c0 + c1 + c2)) (ringEdges (base + (c0 + c1 + c2)) r c0 c1 c2))) (now (out .exit)) w ⌝ }
+{
+    let p = r + 2;
+    if c0 == p {
+        if c1 == p {
+            if c2 == p {
+                return write_long_band(out, at, base, r, pattern, positive);
+            }
+        }
+    }
+    write_band(out, at, base, c0, c1, c2, r, positive)
+}
+
 // Band after band inwards; for odd n the innermost ring is one triangle more.
 pub fn write_nest(
     out: &mut [u16],
@@ -53,6 +107,18 @@ pub fn write_nest(
     let mut b = c1;
     let mut c = c2;
     let mut left = n;
+    if 12 <= n {
+        let pattern = strip_blocks::pattern_of(positive);
+        'long: while 12 <= left {
+            let r = left - 2;
+            to = write_wide_band(out, to, base, a, b, c, r, &pattern, positive);
+            base += a + b + c;
+            a = r;
+            b = r;
+            c = r;
+            left = r;
+        }
+    }
     while 2 <= left {
         let r = left - 2;
         to = write_band(out, to, base, a, b, c, r, positive);

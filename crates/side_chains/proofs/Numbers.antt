@@ -82,7 +82,7 @@ one-of false false false (inl h) = h
 one-of false false false (inr (inl h)) = h
 one-of false false false (inr (inr h)) = h
 
-which-of : (p q r : Bool) → (p || q || r) ≡ true → (p ≡ true) ⊎ ((q ≡ true) ⊎ (r ≡ true))
+pub which-of : (p q r : Bool) → (p || q || r) ≡ true → (p ≡ true) ⊎ ((q ≡ true) ⊎ (r ≡ true))
 which-of true q r h = inl refl
 which-of false true r h = inr (inl refl)
 which-of false false r h = inr (inr h)

@@ -26,7 +26,7 @@ none-step ts n x m false h r k l e = elim (decLe n m) [
   | no p ↦ r k (omega arith) e
 ]
 
-last-none : (ts : List Triangle) (n x m : ℕ) → lastFrom ts n x ≤ m → m < n → sideStart ts m ≡ x → ⊥
+pub last-none : (ts : List Triangle) (n x m : ℕ) → lastFrom ts n x ≤ m → m < n → sideStart ts m ≡ x → ⊥
 unfolding lastFrom
 last-none ts zero x m k l e = omega arith
 last-none ts (suc n) x m k l e = none-step ts n x m (eqb (sideStart ts n) x) refl (last-none ts n x m) k l e
@@ -37,7 +37,7 @@ is-step : (ts : List Triangle) (n x j : ℕ) (b : Bool) → eqb (sideStart ts n)
 is-step ts n x j true h r e = let d : j ≡ n = omega arith in rw d (eqb-true (sideStart ts n) x h)
 is-step ts n x j false h r e = r e
 
-last-is : (ts : List Triangle) (n x j : ℕ) → lastFrom ts n x ≡ suc j → sideStart ts j ≡ x
+pub last-is : (ts : List Triangle) (n x j : ℕ) → lastFrom ts n x ≡ suc j → sideStart ts j ≡ x
 unfolding lastFrom
 last-is ts zero x j e = absurd (omega arith)
 last-is ts (suc n) x j e = is-step ts n x j (eqb (sideStart ts n) x) refl (last-is ts n x j) e
@@ -46,7 +46,7 @@ most-step : (n l : ℕ) (b : Bool) → l ≤ n → cond b (suc n) l ≤ suc n
 most-step n l true h = omega arith
 most-step n l false h = omega arith
 
-last-most : (ts : List Triangle) (n x : ℕ) → lastFrom ts n x ≤ n
+pub last-most : (ts : List Triangle) (n x : ℕ) → lastFrom ts n x ≤ n
 unfolding lastFrom
 last-most ts zero x = omega arith
 last-most ts (suc n) x = most-step n (lastFrom ts n x) (eqb (sideStart ts n) x) (last-most ts n x)
@@ -74,7 +74,7 @@ module _ {ts : List Triangle} {n : ℕ} {heads links : List ℕ} (t : Linked ts 
   pub link-end : (j : ℕ) → j < n → getD links j 0 % 65536 ≡ sideEnd ts j
   link-end j l = let s = t .small j l in let e = t .link j l in omega arith
 
-  link-before : (j : ℕ) → j < n → getD links j 0 / 65536 ≡ lastFrom ts j (sideStart ts j)
+  pub link-before : (j : ℕ) → j < n → getD links j 0 / 65536 ≡ lastFrom ts j (sideStart ts j)
   link-before j l = let s = t .small j l in let e = t .link j l in omega arith
 
   goes-on : (x y j : ℕ) → Walked ts n x y (suc j) → (getD links j 0 % 65536 ≡ y → ⊥) → Walked ts n x y (getD links j 0 / 65536)

@@ -16,7 +16,7 @@ pub fn end_in(link: u32) -> u16
 }
 
 // One more than the side before the one of a link, or 0.
-fn before_in(link: u32) -> usize
+pub fn before_in(link: u32) -> usize
     ensures { λ r. ⌜ r ≡ link / 65536 ⌝ }
 {
     (link / 65536) as usize

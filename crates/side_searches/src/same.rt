@@ -9,7 +9,7 @@ use searches::triangle::triangle_at;
 use strip::triangle::Triangle;
 
 // Whether two triangles have the same corners up to rotation.
-fn same_triangle(s: Triangle, t: Triangle) -> bool
+pub fn same_triangle(s: Triangle, t: Triangle) -> bool
     ensures { λ r. ⌜ r ≡ sameTriangle s t ⌝ }
 {
     (s.a == t.a) & (s.b == t.b) & (s.c == t.c)

@@ -1,6 +1,6 @@
 -- The list of sides that have no reverse.
 -- Assumes nothing.
-use Prim.Native.Nat.{ℕ, _+_, _*_, _<_}
+use Prim.Native.Nat.{ℕ, _+_, _*_, _≤_, _<_}
 use mathlib.Core.Path.{_≡_, sym, _∙_}
 use mathlib.Core.Bool.{true}
 use mathlib.Core.List.{List}
@@ -14,7 +14,7 @@ use Rattle.sides.specs.Opens.{meets, Among, Opens}
 
 -- no side yet
 pub opens-none : (ts : List Triangle) (opens : List ℕ) → Opens ts 0 opens 0
-opens-none ts opens = record { listed = λ l. record { sides = λ k b. absurd (omega arith); each = λ m b. absurd (omega arith) } }
+opens-none ts opens = record { listed = λ l. record { sides = λ k b. absurd (omega arith); each = λ m b. absurd (omega arith); before = λ k b. absurd (omega arith) } }
 
 -- the same number of sides
 pub opens-as : {ts : List Triangle} {n m count : ℕ} {opens : List ℕ} → n ≡ m → Opens ts n opens count → Opens ts m opens count
@@ -26,6 +26,7 @@ opens-met {m = m} o h = record {
   listed = λ l. record {
     sides = o .listed l .sides;
     each = λ i b. elim (decLe m i) [ yes p ↦ (let d : i ≡ m = omega arith in rw d (inl h)) | no p ↦ o .listed l .each i (omega arith) ];
+    before = o .listed l .before;
   };
 }
 
@@ -42,6 +43,18 @@ module _ (ts : List Triangle) (m count : ℕ) (opens : List ℕ) (l : count < le
   old-or-kept (inl h) = inl h
   old-or-kept {i = i} (inr a) = inr (kept i a)
 
+  -- the first k of the list, which it had before
+  early : (k i : ℕ) → k ≤ count → Among opens k i → Among (set opens count m) k i
+  early k i h a = record {
+    place = a .place;
+    within = a .within;
+    is = getD-set-other opens count (a .place) m 0 (λ d. omega (arith, a .within, d)) ∙ a .is;
+  }
+
+  old-or-early : {k i : ℕ} → k ≤ count → (meets ts i ≡ true) ⊎ Among opens k i → (meets ts i ≡ true) ⊎ Among (set opens count m) k i
+  old-or-early h (inl e) = inl e
+  old-or-early {k} {i} h (inr a) = inr (early k i h a)
+
   new : Among (set opens count m) (count + 1) m
   new = record { place = count; within = omega arith; is = getD-set-same opens count m 0 l }
 
@@ -52,6 +65,10 @@ module _ (ts : List Triangle) (m count : ℕ) (opens : List ℕ) (l : count < le
           sides = λ k c. elim (decLe count k) [
             | yes p ↦ (let d : k ≡ count = omega arith in rw (d, getD-set-same opens count m 0 l) b)
             | no p ↦ rw (getD-set-other opens count k m 0 (λ d. p (omega (arith, d)))) (before .sides k (omega arith))
+          ];
+          before = λ k c i j. elim (decLe count k) [
+            | yes p ↦ (let d : k ≡ count = omega arith in rw d (old-or-early (omega arith) (before .each i (rw (d, getD-set-same opens count m 0 l) at j))))
+            | no p ↦ old-or-early (omega arith) (before .before k (omega arith) i (rw (getD-set-other opens count k m 0 (λ d. p (omega (arith, d)))) at j))
           ];
           each = λ i c. elim (decLe m i) [ yes p ↦ (let d : i ≡ m = omega arith in rw d (inr new)) | no p ↦ old-or-kept (before .each i (omega arith)) ];
         };

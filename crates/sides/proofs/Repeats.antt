@@ -6,11 +6,11 @@ use mathlib.Core.Bool.{Bool, true, false, true≢false}
 use mathlib.Core.List.{List}
 use native.Mathlib.Omega.{arith}
 use native.Mathlib.Decide.{decLe}
-use lib.ListN.{length}
 use Rattle.strip.specs.declared.triangle.Triangle.{Triangle}
 use Rattle.searches.specs.First.{some}
-use Rattle.searches.specs.Triangles.{triangleAt, shareSide, reuses, firstReused}
-use Rattle.searches.proofs.First.{some-none, some-all, first-none}
+use Rattle.searches.specs.Triangles.{triangleAt, shareSide}
+use Rattle.side_searches.specs.Skips.{NewTo}
+use Rattle.searches.proofs.First.{some-none, some-all}
 use Rattle.side_chains.specs.Sides.{sideStart, sideEnd, isSide, Once}
 use Rattle.side_chains.proofs.Numbers.{numbered-start, numbered-end, same-ends, share-which}
 
@@ -29,8 +29,8 @@ test-false : (b : Bool) → (b ≡ true → ⊥) → b ≡ false
 test-false true h = absurd (h refl)
 test-false false h = refl
 
-module _ (ts : List Triangle) (o : Once ts (length ts * 3)) where
-  apart : (i j : ℕ) → i < j → j < length ts → shareSide (triangleAt ts i) (triangleAt ts j) ≡ true → ⊥
+module _ (ts : List Triangle) (all : ℕ) (o : Once ts (all * 3)) where
+  apart : (i j : ℕ) → i < j → j < all → shareSide (triangleAt ts i) (triangleAt ts j) ≡ true → ⊥
   apart i j l k h =
       let w = share-which (triangleAt ts i) (triangleAt ts j) h in
       let v = w .side in
@@ -42,7 +42,5 @@ module _ (ts : List Triangle) (o : Once ts (length ts * 3)) where
       let e : sideEnd ts n ≡ sideEnd ts m = numbered-end ts i (w .first) n refl lm ∙ v .end ∙ sym (numbered-end ts j (v .number) m refl lv) in
       true≢false (sym (same-ends (sideStart ts n) (sideEnd ts n) (sideStart ts m) (sideEnd ts m) s e) ∙ o .each m (omega arith) n (omega arith))
 
-  pub once-unused : firstReused ts ≡ length ts
-  unfolding firstReused
-  once-unused = first-none (reuses ts) (length ts)
-      (λ j k. some-none (λ i. shareSide (triangleAt ts i) (triangleAt ts j)) j (λ i l. test-false _ (apart i j l k)))
+  pub once-new : NewTo ts all
+  once-new = record { each = λ j k. some-none (λ i. shareSide (triangleAt ts i) (triangleAt ts j)) j (λ i l. test-false _ (apart i j l k)) }

@@ -24,6 +24,8 @@ pub record Among (opens : List ℕ) (count m : ℕ) : Type 0 where
 pub record Listed (ts : List Triangle) (n : ℕ) (opens : List ℕ) (count : ℕ) : Type 0 where
   pub sides : (k : ℕ) → k < count → getD opens k 0 < length ts * 3
   pub each : (m : ℕ) → m < n → (meets ts m ≡ true) ⊎ Among opens count m
+  -- in their order: each side before number k of the list has its reverse or is among the first k
+  pub before : (k : ℕ) → k < count → (m : ℕ) → m < getD opens k 0 → (meets ts m ≡ true) ⊎ Among opens k m
 
 -- the same, unless there are more than the list has room for
 pub record Opens (ts : List Triangle) (n : ℕ) (opens : List ℕ) (count : ℕ) : Type 0 where

@@ -1,6 +1,6 @@
 -- A table of sides: rows of bits for a small mesh, which leaves the chains alone, and chains for another.
 -- Assumes nothing.
-use Prim.Native.Nat.{ℕ, _≤_, _<_}
+use Prim.Native.Nat.{ℕ, _*_, _≤_, _<_}
 use mathlib.Core.Path.{_≡_}
 use mathlib.Core.Bool.{Bool, true, false}
 use mathlib.Core.List.{List}
@@ -40,3 +40,9 @@ pub record Tabled (small : Bool) (ts : List Triangle) (n : ℕ) (rows heads link
 pub record Filled (small : Bool) (ts : List Triangle) (n : ℕ) (rows heads links : List ℕ) : Type 0 where
   pub table : Tabled small ts n rows heads links
   pub once : Once ts n
+
+-- the sides of the first n triangles are each there once; all of them are in the table, where n is their number
+pub record FilledTo (small : Bool) (ts : List Triangle) (n : ℕ) (rows heads links : List ℕ) : Type 0 where
+  pub most : n ≤ length ts
+  pub once : Once ts (n * 3)
+  pub all : n ≡ length ts → Filled small ts (length ts * 3) rows heads links

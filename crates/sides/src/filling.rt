@@ -5,7 +5,7 @@ ghost use Prim.Native.Nat.{_+_, _*_, _/_, _<_};
 ghost use lib.ListN.{length};
 ghost use Rattle.drawing.specs.Words.{readTriangles};
 ghost use Rattle.mesh_faults.specs.Turns.{AllNumbered};
-ghost use Rattle.sides.specs.Tables.{vertices, SideAt, Room, Cleared, Filled};
+ghost use Rattle.sides.specs.Tables.{vertices, SideAt, Room, Cleared, Filled, FilledTo};
 use crate::table::add_side;
 use crate::table::has_side;
 use searches::triangle::triangle_at;
@@ -54,24 +54,24 @@ fn add_triangle(
     add_new(indices, m + 2, small, rows, heads, links, t.c, t.a)
 }
 
-// Fills the table; whether no side was there twice.
+// Fills the table up to the first triangle that has a side that is there already; that triangle's number, or the number of triangles.
 pub fn fill(
     indices: &[u16],
     small: bool,
     rows: &mut [u64],
     heads: &mut [u16],
     links: &mut [u32],
-) -> bool
+) -> usize
     requires { ⌜ Cleared small (now rows) (now heads) ⌝ ∗ ⌜ AllNumbered (vertices small (now heads)) (now indices) ⌝ ∗ ⌜ Room small (length (now indices)) (now links) ⌝ ∗ ⌜ length (now indices) < 65536 ⌝ }
-    ensures { λ r. ⌜ (r ≡ true → Filled small (readTriangles (now (indices .entry))) (length (readTriangles (now (indices .entry))) * 3) (now (rows .exit)) (now (heads .exit)) (now (links .exit))) ⌝ }
+    ensures { λ r. ⌜ FilledTo small (readTriangles (now (indices .entry))) r (now (rows .exit)) (now (heads .exit)) (now (links .exit)) ⌝ }
 {
     let count = indices.len() / 3;
     let mut k = 0;
     while k < count {
         if !add_triangle(indices, k, small, rows, heads, links) {
-            return false;
+            return k;
         }
         k += 1;
     }
-    true
+    k
 }

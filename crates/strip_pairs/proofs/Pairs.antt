@@ -74,7 +74,7 @@ module _ (A B : ℕ → ℕ) (positive : Bool) where
     last-outer a b u = rw u
 
   -- the strip of an outer line with two segments more than the inner one
-  alternates : (p r : ℕ) → p ≡ r + 2
+  pub alternates : (p r : ℕ) → p ≡ r + 2
       → indices positive (strip A B p r) ≡ pairWords A B positive 0 0 (r / 2) ++ indices positive (stepTriangle A B true (r / 2) (r / 2) ∷ [])
       ++ pairWords A B positive (r / 2 + 1) (r / 2) (r - r / 2) ++ indices positive (stepTriangle A B true (r + 1) r ∷ [])
   alternates p r e =

@@ -17,8 +17,10 @@ pub fn write_strip(out: &mut [u16], at: usize, outer: Line, inner: Line, positiv
     let p = outer.count;
     let r = inner.count;
     if p == r + 2 {
-        alternate::write_alternating(out, at, outer, inner, positive)
-    } else {
-        strip_walk::write_walk(out, at, outer, inner, positive)
+        if positive {
+            return alternate::write_plain(out, at, outer, inner);
+        }
+        return alternate::write_turned(out, at, outer, inner);
     }
+    strip_walk::write_walk(out, at, outer, inner, positive)
 }

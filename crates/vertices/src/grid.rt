@@ -34,7 +34,7 @@ fn raise(row: &mut [u32], n: usize, v: u32)
 }
 
 // A row that stands elsewhere.
-fn copy_row(out: &mut [u32], at: usize, row: &[u32]) -> usize
+pub fn copy_row(out: &mut [u32], at: usize, row: &[u32]) -> usize
     requires { ⌜ at + length (now row) ≤ length (now out) ⌝ }
     ensures { λ w. ⌜ Wrote (now (out .entry)) at (now (row .entry)) (now (out .exit)) w ⌝ }
 {

@@ -56,17 +56,17 @@ write-outline-requires c κs =
     let parts = triangle-parts same (a .inside .now) (s .pre .0 .4) (a .out .now) (a .at) (s .pre .1) in
     ((front-clear (a .e0 .now) (length (a .e0 .now) - 1 - 0) (omega arith) (s .pre .0 .0), front-clear (a .e1 .now) (length (a .e1 .now) - 1 - 0) (omega arith) (s .pre .0 .1), front-clear (a .e2 .now) (length (a .e2 .now) - 1 - 0) (omega arith) (s .pre .0 .2)), first-fits parts)
 
-sub-write-rings : tie.Need-sub-write-rings
-sub-write-rings c = omega arith
+sub-write-inside : tie.Need-sub-write-inside
+sub-write-inside c = omega arith
 
-part-write-rings-start : tie.Need-part-write-rings-start
-part-write-rings-start c = omega arith
+part-write-inside-start : tie.Need-part-write-inside-start
+part-write-inside-start c = omega arith
 
-part-write-rings-end : tie.Need-part-write-rings-end
-part-write-rings-end c = omega arith
+part-write-inside-end : tie.Need-part-write-inside-end
+part-write-inside-end c = omega arith
 
-write-rings-requires : tie.Need-write-rings-requires
-write-rings-requires c κs =
+write-inside-requires : tie.Need-write-inside-requires
+write-inside-requires c κs =
     let s = c .before .before .before .before .before .before .before .before .before .before .before .before .before .before in
     let a = s .args in
     let same = more (front-same (a .e0 .now) (length (a .e0 .now) - 1 - 0) (omega arith)) (more (front-same (a .e1 .now) (length (a .e1 .now) - 1 - 0) (omega arith)) (more (front-same (a .e2 .now) (length (a .e2 .now) - 1 - 0) (omega arith)) none)) in
@@ -82,7 +82,7 @@ returns c =
     let a = s .args in
     let same = more (front-same (a .e0 .now) (length (a .e0 .now) - 1 - 0) (omega arith)) (more (front-same (a .e1 .now) (length (a .e1 .now) - 1 - 0) (omega arith)) (more (front-same (a .e2 .now) (length (a .e2 .now) - 1 - 0) (omega arith)) none)) in
     let parts = triangle-parts same (a .inside .now) (s .pre .0 .4) (a .out .now) (a .at) (s .pre .1) in
-    both-parts parts (c .before .before .before .before .before .before .before .write-outline .ensures) (c .before .before .write-rings .ensures)
+    both-parts parts (c .before .before .before .before .before .before .before .write-outline .ensures) (c .before .before .write-inside .ensures)
 
 pub write-rows-spec : {M : Type 1} → statement M
 write-rows-spec =
@@ -102,9 +102,9 @@ write-rows-spec =
     part-write-outline-start-3
     part-write-outline-end-3
     write-outline-requires
-    sub-write-rings
-    part-write-rings-start
-    part-write-rings-end
-    write-rings-requires
+    sub-write-inside
+    part-write-inside-start
+    part-write-inside-end
+    write-inside-requires
     same-length
     returns)

@@ -1,13 +1,12 @@
 -- Meets its contract: the sides before number k of the list are joined, and their pieces marked. Assumes nothing.
 use native.Mathlib.Omega.{arith}
 use Prim.Native.Nat.{_-_, _≤_}
-use mathlib.Core.Path.{_≡_, refl, sym, _∙_}
-use mathlib.Core.Bool.{true≢false}
+use mathlib.Core.Path.{_≡_, refl, _∙_}
 use lib.ListN.{length}
 use Rattle.drawing.specs.Words.{readPoints, readTriangles}
 use Rattle.searches.proofs.Read.{points-count, triangles-count}
 use Rattle.closed.specs.Closing.{Joins, Marked}
-use Rattle.closed.proofs.Joins.{joins-none, joins-more, joined}
+use Rattle.closed.proofs.Joins.{joins-none, joins-more, joined-all, joined-before}
 use borrow.Author.Needs.{needs}
 use Rattle.closed.proofs.pieces.all_pieces.Statement.{statement}
 use Rattle.closed.proofs.pieces.all_pieces.Tie as tie
@@ -42,7 +41,11 @@ same-length : tie.Need-same-length Inv-loop μ-loop
 same-length c = search needs
 
 returns : tie.Need-returns Inv-loop μ-loop
-returns c = (λ h. absurd (true≢false (sym h)), c .before .before .before .mark-piece .ensures .1)
+returns c =
+    let w = c .before .before .before .before .before .before .before in
+    let l = w .loop in
+    let s = w .before .before .before .before .before .before in
+    ((omega (arith, s .pre .1 .1 .0 .sides (l .k) (omega arith)), joined-before _ _ _ _ _ (s .args .count) (l .k) (omega arith) (s .pre .1 .1 .0) (l .inv .1)), c .before .before .before .mark-piece .ensures .1)
 
 add-near : tie.Need-add-near Inv-loop μ-loop
 add-near c = search needs
@@ -61,6 +64,9 @@ loop-again c =
     let s = w .before .before .before .before .before .before in
     (omega arith, joins-more _ _ _ _ _ (l .k) (l .inv .1) (a .mark-piece .ensures .0 (omega (arith, points-count (s .args .outline .now)))), a .mark-piece .ensures .1, c .before .before .marks .given ∙ l .inv .3)
 
+mul-result : tie.Need-mul-result Inv-loop μ-loop
+mul-result c = search needs
+
 same-length-2 : tie.Need-same-length-2 Inv-loop μ-loop
 same-length-2 c = search needs
 
@@ -69,7 +75,8 @@ returns-2 c =
     let l = c .before .loop in
     let s = c .before .before .before .before .before .before .before in
     let e : l .k ≡ s .args .count = omega arith in
-    (λ h. joined _ _ _ _ _ (s .args .count) (s .pre .1 .1 .0) (rw e at (l .inv .1)), l .inv .2)
+    let n = triangles-count (s .args .indices .now) in
+    ((omega arith, joined-all _ _ _ _ _ (s .args .count) _ (omega arith) (s .pre .1 .1 .0) (rw e at (l .inv .1))), l .inv .2)
 
 pub all-pieces-spec : {M : Type 1} → statement M
 all-pieces-spec =
@@ -88,5 +95,6 @@ all-pieces-spec =
     add-k
     loop-less
     loop-again
+    mul-result
     same-length-2
     returns-2)

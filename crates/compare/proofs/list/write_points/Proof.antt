@@ -16,16 +16,16 @@ use Rattle.compare.proofs.list.write_points.Statement.{statement}
 use Rattle.compare.proofs.list.write_points.Tie as tie
 
 abbrev Inv-loop : tie.InvT-loop
-Inv-loop out₀ at side points others count to₀ k₀ out to k = Counting (λ i. wordsIf 0 side (lacks samePoint (pointsIn points) (pointsIn others) i) i) k count out to out₀ at
+Inv-loop out₀ at side points others known flags count to₀ k₀ out to k = Counting (λ i. wordsIf 0 side (lacks samePoint (pointsIn points) (pointsIn others) i) i) k count out to out₀ at
 
 abbrev μ-loop : tie.MeasureT-loop
-μ-loop out₀ at side points others count to₀ k₀ out to k = count - k
+μ-loop out₀ at side points others known flags count to₀ k₀ out to k = count - k
 
 loop-holds : tie.Need-loop-holds Inv-loop μ-loop
 loop-holds c =
-    let a = c .before .before .before .args in
+    let a = c .before .before .before .before .args in
     let e = passing-words 0 (a .side) (lacks samePoint (pointsIn (a .points .now)) (pointsIn (a .others .now))) _ _ (points-count (a .points .now)) in
-    count-start (omega (arith, ap length e, c .before .before .before .pre .1))
+    count-start (omega (arith, ap length e, c .before .before .before .before .pre .1 .1))
 
 lacks-point-requires : tie.Need-lacks-point-requires Inv-loop μ-loop
 lacks-point-requires c κs = search needs
@@ -42,7 +42,7 @@ loop-less c = search needs
 loop-again : tie.Need-loop-again Inv-loop μ-loop
 loop-again c =
     let l = c .before .before .before .before .before .before .loop in
-    let side = c .before .before .before .before .before .before .before .before .before .before .args .side in
+    let side = c .before .before .before .before .before .before .before .before .before .before .before .args .side in
     count-step (omega arith) (wrote-as (λ (b : Bool). wordsIf 0 side b (l .k)) (sym (c .before .before .before .lacks-point .ensures)) (c .before .before .put-if .ensures)) (l .inv)
 
 same-length : tie.Need-same-length Inv-loop μ-loop
@@ -50,7 +50,7 @@ same-length c = search needs
 
 returns : tie.Need-returns Inv-loop μ-loop
 returns c =
-    let a = c .before .before .before .before .before .args in
+    let a = c .before .before .before .before .before .before .args in
     let e = passing-words 0 (a .side) (lacks samePoint (pointsIn (a .points .now)) (pointsIn (a .others .now))) _ _ (points-count (a .points .now)) in
     rw e (count-done (c .loop-test .left) (c .before .loop .inv))
 

@@ -16,16 +16,10 @@ returns-2 : tie.Need-returns-2
 unfolding checked
 returns-2 c = rw (eq-eqb _ _ (c .before .if1 .left), ne-eqb _ _ (c .if2 .taken))
 
-first-unknown-requires : tie.Need-first-unknown-requires
-first-unknown-requires c κs = search needs
-
 returns-3 : tie.Need-returns-3
 unfolding checked
 returns-3 c =
     rw (eq-eqb _ _ (c .before .before .before .if1 .left), eq-eqb _ _ (c .before .before .if2 .left), points-count (c .before .before .before .before .before .before .args .points .now), test-found (c .before .first-unknown .ensures) refl (c .if3 .taken))
-
-first-repeated-requires : tie.Need-first-repeated-requires
-first-repeated-requires c κs = search needs
 
 returns-4 : tie.Need-returns-4
 unfolding checked
@@ -43,8 +37,8 @@ check-mesh-spec =
     (tie.spec
     returns
     returns-2
-    first-unknown-requires
+    (λ c κs. search needs)
     returns-3
-    first-repeated-requires
+    (λ c κs. search needs)
     returns-4
     returns-5)

@@ -1,43 +1,38 @@
 -- Meets its contract. Assumes nothing.
-use borrow.Author.Needs.{needs}
 use native.Mathlib.Omega.{arith}
-use Rattle.differences.specs.Meshes.{readMesh}
-use Rattle.differences.specs.Differences.{differences}
-use Rattle.compare.proofs.Passing.{words-length}
-use Rattle.compare.proofs.Verdicts.{counted-short, counted-fits, listed-none}
 use mathlib.Core.Path.{refl}
+use Rattle.compare_flags.proofs.Tables.{all-set}
+use Rattle.compare.proofs.Passing.{same-none}
+use Rattle.compare.proofs.Verdicts.{listed-none}
+use borrow.Author.Needs.{needs}
 use Rattle.compare.proofs.tool.list_differences.Statement.{statement}
 use Rattle.compare.proofs.tool.list_differences.Tie as tie
 
-count-differences-requires : tie.Need-count-differences-requires
-count-differences-requires c κs = search needs
-
 returns : tie.Need-returns
-returns c = listed-none _ _ _ (c .before .count-differences .ensures) (c .if1 .taken)
+returns c =
+    let e = c .before .same-mesh .ensures (c .if1 .taken) in
+    listed-none _ _ 0 (same-none _ _ _ _ (e .0) (e .1)) refl
 
-returns-2 : tie.Need-returns-2
-returns-2 c = record { answer = counted-short _ _ _ (c .before .before .count-differences .ensures) (c .if2 .taken); list = refl }
-
-write-differences-requires : tie.Need-write-differences-requires
-write-differences-requires c κs =
-    let a = c .before .before .before .before .before .before .before .before .before .args in
-    let l = readMesh (a .left-points .now) (a .left-indices .now) in
-    let r = readMesh (a .right-points .now) (a .right-indices .now) in
-    (c .before .before .before .before .before .before .before .before .before .pre .0, (c .before .before .before .before .before .before .before .before .before .pre .1, omega (arith, words-length (differences l r), c .before .before .before .count-differences .ensures, c .before .if2 .left)))
-
-same-length : tie.Need-same-length
-same-length c = search needs
-
-returns-3 : tie.Need-returns-3
-returns-3 c = record { answer = counted-fits _ _ _ (c .before .before .before .before .before .before .count-differences .ensures) (c .before .before .before .before .if2 .left); list = c .before .before .write-differences .ensures .is }
+flag-meshes-requires : tie.Need-flag-meshes-requires
+flag-meshes-requires c κs =
+    let p = c .before .before .before .before .before .before .before .before .before .before .before .pre in
+    (p .0, (p .1, (all-set 8192 (omega arith), all-set 8448 (omega arith), all-set 8192 (omega arith), all-set 8448 (omega arith))))
 
 pub list-differences-spec : {M : Type 1} → statement M
 list-differences-spec =
     tie.close
     (tie.spec
-    count-differences-requires
+    (λ c κs. search needs)
     returns
-    returns-2
-    write-differences-requires
-    same-length
-    returns-3)
+    (λ c. search needs)
+    (λ c. search needs)
+    (λ c. search needs)
+    (λ c. search needs)
+    flag-meshes-requires
+    (λ c. search needs)
+    (λ c. search needs)
+    (λ c. search needs)
+    (λ c. search needs)
+    (λ c κs. search needs)
+    (λ c. search needs)
+    (λ c. search needs))

@@ -39,7 +39,10 @@ same-length-3 : tie.Need-same-length-3 Inv-loop μ-loop
 same-length-3 c = search needs
 
 returns : tie.Need-returns Inv-loop μ-loop
-returns c = λ h. absurd (true≢false (sym h))
+returns c =
+    let l = c .before .before .before .before .before .before .before .before .before .before .before .before .loop in
+    let n = triangles-count (c .before .before .before .before .before .before .before .before .before .before .before .before .before .before .before .before .before .args .indices .now) in
+    record { most = omega arith; once = l .inv .1 .once; all = λ e. absurd (omega (arith, e)) }
 
 add-k : tie.Need-add-k Inv-loop μ-loop
 add-k c = search needs
@@ -65,7 +68,8 @@ same-length-6 c = search needs
 returns-2 : tie.Need-returns-2 Inv-loop μ-loop
 returns-2 c =
     let l = c .before .loop in
-    λ h. filled-as (omega (arith, triangles-count (c .before .before .before .before .before .before .args .indices .now))) (l .inv .1)
+    let n = triangles-count (c .before .before .before .before .before .before .args .indices .now) in
+    record { most = omega arith; once = l .inv .1 .once; all = λ e. filled-as (omega arith) (l .inv .1) }
 
 pub fill-spec : {M : Type 1} → statement M
 fill-spec =

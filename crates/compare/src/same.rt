@@ -1,0 +1,50 @@
+// Meshes of the same words.
+ghost use mathlib.Core.Path.{_≡_};
+ghost use mathlib.Core.Bool.{true};
+
+// Whether the words of two lists of points are the same. It reads them all, so that it can read several at once.
+fn same_points(xs: &[u32], ys: &[u32]) -> bool
+    ensures { λ r. ⌜ (r ≡ true → now (xs .entry) ≡ now (ys .entry)) ⌝ }
+{
+    if xs.len() != ys.len() {
+        return false;
+    }
+    let mut same = true;
+    let mut k = 0;
+    while k < xs.len() {
+        same = same & (xs[k] == ys[k]);
+        k += 1;
+    }
+    same
+}
+
+// The same of indices.
+fn same_indices(xs: &[u16], ys: &[u16]) -> bool
+    ensures { λ r. ⌜ (r ≡ true → now (xs .entry) ≡ now (ys .entry)) ⌝ }
+{
+    if xs.len() != ys.len() {
+        return false;
+    }
+    let mut same = true;
+    let mut k = 0;
+    while k < xs.len() {
+        same = same & (xs[k] == ys[k]);
+        k += 1;
+    }
+    same
+}
+
+// Whether two meshes are the same, word by word.
+pub(crate) fn same_mesh(
+    left_points: &[u32],
+    left_indices: &[u16],
+    right_points: &[u32],
+    right_indices: &[u16],
+) -> bool
+    ensures { λ r. ⌜ (r ≡ true → (now («left_points» .entry) ≡ now («right_points» .entry)) × (now («left_indices» .entry) ≡ now («right_indices» .entry))) ⌝ }
+{
+    if !same_points(left_points, right_points) {
+        return false;
+    }
+    same_indices(left_indices, right_indices)
+}

@@ -1,0 +1,2 @@
+-- The laws of partners and flags.
+pub mod Tables

@@ -1,0 +1,2 @@
+-- The definitions of partners and flags.
+pub mod Flags

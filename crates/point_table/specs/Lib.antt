@@ -1,0 +1,2 @@
+-- The definitions of the table of points.
+pub mod Trees

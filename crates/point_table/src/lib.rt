@@ -1,0 +1,76 @@
+// A table of points in trees: `slots` places, one for each slot, then two places for each point. A place holds 0, or one more than the
+// number of a point. A point is looked for at the place of its slot and, as long as another point is there, at one of that point's
+// two places, by the next bit of its coordinates. Points that part at a bit part in the tree, so no search passes more than 96 points,
+// whatever their slots.
+ghost use mathlib.Core.Path.{_≡_};
+ghost use Prim.Native.Nat.{_+_, _*_, _/_, _%_, _≤_, _<_};
+ghost use lib.ListN.{length};
+ghost use Rattle.drawing.specs.Words.{readPoints};
+ghost use Rattle.searches.specs.Points.{firstRepeated};
+ghost use Rattle.point_table.specs.Trees.{slotOf, turned, PointTable, Sought};
+use mesh::Point;
+use searches::point::lies_at;
+use searches::point::point_at;
+
+// The slot of a point, of so many.
+pub fn slot_of(p: Point, slots: usize) -> usize
+    requires { ⌜ 0 < slots ⌝ }
+    ensures { λ r. ⌜ r ≡ slotOf slots p ⌝ ∗ ⌜ r < slots ⌝ }
+{
+    ((p.u as u64 + 65 * (p.v as u64) + 4225 * (p.w as u64)) % (slots as u64)) as usize
+}
+
+// The next bit of coordinates: the last bit of the first one.
+fn next_bit(p: Point) -> usize
+    ensures { λ r. ⌜ (r ≡ p .u % 2) × (r ≤ 1) ⌝ }
+{
+    (p.u % 2) as usize
+}
+
+// What is left of them: the others come first.
+fn turn(p: Point) -> Point
+    ensures { λ r. ⌜ r ≡ turned p ⌝ }
+{
+    Point {
+        u: p.v,
+        v: p.w,
+        w: p.u / 2,
+    }
+}
+
+// The place of a point at p in the table of the first `count` points, or the empty place that it would get.
+pub fn seek(points: &[u32], count: usize, table: &[u16], slots: usize, p: Point) -> usize
+    requires { ⌜ PointTable (readPoints (now points)) slots count (now table) ⌝ ∗ ⌜ count ≤ length (now points) / 3 ⌝ ∗ ⌜ 0 < slots ⌝ }
+    ensures { λ x. ⌜ Sought (readPoints (now (points .entry))) slots count (now (table .entry)) p x ⌝ }
+{
+    let mut x = slot_of(p, slots);
+    let mut rest = p;
+    let mut k = table[x] as usize;
+    while 0 < k {
+        if lies_at(points, k - 1, p) {
+            return x;
+        }
+        x = slots + 2 * (k - 1) + next_bit(rest);
+        rest = turn(rest);
+        k = table[x] as usize;
+    }
+    x
+}
+
+// Puts the points into an empty table, up to the first one that lies where an earlier one lies; the number of that one, or of all points.
+pub fn fill(points: &[u32], table: &mut [u16], slots: usize) -> usize
+    requires { ⌜ PointTable (readPoints (now points)) slots 0 (now table) ⌝ ∗ ⌜ 0 < slots ⌝ ∗ ⌜ slots + 2 * (length (now points) / 3) ≤ length (now table) ⌝ ∗ ⌜ length (now points) / 3 < 65536 ⌝ }
+    ensures { λ r. ⌜ r ≡ firstRepeated (readPoints (now (points .entry))) ⌝ ∗ ⌜ PointTable (readPoints (now (points .entry))) slots r (now (table .exit)) ⌝ }
+{
+    let count = points.len() / 3;
+    let mut j = 0;
+    while j < count {
+        let x = seek(points, j, table, slots, point_at(points, j));
+        if table[x] != 0 {
+            return j;
+        }
+        table[x] = (j + 1) as u16;
+        j += 1;
+    }
+    j
+}

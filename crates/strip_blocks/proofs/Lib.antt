@@ -1,0 +1,2 @@
+-- The laws of pairs four by four, for the crates above.
+pub mod Blocks

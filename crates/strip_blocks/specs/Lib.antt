@@ -1,0 +1,2 @@
+-- The definitions of `strip_blocks`.
+pub mod Blocks

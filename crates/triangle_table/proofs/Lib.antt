@@ -1,0 +1,2 @@
+-- The laws of triangles by their sides in chains.
+pub mod Walks

@@ -1,0 +1,2 @@
+-- The definitions of triangles by their sides in chains.
+pub mod Hits

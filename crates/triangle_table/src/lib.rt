@@ -1,0 +1,82 @@
+// Triangles by the chains of their sides: whether a mesh has a triangle, and whether it has it before a number.
+ghost use mathlib.Core.Path.{_≡_};
+ghost use mathlib.Core.Bool.{true};
+ghost use Prim.Native.Nat.{_*_, _/_, _%_, _≤_, _<_};
+ghost use lib.ListN.{length};
+ghost use Rattle.drawing.specs.Words.{readTriangles};
+ghost use Rattle.searches.specs.Triangles.{triangleAt};
+ghost use Rattle.mesh_faults.specs.Turns.{AllNumbered};
+ghost use Rattle.side_chains.specs.Sides.{sideStart, sideEnd};
+ghost use Rattle.side_chains.specs.Links.{lastFrom, Linked, Zeros};
+ghost use Rattle.triangle_table.specs.Hits.{hits, someFace};
+use searches::triangle::triangle_at;
+use side_chains::chain::add_side;
+use side_chains::chain::before_in;
+use side_chains::chain::end_in;
+use side_chains::number::end_at;
+use side_searches::same::same_triangle;
+use strip::triangle::Triangle;
+
+// Fills the table with all sides, those that are there twice too.
+pub fn fill(indices: &[u16], heads: &mut [u16], links: &mut [u32])
+    requires { ⌜ Zeros (now heads) ⌝ ∗ ⌜ AllNumbered (length (now heads)) (now indices) ⌝ ∗ ⌜ length (now indices) ≤ length (now links) ⌝ ∗ ⌜ length (now indices) < 65536 ⌝ }
+    ensures { λ r. ⌜ Linked (readTriangles (now (indices .entry))) (length (now (indices .entry)) / 3 * 3) (now (heads .exit)) (now (links .exit)) ⌝ }
+{
+    let sides = indices.len() / 3 * 3;
+    let mut m = 0;
+    while m < sides {
+        add_side(indices, m, heads, links, indices[m], end_at(indices, m));
+        m += 1;
+    }
+}
+
+// Whether side number m, with this link, which starts where t starts, goes to t's second corner and its triangle is t, up to rotation.
+fn is_at(indices: &[u16], m: usize, link: u32, t: Triangle) -> bool
+    requires { ⌜ m < length (now indices) / 3 * 3 ⌝ ∗ ⌜ link % 65536 ≡ sideEnd (readTriangles (now indices)) m ⌝ ∗ ⌜ sideStart (readTriangles (now indices)) m ≡ t .a ⌝ }
+    ensures { λ r. ⌜ r ≡ hits (readTriangles (now (indices .entry))) t m ⌝ }
+{
+    if end_in(link) != t.b {
+        return false;
+    }
+    same_triangle(triangle_at(indices, m / 3), t)
+}
+
+// Whether one of the first n triangles is t, up to rotation; `from` is one more than the last of their sides that starts where t does, or 0.
+fn walk(indices: &[u16], heads: &[u16], links: &[u32], n: usize, from: usize, t: Triangle) -> bool
+    requires { ⌜ Linked (readTriangles (now indices)) (length (now indices) / 3 * 3) (now heads) (now links) ⌝ ∗ ⌜ n ≤ length (now indices) / 3 ⌝ ∗ ⌜ from ≡ lastFrom (readTriangles (now indices)) (n * 3) (t .a) ⌝ }
+    ensures { λ r. ⌜ r ≡ someFace (readTriangles (now (indices .entry))) t n ⌝ }
+{
+    let mut k = from;
+    while 0 < k {
+        let link = links[k - 1];
+        if is_at(indices, k - 1, link, t) {
+            return true;
+        }
+        k = before_in(link);
+    }
+    false
+}
+
+// Whether some triangle is t, up to rotation.
+pub fn has_triangle(indices: &[u16], heads: &[u16], links: &[u32], t: Triangle) -> bool
+    requires { ⌜ Linked (readTriangles (now indices)) (length (now indices) / 3 * 3) (now heads) (now links) ⌝ ∗ ⌜ t .a < length (now heads) ⌝ }
+    ensures { λ r. ⌜ r ≡ someFace (readTriangles (now (indices .entry))) t (length (now (indices .entry)) / 3) ⌝ }
+{
+    let x = t.a;
+    walk(
+        indices,
+        heads,
+        links,
+        indices.len() / 3,
+        heads[x as usize] as usize,
+        t,
+    )
+}
+
+// Whether an earlier triangle than number k, which is t, is t up to rotation.
+pub fn has_earlier(indices: &[u16], heads: &[u16], links: &[u32], k: usize, t: Triangle) -> bool
+    requires { ⌜ Linked (readTriangles (now indices)) (length (now indices) / 3 * 3) (now heads) (now links) ⌝ ∗ ⌜ k < length (now indices) / 3 ⌝ ∗ ⌜ t ≡ triangleAt (readTriangles (now indices)) k ⌝ }
+    ensures { λ r. ⌜ r ≡ someFace (readTriangles (now (indices .entry))) t k ⌝ }
+{
+    walk(indices, heads, links, k, before_in(links[k * 3]), t)
+}
