@@ -130,12 +130,12 @@ enum {
  * not proved: tests/stack makes each call on its largest inputs and on those that take other ways through it. */
 enum {
     YOKTVARIM_STACK_MEASURE = 4096,
-    YOKTVARIM_STACK_DRAW = 20480,     /* points, indices */
-    YOKTVARIM_STACK_FLOATS = 16384,   /* drawing with floats */
+    YOKTVARIM_STACK_DRAW = 28672,     /* points, indices */
+    YOKTVARIM_STACK_FLOATS = 28672,   /* drawing with floats */
     YOKTVARIM_STACK_JOB = 4096,       /* writing and reading job files */
     YOKTVARIM_STACK_CHECK = 143360,   /* checking a mesh */
-    YOKTVARIM_STACK_REPLAY = 118784,  /* replaying a recording */
-    YOKTVARIM_STACK_SHARE = 16384,    /* starting, drawing and clearing on shared lists */
+    YOKTVARIM_STACK_REPLAY = 126976,  /* replaying a recording */
+    YOKTVARIM_STACK_SHARE = 28672,    /* starting, drawing and clearing on shared lists */
     YOKTVARIM_STACK_COMPARE = 172032  /* comparing two meshes */
 };
 
