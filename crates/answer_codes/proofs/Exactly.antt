@@ -11,7 +11,7 @@ module _ {A : Type 0} {numberOf : A → ℕ} {wordsOf : A → List ℕ} (back : 
   pub told-back : right ≡ back r w
   told-back = sym same ∙ ap₂ back (sym (told .number)) (sym (told .words))
 
-  -- each answer is right exactly where it means: then the number n is answered exactly where that means which n stands for beside the words
+  -- the number n is answered exactly where the answer that n reports, together with the words in memory, is right
   pub number-exactly : {Means : A → Type 0} → ((a : A) → right ≡ a ↔ Means a) → (n : ℕ) → numberOf (back n w) ≡ n → (r ≡ n) ↔ Means (back n w)
   number-exactly exact n e = (
     λ h. exact (back n w) .0 (told-back ∙ ap (λ (k : ℕ). back k w) h),

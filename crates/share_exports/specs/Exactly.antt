@@ -37,7 +37,7 @@ pub record ClearExactly (d v i : ℕ) (w : List ℕ) (r : ℕ) : Type 0 where
   pub unknown-designer : (r ≡ 15) ↔ ((accepted v i (stateIn w) ≡ true) × (1 < d))
 
 -- ---- drawing
--- what is answered: the designer's number is none, a setting byte is the first out of range, or what the operation answers
+-- what is answered: that the designer's number is neither 0 nor 1, the place of the first setting byte out of range, or the operation's answer
 pub data ShareAnswer : Type 0 where
   no-designer : ShareAnswer
   unknown : ℕ → ShareAnswer
