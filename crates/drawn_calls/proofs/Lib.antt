@@ -2,4 +2,5 @@
 pub mod Edges
 pub mod Words
 pub mod Demand
+pub mod Chapter
 pub mod Accepted

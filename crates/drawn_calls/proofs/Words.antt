@@ -30,13 +30,10 @@ use Rattle.third_demand.proofs.AllPoints.{AllPoints}
 use Rattle.drawn_calls.specs.Written.{CallDrew, CallConnected}
 use Rattle.drawn_calls.specs.Written as written
 
--- a call that says neither 8 nor 11 has settings that are all in range
-pub settings-known : (bs : List ℕ) (t : Told) (n : ℕ) → n ≡ known bs badTop unknownSetting t .number → (n ≡ 8 → ⊥) → (n ≡ 11 → ⊥) → AllBelow choices bs 0
-settings-known bs t n e no-eight no-eleven =
-    known-cases bs badTop unknownSetting t (λ (x : Told). n ≡ x .number → AllBelow choices bs 0) (λ h f. absurd (no-eleven f)) (λ k h g f. absurd (no-eight f)) (λ h a f. a) e
-
+-- a call that answers 0 has settings that are all in range
 zero-known : (bs : List ℕ) (t : Told) → 0 ≡ known bs badTop unknownSetting t .number → AllBelow choices bs 0
-zero-known bs t e = settings-known bs t 0 e (λ h. omega arith) (λ h. omega arith)
+zero-known bs t =
+    known-cases bs badTop unknownSetting t (λ (x : Told). 0 ≡ x .number → AllBelow choices bs 0) (λ h e. absurd (omega (arith, e))) (λ k h f e. absurd (omega (arith, e))) (λ h below e. below)
 
 -- the settings are known and the patch is drawn; ws are the words that it has
 pub record Words (bs : List ℕ) (xs : List Float) (ws right : List ℕ) : Type 0 where

@@ -18,7 +18,7 @@ use Rattle.mesh.proofs.Shape.{same-point}
 use Rattle.mesh.proofs.Lines.{Lines}
 use Rattle.mesh.proofs.QuadPlace.{QuadFits, square}
 
-joined-all : (Q : Triangle → Type 0) (L : ℕ → List Triangle) (n : ℕ) → ((k : ℕ) → k < n → All Q (L k)) → All Q (joined L n)
+pub joined-all : (Q : Triangle → Type 0) (L : ℕ → List Triangle) (n : ℕ) → ((k : ℕ) → k < n → All Q (L k)) → All Q (joined L n)
 unfolding joined
 joined-all Q L zero h = none
 joined-all Q L (suc n) h = all-append _ (joined-all Q L n (λ k l. h k (omega arith))) (h n (omega arith))
