@@ -1,8 +1,7 @@
 //! The end of the sections on triangles and quads: the triangles cover the whole
 //! patch, and no part of it twice.
 
-use crate::drawn::{draw, ensure, expect, triangle_meshes, Checked, Mesh, Point};
-use crate::levels::{settings, SPACINGS};
+use crate::drawn::{ensure, expect, triangle_meshes, with_each_spacing, Checked, Mesh, Point};
 use crate::winding::twice_the_area;
 use reference::random::Random;
 use reference::Patch;
@@ -73,7 +72,7 @@ fn check_no_vertex_inside_a_side(mesh: &Mesh) -> Checked {
     Ok(())
 }
 
-/// Spots lie at thousands of a unit, vertices at whole units.
+/// Spots lie at thousandths of a unit, vertices at whole units.
 const FINE: i64 = 1000;
 
 /// How many triangles hold a spot; none where it lies in line with a side.
@@ -100,13 +99,15 @@ fn spot(mesh: &Mesh, random: &mut Random) -> Point {
     }
 }
 
-/// Random spots are held by one triangle each.
+/// Random spots, in line with no side, are held by one triangle each.
 fn check_spots(mesh: &Mesh, random: &mut Random, count: usize) -> Checked {
     let fine = |point: Point| point.map(|coordinate| coordinate * FINE);
     let triangles: Vec<[Point; 3]> = mesh.triangles().map(|t| t.map(fine)).collect();
     for _ in 0..count {
-        let spot = spot(mesh, random);
-        let holders = holders(&triangles, spot).unwrap_or(1);
+        let (spot, holders) = (0..)
+            .map(|_| spot(mesh, random))
+            .find_map(|spot| Some((spot, holders(&triangles, spot)?)))
+            .unwrap();
         ensure(holders == 1, || {
             format!("{holders} triangles hold {spot:?}")
         })?;
@@ -143,8 +144,10 @@ fn uneven() -> Vec<Mesh> {
         outer: [1.5, 3.0, 6.5, 8.5],
         inner: [4.5, 6.5],
     };
-    let draw = |patch| SPACINGS.map(|spacing| draw(&patch, &settings(spacing, 16)).unwrap());
-    [triangles, quads].into_iter().flat_map(draw).collect()
+    [triangles, quads]
+        .iter()
+        .flat_map(with_each_spacing)
+        .collect()
 }
 
 /// Whether the areas, the sides, and many spots are refused.
@@ -173,31 +176,37 @@ fn the_checks_refuse_a_triangle_left_out_doubled_or_flipped() {
 }
 
 #[test]
-fn the_checks_refuse_a_corner_of_one_triangle_moved() {
+fn the_check_of_sides_refuses_a_corner_of_one_triangle_moved_by_three_units() {
     for good in uneven() {
         for number in 0..good.primitives.len() {
             let mut moved = good.clone();
             moved.primitives[number][1][0] += 3;
-            let refused = [check_areas(&moved), check_sides(&moved)];
-            assert!(refused[1].is_err());
+            assert!(check_sides(&moved).is_err());
         }
     }
+}
+
+/// A triangle with a first side that lies inside the patch and has its middle at
+/// whole units, by its number and from that side on.
+fn with_a_middle(mesh: &Mesh) -> Option<(usize, [Point; 3])> {
+    let middle = |p: Point, q: Point| [0, 1].iter().all(|i| (p[*i] + q[*i]) % 2 == 0);
+    let turned = |[p, q, r]: [Point; 3]| [[p, q, r], [q, r, p], [r, p, q]];
+    let all = mesh.triangles().enumerate();
+    all.flat_map(|(number, t)| turned(t).map(|t| (number, t)))
+        .find(|(_, [p, q, _])| middle(*p, *q) && !on_one_edge(mesh, *p, *q))
 }
 
 #[test]
 fn the_checks_refuse_a_vertex_that_one_of_two_neighbours_leaves_out() {
     for good in uneven() {
-        let inner = |t: &[Point; 3]| !on_one_edge(&good, t[0], t[1]);
-        let number = good.triangles().position(|t| inner(&t)).unwrap();
-        let [p, q, r] = good.triangles().nth(number).unwrap();
+        let (number, [p, q, r]) = with_a_middle(&good).unwrap();
         let middle = [(p[0] + q[0]) / 2, (p[1] + q[1]) / 2];
         let mut split = good.clone();
         split.primitives.remove(number);
         split.primitives.push(vec![p, middle, r]);
         split.primitives.push(vec![middle, q, r]);
-        assert!(check_sides(&split).is_err());
-        let exact = twice_the_area([p, q, middle]) == 0;
-        assert_eq!(check_areas(&split).is_ok(), exact);
-        assert_eq!(check_no_vertex_inside_a_side(&split).is_err(), exact);
+        // The area is covered once all the same.
+        assert_eq!(refused(&split), [false, true, false]);
+        assert!(check_no_vertex_inside_a_side(&split).is_err());
     }
 }

@@ -1,7 +1,26 @@
 //! Random patches, and their drawings by coordinates.
 
 use reference::job::{Record, Version};
-use reference::{random, tessellate, Answer, Patch, Settings};
+use reference::{random, tessellate};
+use reference::{Answer, DomainOrigin, Patch, Settings, Spacing, VertexOrder};
+use std::collections::HashSet;
+
+pub const SPACINGS: [Spacing; 3] = [
+    Spacing::Equal,
+    Spacing::FractionalEven,
+    Spacing::FractionalOdd,
+];
+
+/// Settings for patches made by hand.
+pub fn settings(spacing: Spacing, top: u32) -> Settings {
+    Settings {
+        spacing,
+        vertex_order: VertexOrder::CounterClockwise,
+        domain_origin: DomainOrigin::LowerLeft,
+        point_mode: false,
+        top,
+    }
+}
 
 /// The coordinates u and v, in whole units.
 pub type Point = [i64; 2];
@@ -53,6 +72,11 @@ pub fn draw(patch: &Patch, settings: &Settings) -> Option<Mesh> {
             .map(|primitive| primitive.iter().map(vertex).collect())
             .collect(),
     })
+}
+
+/// The drawings of a patch with each spacing, up to a top of 16.
+pub fn with_each_spacing(patch: &Patch) -> [Mesh; 3] {
+    SPACINGS.map(|spacing| draw(patch, &settings(spacing, 16)).unwrap())
 }
 
 /// Random records with known settings, half of them with tops of their own.
@@ -147,5 +171,35 @@ pub fn ensure(holds: bool, fault: impl Fn() -> String) -> Checked {
         Ok(())
     } else {
         Err(fault())
+    }
+}
+
+#[test]
+fn random_patches_have_all_settings_tops_and_sorts_of_levels() {
+    let records = records(1, 4000);
+    let settings: HashSet<[u8; 5]> = records.iter().map(|record| record.settings).collect();
+    let tops: HashSet<u8> = records.iter().map(|record| record.top).collect();
+    assert_eq!((settings.len(), tops.len()), (72, 32));
+    let levels: Vec<(f32, f32)> = records
+        .iter()
+        .flat_map(|record| {
+            record
+                .levels
+                .map(|bits| (f32::from_bits(bits), record.top.into()))
+        })
+        .collect();
+    let sorts: [fn(f32, f32) -> bool; 8] = [
+        |level, _| level.is_nan(),
+        |level, _| level == f32::INFINITY,
+        |level, _| level == f32::NEG_INFINITY,
+        |level, _| level < 0.0,
+        |level, _| level == 0.0,
+        |level, _| level > 0.0 && level < 1e-30,
+        |level, top| level > top && level.is_finite(),
+        |level, top| level >= 1.0 && level < top && level.next_down().fract() == 0.0,
+    ];
+    for (number, sort) in sorts.iter().enumerate() {
+        let count = levels.iter().filter(|(level, top)| sort(*level, *top));
+        assert!(count.count() > 40, "sort {number}");
     }
 }

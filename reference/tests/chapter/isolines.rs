@@ -1,8 +1,8 @@
 //! "Isoline Tessellation": lines across the patch by the first outer level, each
 //! divided by the second.
 
-use crate::drawn::{draw, ensure, expect, meshes, Checked, Mesh, Point};
-use crate::levels::{clamped, divided_edge, rounded_up, segments, settings, SPACINGS};
+use crate::drawn::{ensure, expect, meshes, settings, with_each_spacing, Checked, Mesh, Point};
+use crate::levels::{clamped, divided_edge, rounded_up, segments};
 use reference::{Patch, Spacing};
 
 /// The coordinates v of the lines: an edge of equal spacing, whatever the spacing
@@ -80,8 +80,7 @@ fn isolines_are_equally_spaced_without_one_at_the_end_and_divided_by_the_second_
 }
 
 fn drawn_with(outer: [f32; 2]) -> [Mesh; 3] {
-    let patch = Patch::Isolines { outer };
-    SPACINGS.map(|spacing| draw(&patch, &settings(spacing, 16)).unwrap())
+    with_each_spacing(&Patch::Isolines { outer })
 }
 
 #[test]
@@ -109,31 +108,30 @@ fn the_check_refuses_a_line_at_the_end_a_line_left_out_and_a_doubled_segment() {
 }
 
 #[test]
-fn the_check_refuses_lines_by_the_other_level_and_by_the_spacing_asked_for() {
-    for [first, second] in [[2.5, 5.5], [5.5, 2.5]] {
-        for mut mesh in drawn_with([first, second]) {
-            mesh.patch = Patch::Isolines {
-                outer: [second, first],
-            };
-            assert!(check(&mesh).is_err());
-        }
-    }
-    // Three lines by equal spacing, not four or five.
-    let [equal, even, odd] = drawn_with([2.25, 1.0]);
-    for mesh in [equal, even, odd] {
+fn every_spacing_has_the_lines_of_equal_spacing() {
+    for mesh in drawn_with([2.25, 1.0]) {
         expect(&mesh, check(&mesh));
-        let mut vs: Vec<i64> = mesh.vertices().iter().map(|[_, v]| *v).collect();
-        vs.dedup();
-        assert_eq!(vs[..3], heights(3.0, 16));
+        let at_the_start = |[u, v]: &Point| (*u == 0).then_some(*v);
+        let vs: Vec<i64> = mesh.vertices().iter().filter_map(at_the_start).collect();
+        assert_eq!(vs.len(), 3);
     }
-    for (drawn, asked) in [(4.0, 3.0), (3.0, 4.0)] {
-        for mut mesh in drawn_with([drawn, 5.0]) {
-            mesh.patch = Patch::Isolines {
-                outer: [asked, 5.0],
-            };
-            assert!(check(&mesh).is_err());
-        }
-    }
+}
+
+/// Whether the mesh of a patch with levels `drawn` is refused for one with `asked`.
+fn refused_for(drawn: [f32; 2], asked: [f32; 2]) -> [bool; 3] {
+    drawn_with(drawn).map(|mut mesh| {
+        mesh.patch = Patch::Isolines { outer: asked };
+        check(&mesh).is_err()
+    })
+}
+
+#[test]
+fn the_check_refuses_lines_by_the_other_level_and_other_numbers_of_lines() {
+    assert_eq!(refused_for([2.5, 5.5], [5.5, 2.5]), [true; 3]);
+    assert_eq!(refused_for([5.5, 2.5], [2.5, 5.5]), [true; 3]);
+    // What fractional spacing would round 2.25 up to.
+    assert_eq!(refused_for([4.0, 5.0], [2.25, 5.0]), [true; 3]);
+    assert_eq!(refused_for([3.0, 5.0], [2.25, 5.0]), [false; 3]);
 }
 
 #[test]

@@ -1,16 +1,14 @@
 //! "Tessellator Spacing", the number of segments: a level is clamped, then rounded
 //! up to a whole, even or odd number.
 
-use crate::drawn::unit;
+use crate::drawn::{draw, settings, unit, SPACINGS};
 use crate::outer_edges::edge;
 use reference::random::Random;
-use reference::{DomainOrigin, Patch, Settings, Spacing, VertexOrder};
+use reference::{Patch, Settings, Spacing};
 
-pub const SPACINGS: [Spacing; 3] = [
-    Spacing::Equal,
-    Spacing::FractionalEven,
-    Spacing::FractionalOdd,
-];
+/// What an inner level of one is taken for beside levels above one: a level a little
+/// above one. How little is left open; here it is the next f32.
+pub const ABOVE_ONE: f32 = 1.0f32.next_up();
 
 /// The level f after the clamp; a NaN, for which the clamp is left open, stays.
 pub fn clamped(level: f32, spacing: Spacing, top: u32) -> f32 {
@@ -38,16 +36,6 @@ pub fn segments(level: f32, settings: &Settings) -> usize {
     rounded_up(f, settings.spacing)
 }
 
-pub fn settings(spacing: Spacing, top: u32) -> Settings {
-    Settings {
-        spacing,
-        vertex_order: VertexOrder::CounterClockwise,
-        domain_origin: DomainOrigin::LowerLeft,
-        point_mode: false,
-        top,
-    }
-}
-
 /// Levels above zero: whole numbers and halves with the f32 next to them on either
 /// side, the smallest and greatest there are, infinity, and random ones.
 fn levels_above_zero(random: &mut Random) -> Vec<f32> {
@@ -62,7 +50,8 @@ fn levels_above_zero(random: &mut Random) -> Vec<f32> {
     levels
 }
 
-/// The third edge of a triangle, the fourth of a quad and a line of isolines.
+/// A patch of each kind with an edge divided by a level, and the number of the edge:
+/// the third of a triangle, the fourth of a quad, the lowest line of isolines.
 fn patches_divided_by(level: f32) -> [(Patch, usize); 3] {
     let triangles = Patch::Triangles {
         outer: [1.0, 1.0, level],
@@ -78,10 +67,11 @@ fn patches_divided_by(level: f32) -> [(Patch, usize); 3] {
     [(triangles, 2), (quads, 3), (isolines, 1)]
 }
 
-/// The positions along the edge that a level divides, each kind in turn.
+/// The positions along an edge that a level divides, and its length, for triangles
+/// (kind 0), quads (1) or isolines (2).
 pub fn divided_edge(kind: usize, level: f32, settings: &Settings) -> (Vec<i64>, i64) {
     let (patch, number) = patches_divided_by(level)[kind];
-    let mesh = crate::drawn::draw(&patch, settings).unwrap();
+    let mesh = draw(&patch, settings).unwrap();
     (edge(&mesh, number), unit(&patch))
 }
 

@@ -7,7 +7,9 @@
 //!
 //! Left open by the chapter, and not looked at: the order of points, of primitives
 //! and of the vertices in a line; the third coordinate of quads and isolines; the
-//! clamp of a NaN as inner level.
+//! clamp of a NaN as inner level. Where an inner level is at most one, fractional odd
+//! spacing may also put inner vertices on an outer edge; these drawings never do, and
+//! the checks rely on it to find vertices by coordinates.
 
 mod coordinates;
 mod cover;

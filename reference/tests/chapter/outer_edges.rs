@@ -1,9 +1,9 @@
 //! Points along the outer edges: which level divides which edge, and that the level
 //! alone decides where the points are.
 
-use crate::drawn::{draw, ensure, expect, meshes, Checked, Mesh, Point};
-use crate::levels::{clamped, rounded_up, settings, SPACINGS};
-use reference::{Patch, Spacing};
+use crate::drawn::{ensure, expect, meshes, with_each_spacing, Checked, Mesh, Point};
+use crate::levels::{clamped, rounded_up};
+use reference::Patch;
 use std::collections::HashMap;
 
 /// Where a point lies along edge `number`, if it lies on it. The edges are u = 0,
@@ -75,19 +75,17 @@ fn each_outer_edge_is_divided_by_its_own_level_alone() {
     assert!(seen.len() > 1000);
 }
 
-/// A mesh with another level on every edge.
-fn uneven(spacing: Spacing) -> Mesh {
-    let patch = Patch::Quads {
+/// Meshes with another level on every edge.
+fn uneven() -> [Mesh; 3] {
+    with_each_spacing(&Patch::Quads {
         outer: [2.5, 3.5, 6.5, 7.5],
         inner: [4.5, 5.5],
-    };
-    draw(&patch, &settings(spacing, 16)).unwrap()
+    })
 }
 
 #[test]
 fn the_check_refuses_edges_divided_by_a_neighbours_level() {
-    for spacing in SPACINGS {
-        let good = uneven(spacing);
+    for good in uneven() {
         let mut seen = HashMap::new();
         expect(&good, check(&good, &mut seen));
         for (a, b) in [(0, 1), (0, 2), (1, 2), (2, 3), (0, 3)] {
@@ -103,8 +101,7 @@ fn the_check_refuses_edges_divided_by_a_neighbours_level() {
 
 #[test]
 fn the_check_refuses_an_edge_unlike_another_of_its_level() {
-    for spacing in SPACINGS {
-        let good = uneven(spacing);
+    for good in uneven() {
         let mut seen = HashMap::new();
         expect(&good, check(&good, &mut seen));
         let position = edge(&good, 3)[2];

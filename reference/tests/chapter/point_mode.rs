@@ -3,9 +3,7 @@
 use crate::drawn::{draw, ensure, expect, records, without_point_mode, Checked, Mesh, Point};
 use reference::Settings;
 
-/// Points that are the vertices of `primitives`, each once. (Where inner vertices lie
-/// on an outer edge the chapter counts them apart; this program draws none there, so
-/// that coordinates tell vertices apart.)
+/// Points that are the vertices of `primitives`, each once.
 fn check(points: &Mesh, primitives: &Mesh) -> Checked {
     let mut drawn: Vec<Point> = points.primitives.concat();
     drawn.sort_unstable();

@@ -1,9 +1,11 @@
 //! "Quad Tessellation": a grid by the inner levels, and outer edges by their own
 //! levels.
 
-use crate::drawn::{draw, ensure, expect, triangle_meshes, Checked, Mesh, Point};
+use crate::drawn::{
+    draw, ensure, expect, triangle_meshes, with_each_spacing, Checked, Mesh, Point,
+};
 use crate::fill::{ClosedLine, Places};
-use crate::levels::{clamped, segments, settings, SPACINGS};
+use crate::levels::{clamped, segments, ABOVE_ONE};
 use crate::outer_edges::edge;
 use reference::{Patch, Settings};
 use std::collections::HashMap;
@@ -147,13 +149,7 @@ fn check(mesh: &Mesh) -> Checked {
     if outer.iter().chain(&inner).all(is_one) {
         return check_single(mesh);
     }
-    let widened = inner.map(|level| {
-        if is_one(&level) {
-            1.0f32.next_up()
-        } else {
-            level
-        }
-    });
+    let widened = inner.map(|level| if is_one(&level) { ABOVE_ONE } else { level });
     check_grid(mesh, &Grid::of(widened, &mesh.settings))
 }
 
@@ -174,10 +170,8 @@ fn quads_are_a_grid_of_pairs_with_a_border_joined_side_to_facing_side() {
     assert!(count > 2000, "{count}");
 }
 
-/// The mesh of a patch with each spacing.
 fn drawn_with(outer: [f32; 4], inner: [f32; 2]) -> [Mesh; 3] {
-    let patch = Patch::Quads { outer, inner };
-    SPACINGS.map(|spacing| draw(&patch, &settings(spacing, 16)).unwrap())
+    with_each_spacing(&Patch::Quads { outer, inner })
 }
 
 /// Meshes with other levels on every edge and in both directions.
@@ -221,16 +215,24 @@ fn the_check_refuses_an_inner_vertex_moved_by_three_units() {
     }
 }
 
+/// The sides of all rectangles between inner grid lines.
+fn grid_sides(Grid { us, vs }: &Grid) -> Vec<[Point; 2]> {
+    let mut sides = Vec::new();
+    for u in us {
+        sides.extend(vs.windows(2).map(|two| [[*u, two[0]], [*u, two[1]]]));
+    }
+    for v in vs {
+        sides.extend(us.windows(2).map(|two| [[two[0], *v], [two[1], *v]]));
+    }
+    sides
+}
+
 #[test]
 fn the_check_refuses_triangles_across_a_grid_line() {
     for good in uneven() {
-        let Grid { us, vs } = grid(&good);
-        for (i, u) in us.iter().enumerate() {
-            for two in vs.windows(2) {
-                let [p, q] = [[*u, two[0]], [*u, two[1]]];
-                let flipped = good.with_side_flipped(p, q);
-                assert!(check(&flipped.unwrap()).is_err(), "{i}");
-            }
+        for [p, q] in grid_sides(&grid(&good)) {
+            let flipped = good.with_side_flipped(p, q);
+            assert!(check(&flipped.unwrap()).is_err());
         }
     }
 }

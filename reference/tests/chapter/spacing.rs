@@ -5,8 +5,8 @@
 //! equal segments of n to an edge are so up to rounding only. The least bound that
 //! holds is one unit where n is even and two units where n is odd: `ROUNDING`.
 
-use crate::drawn::{ensure, expect, meshes, Checked};
-use crate::levels::{clamped, divided_edge, rounded_up, settings, SPACINGS};
+use crate::drawn::{ensure, expect, meshes, settings, Checked, SPACINGS};
+use crate::levels::{clamped, divided_edge, rounded_up};
 use crate::outer_edges::{edge, edges_and_levels};
 use reference::random::Random;
 use reference::Spacing;
@@ -42,7 +42,8 @@ fn check_equal(positions: &[i64], unit: i64) -> Checked {
 }
 
 /// Whether segment `i` and its mirror image can be the two additional ones: both
-/// exactly alike and in mirrored places, the others all alike, and longer.
+/// exactly alike and in mirrored places, the others all alike, and none of them
+/// shorter.
 fn is_additional(positions: &[i64], unit: i64, i: usize) -> bool {
     let n = positions.len() - 1;
     let rounding = ROUNDING[n % 2] * (unit / 65_536);
@@ -163,6 +164,18 @@ fn a_level_that_needs_no_rounding_divides_like_equal_spacing() {
                 assert_eq!(fractional, equal, "{n}");
             }
         }
+    }
+}
+
+#[test]
+fn the_bounds_on_rounding_are_reached() {
+    let spread_of = |n: usize| {
+        let (positions, _) = divided_edge(1, n as f32, &settings(Spacing::Equal, 64));
+        spread(&lengths(&positions))
+    };
+    for (parity, bound) in ROUNDING.into_iter().enumerate() {
+        let spreads = (1..=64).filter(|n| n % 2 == parity).map(spread_of);
+        assert_eq!(spreads.max(), Some(bound));
     }
 }
 

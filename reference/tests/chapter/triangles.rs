@@ -1,16 +1,13 @@
 //! "Triangle Tessellation": concentric triangles by the inner level, and outer edges
 //! by their own levels.
 
-use crate::drawn::{draw, ensure, expect, triangle_meshes, Checked, Mesh, Point};
+use crate::drawn::{
+    draw, ensure, expect, triangle_meshes, with_each_spacing, Checked, Mesh, Point,
+};
 use crate::fill::{ClosedLine, Places};
-use crate::levels::{clamped, segments, settings, SPACINGS};
+use crate::levels::{clamped, segments, ABOVE_ONE};
 use crate::outer_edges::edge;
 use reference::{Patch, Settings};
-
-/// The corners of the patch: w, u and v are 1 in turn.
-fn patch_corners(unit: i64) -> [Point; 3] {
-    [[0, 0], [unit, 0], [0, unit]]
-}
 
 /// A point by the distances h from side `side`, and p and q from the two after it,
 /// in the order u = 0, v = 0, w = 0.
@@ -50,13 +47,9 @@ fn height(position: i64) -> Result<i64, String> {
 fn inner_side(temporary: &[i64], side: usize, first: usize) -> Result<Vec<Point>, String> {
     let n = temporary.len() - 1;
     let height = height(temporary[first])?;
-    let point = |p: i64| {
-        by_distances(
-            side,
-            [height, p - height / 2, temporary[n] - p - height / 2],
-        )
-    };
-    Ok((first..=n - first).map(|i| point(temporary[i])).collect())
+    let distances = |p: i64| [height, p - height / 2, temporary[n] - p - height / 2];
+    let points = temporary[first..=n - first].iter();
+    Ok(points.map(|p| by_distances(side, distances(*p))).collect())
 }
 
 /// The inner triangles from the outermost one inwards, each with two segments fewer
@@ -69,13 +62,12 @@ fn inner_lines(temporary: &[i64]) -> Result<Vec<ClosedLine>, String> {
     ensure(mirrored, || {
         "an edge that is not its mirror image".to_string()
     })?;
-    (1..=n / 2)
-        .map(|first| {
-            (0..3)
-                .map(|side| inner_side(temporary, side, first))
-                .collect()
-        })
-        .collect()
+    let line = |first: usize| {
+        (0..3)
+            .map(|side| inner_side(temporary, side, first))
+            .collect()
+    };
+    (1..=n / 2).map(line).collect()
 }
 
 /// Where an inner level divides an outer edge, as seen on a patch with it outside.
@@ -90,12 +82,32 @@ fn temporary_edge(inner: f32, settings: &Settings) -> Vec<i64> {
 
 /// Everything one, and so a single triangle.
 fn check_single(mesh: &Mesh) -> Checked {
-    let mut corners = patch_corners(mesh.unit());
-    corners.sort_unstable();
-    ensure(
-        mesh.primitives.len() == 1 && mesh.vertices() == corners,
-        || "not the single triangle".to_string(),
-    )
+    let unit = mesh.unit();
+    let corners = [[0, 0], [0, unit], [unit, 0]];
+    let single = mesh.primitives.len() == 1 && mesh.vertices() == corners;
+    ensure(single, || "not the single triangle".to_string())
+}
+
+/// The innermost closed line is a triangle drawn as it is, or a point joined to every
+/// vertex of the line around it.
+fn check_innermost(mesh: &Mesh, innermost: &ClosedLine, around: &ClosedLine) -> Checked {
+    let (count, expected) = if innermost[0].len() == 1 {
+        let middle = innermost[0][0];
+        let count = mesh.triangles().filter(|t| t.contains(&middle)).count();
+        (count, around.iter().map(|side| side.len() - 1).sum())
+    } else {
+        let count = mesh.triangles().filter(|t| is_inside(innermost, t)).count();
+        (count, 1)
+    };
+    ensure(count == expected, || {
+        format!("{count} triangles in the middle instead of {expected}")
+    })
+}
+
+/// Whether a triangle has all vertices on the innermost closed line.
+fn is_inside(innermost: &ClosedLine, triangle: &[Point; 3]) -> bool {
+    let points = innermost.concat();
+    triangle.iter().all(|point| points.contains(point))
 }
 
 /// Concentric triangles with the outer edges around them, and every triangle either
@@ -107,22 +119,14 @@ fn check_lines(mesh: &Mesh, inner: f32) -> Checked {
     ensure(mesh.vertices() == places.points(), || {
         "other vertices than those of the concentric triangles".to_string()
     })?;
-    let innermost: Vec<Point> = lines.pop().unwrap().concat();
-    let (mut inside, mut fan) = (0, 0);
+    let [.., around, innermost] = &lines[..] else {
+        unreachable!()
+    };
     for triangle in mesh.triangles() {
-        let is_inside = innermost.len() == 6 && triangle.iter().all(|p| innermost.contains(p));
-        inside += usize::from(is_inside);
-        fan += usize::from(triangle.contains(&innermost[0]));
-        ensure(is_inside || places.joined_by(triangle), || {
-            format!("{triangle:?} joins no facing sides")
-        })?;
+        let good = places.joined_by(triangle) || is_inside(innermost, &triangle);
+        ensure(good, || format!("{triangle:?} joins no facing sides"))?;
     }
-    // Three sides of two points each, or three times the point in the middle.
-    let point = innermost.len() == 3;
-    let around: usize = lines.pop().unwrap().iter().map(|side| side.len() - 1).sum();
-    ensure(if point { fan == around } else { inside == 1 }, || {
-        format!("{inside} innermost triangles, {fan} around the middle")
-    })
+    check_innermost(mesh, innermost, around)
 }
 
 fn check(mesh: &Mesh) -> Checked {
@@ -132,7 +136,7 @@ fn check(mesh: &Mesh) -> Checked {
     let n = |level: f32| segments(level, &mesh.settings);
     match (n(inner), outer.iter().all(|level| n(*level) == 1)) {
         (1, true) => check_single(mesh),
-        (1, false) => check_lines(mesh, 1.0f32.next_up()),
+        (1, false) => check_lines(mesh, ABOVE_ONE),
         _ => check_lines(mesh, inner),
     }
 }
@@ -153,15 +157,13 @@ fn triangles_are_concentric_and_joined_side_to_facing_side() {
     assert!(count > 2000, "{count}");
 }
 
-/// The mesh of a patch with each spacing.
-fn uneven(outer: [f32; 3], inner: f32) -> [Mesh; 3] {
-    let patch = Patch::Triangles { outer, inner };
-    SPACINGS.map(|spacing| draw(&patch, &settings(spacing, 16)).unwrap())
+fn drawn_with(outer: [f32; 3], inner: f32) -> [Mesh; 3] {
+    with_each_spacing(&Patch::Triangles { outer, inner })
 }
 
 #[test]
 fn the_check_refuses_an_inner_vertex_moved_by_three_units() {
-    for good in uneven([1.5, 3.0, 6.5], 4.5) {
+    for good in drawn_with([1.5, 3.0, 6.5], 4.5) {
         expect(&good, check(&good));
         for [u, v] in good.vertices() {
             if u > 0 && v > 0 && u + v < good.unit() {
@@ -175,7 +177,7 @@ fn the_check_refuses_an_inner_vertex_moved_by_three_units() {
 
 #[test]
 fn the_check_refuses_triangles_across_a_concentric_one() {
-    for good in uneven([1.5, 3.0, 6.5], 4.5) {
+    for good in drawn_with([1.5, 3.0, 6.5], 4.5) {
         let lines = inner_lines(&temporary_edge(4.5, &good.settings)).unwrap();
         for side in lines.iter().flatten() {
             for two in side.windows(2) {
@@ -191,9 +193,10 @@ fn the_check_refuses_triangles_across_a_concentric_one() {
 fn the_check_refuses_the_mesh_of_another_inner_level() {
     for (level, other) in [(4.5, 5.25), (5.25, 4.5), (1.0, 4.5), (2.5, 7.0)] {
         let outer = [2.0, 1.0, 1.0];
-        for (mut mesh, wrong) in uneven(outer, level).into_iter().zip(uneven(outer, other)) {
+        for mut mesh in drawn_with(outer, level) {
             expect(&mesh, check(&mesh));
-            mesh.patch = wrong.patch;
+            let inner = other;
+            mesh.patch = Patch::Triangles { outer, inner };
             assert!(check(&mesh).is_err(), "{level} {other}");
         }
     }
@@ -201,8 +204,8 @@ fn the_check_refuses_the_mesh_of_another_inner_level() {
 
 #[test]
 fn the_check_refuses_more_than_the_single_triangle_and_less_than_a_fan() {
-    let [one, _, odd] = uneven([1.0; 3], 1.0);
-    let [fan, _, three] = uneven([1.0, 1.0, 1.5], 1.0);
+    let [one, _, odd] = drawn_with([1.0; 3], 1.0);
+    let [fan, _, three] = drawn_with([1.0, 1.0, 1.5], 1.0);
     assert_eq!(one.primitives.len(), 1);
     assert_eq!(odd.primitives, one.primitives);
     for mesh in [&one, &odd, &fan, &three] {
