@@ -75,7 +75,7 @@ fn check_no_vertex_inside_a_side(mesh: &Mesh) -> Checked {
 /// Spots lie at thousandths of a unit, vertices at whole units.
 const FINE: i64 = 1000;
 
-/// How many triangles hold a spot; none where it lies in line with a side.
+/// How many triangles hold a spot; `None` where it lies in line with a side.
 fn holders(triangles: &[[Point; 3]], spot: Point) -> Option<usize> {
     let mut holders = 0;
     for triangle in triangles {
@@ -104,10 +104,10 @@ fn check_spots(mesh: &Mesh, random: &mut Random, count: usize) -> Checked {
     let fine = |point: Point| point.map(|coordinate| coordinate * FINE);
     let triangles: Vec<[Point; 3]> = mesh.triangles().map(|t| t.map(fine)).collect();
     for _ in 0..count {
-        let (spot, holders) = (0..)
+        let (spot, holders) = (0..100)
             .map(|_| spot(mesh, random))
             .find_map(|spot| Some((spot, holders(&triangles, spot)?)))
-            .unwrap();
+            .ok_or("spots all in line with sides")?;
         ensure(holders == 1, || {
             format!("{holders} triangles hold {spot:?}")
         })?;

@@ -53,7 +53,7 @@ fn corners(patch: &Patch, settings: &Settings) -> usize {
     }
 }
 
-/// The drawing of a patch; nothing for a discarded one.
+/// The drawing of a patch; `None` for a discarded one.
 pub fn draw(patch: &Patch, settings: &Settings) -> Option<Mesh> {
     let Answer::Drawn { points, indices } = tessellate(patch, settings) else {
         return None;
@@ -147,7 +147,7 @@ impl Mesh {
     }
 
     /// Joins the two other vertices of the triangles at the side from p to q in its
-    /// place; none where there are not two such triangles.
+    /// place; `None` where there are not two such triangles.
     pub fn with_side_flipped(&self, p: Point, q: Point) -> Option<Mesh> {
         let (left, r) = self.triangle_at(p, q)?;
         let (right, s) = self.triangle_at(q, p)?;

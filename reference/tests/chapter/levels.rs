@@ -27,7 +27,7 @@ pub fn rounded_up(f: f32, spacing: Spacing) -> usize {
         Spacing::FractionalEven => n.is_multiple_of(2),
         Spacing::FractionalOdd => !n.is_multiple_of(2),
     };
-    (1..).filter(fits).find(|n| *n as f32 >= f).unwrap()
+    (1..100).filter(fits).find(|n| *n as f32 >= f).unwrap()
 }
 
 /// The number of segments of a level that is not a NaN.

@@ -10,7 +10,7 @@ pub fn twice_the_area([p, q, r]: [Point; 3]) -> i64 {
     turn(p, q) + turn(q, r) + turn(r, p)
 }
 
-/// The order of a triangle's vertices; none where they lie on one line.
+/// The order of a triangle's vertices; `None` where they lie on one line.
 fn order(triangle: [Point; 3], origin: DomainOrigin) -> Option<VertexOrder> {
     let a = twice_the_area(triangle);
     let counter_clockwise = match origin {
