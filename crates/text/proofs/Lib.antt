@@ -1,4 +1,4 @@
--- Laws of text that callers may cite.
+-- Laws of text for other crates.
 pub mod Digits
 pub mod Writes
 pub mod Lines
