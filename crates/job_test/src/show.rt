@@ -1,4 +1,4 @@
-// Answers in words.
+// Writes answers as text.
 use job::header::Header;
 use job::next::NextRecord;
 use job::record::Record;

@@ -36,7 +36,6 @@ pub enum Subdivision {
     },
 }
 
-// Whether the patch is discarded.
 pub fn is_discarded(cut: Subdivision) -> bool
     ensures { λ r. ⌜ r ≡ isDiscarded cut ⌝ }
 {

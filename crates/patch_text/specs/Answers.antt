@@ -13,7 +13,7 @@ use Rattle.text.specs.Heads.{drawnLine, discardedLine, refusedLine}
 use Rattle.text.specs.Lines.{rows}
 use Rattle.patch_text.specs.Widths.{widthOf}
 
--- ---- of lists
+-- ---- the text of lists
 
 -- the text of a mesh of P points and I indices: the counts, a line per point, a line per primitive of `width` indices
 abbrev pub listText : ℕ → List ℕ → List ℕ → ℕ → ℕ → List ℕ
@@ -26,7 +26,7 @@ pub record Mesh (width v i P I : ℕ) : Type 0 where
   pub vertices : 3 * P ≤ v
   pub indices : I ≤ i
 
--- ---- of patches
+-- ---- the text of patches
 
 -- the P points of a patch are at the front of a list
 pub record Placed (set : Settings) (p : Patch) (P : ℕ) (vertices : List ℕ) : Type 0 where

@@ -9,7 +9,6 @@ use crate::state::Share;
 use crate::state::SharedList;
 use crate::state::State;
 
-// Returns a designer's share.
 pub fn share_of(list: SharedList, designer: Designer) -> Share
     ensures { λ r. ⌜ r ≡ share designer list ⌝ }
 {
@@ -19,7 +18,6 @@ pub fn share_of(list: SharedList, designer: Designer) -> Share
     }
 }
 
-// Returns where a designer's part begins.
 pub fn part_start(list: SharedList, designer: Designer) -> usize
     ensures { λ r. ⌜ r ≡ partStart designer list ⌝ }
 {

@@ -1,4 +1,4 @@
--- Laws of text for other crates.
+-- The laws of `text`.
 pub mod Digits
 pub mod Writes
 pub mod Lines
