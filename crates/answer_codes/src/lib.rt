@@ -1,2 +1,1 @@
-// A call that reports its operation's answer by a number and by words in memory gives each answer exactly where that answer is right.
-// A theorem, with nothing to run.
+// A call that reports an answer by a number and words gives each answer exactly if it is right. A theorem, with no code to run.

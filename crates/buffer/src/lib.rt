@@ -1,4 +1,4 @@
-// Writes of a few words into a slice: the only stores that the writers above make.
+// Writes a few words into a slice: the only stores that the index and vertex writers use.
 ghost use mathlib.Core.List.{[], _∷_};
 ghost use Prim.Native.Nat.{_+_, _≤_};
 ghost use lib.ListN.{length};

@@ -1,2 +1,2 @@
--- The laws of mesh checking.
+-- The laws of `checker`.
 pub mod Arms

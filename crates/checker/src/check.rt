@@ -1,4 +1,4 @@
-// The check of a mesh: accepted, or its first kind of fault.
+// The check of a mesh: accepted, or its first fault.
 ghost use mathlib.Core.Path.{_≡_};
 ghost use Rattle.level.specs.Top.{Top};
 ghost use Rattle.drawing.specs.Demand.{outline};
@@ -10,7 +10,7 @@ use mesh_verdict::Verdict;
 use patch::kinds::Patch;
 use patch::settings::Settings;
 
-// Whether a patch is of isolines.
+// Whether a patch is an isoline patch.
 fn is_isolines(patch: Patch) -> bool
     ensures { λ r. ⌜ r ≡ isIsolines patch ⌝ }
 {
@@ -36,7 +36,7 @@ fn is_isolines(patch: Patch) -> bool
     }
 }
 
-// Whether a patch is a triangle.
+// Whether a patch is a triangle patch.
 fn is_triangles(patch: Patch) -> bool
     ensures { λ r. ⌜ r ≡ isTriangles patch ⌝ }
 {
@@ -62,14 +62,14 @@ fn is_triangles(patch: Patch) -> bool
     }
 }
 
-// Whether a list of points and one of indices are both empty.
+// Whether the lists of points and indices are both empty.
 fn is_empty(points: &[u32], indices: &[u16]) -> bool
     ensures { λ r. ⌜ r ≡ isEmpty (now (points .entry)) (now (indices .entry)) ⌝ }
 {
     (points.len() == 0) & (indices.len() == 0)
 }
 
-// The first kind of fault of a mesh for a patch that is not discarded.
+// Returns the first fault of a mesh for a patch that is not discarded.
 fn patch_fault(
     patch: Patch,
     spacing: Spacing,
@@ -86,7 +86,7 @@ fn patch_fault(
     crate::fault::fault_within(edges, triangles, positive, points, indices)
 }
 
-// The points are three words each and the indices three a triangle, as drawing writes them.
+// Checks a mesh; the points are three words each and the triangles three indices each, as drawing writes them.
 pub fn check_mesh(patch: Patch, settings: Settings, points: &[u32], indices: &[u16]) -> Verdict
     ensures { λ r. ⌜ Checked settings patch (now (points .entry)) (now (indices .entry)) r ⌝ }
 {

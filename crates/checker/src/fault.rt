@@ -1,4 +1,4 @@
-// The first kind of fault of a mesh by the outer edges of its patch.
+// The first fault of a mesh, by the outer edges of its patch.
 ghost use mathlib.Core.Path.{_≡_};
 ghost use Prim.Native.Nat.{_+_, _*_, _≤_, _<_};
 ghost use lib.ListN.{length};
@@ -7,7 +7,7 @@ ghost use Rattle.outline.specs.Outlines.{outlineBy, ValidEdges};
 use mesh_verdict::Verdict;
 use outline::edges::OuterEdges;
 
-// With a list that is lent for the outline's words.
+// Returns the fault; uses a lent list for the outline.
 fn fault_in(
     words: &mut [u32],
     edges: OuterEdges,
@@ -23,7 +23,7 @@ fn fault_in(
     mesh_verdict::fault::mesh_fault(&words[0..count], points, indices, triangles, positive)
 }
 
-// With words for an outline of up to 63 points, so that a small patch does not pay for clearing those of the largest.
+// The same with room for an outline of up to 63 points, so that a small patch does not clear the list of the largest.
 fn small_fault(
     edges: OuterEdges,
     triangles: bool,
@@ -38,7 +38,7 @@ fn small_fault(
     fault_in(&mut words, edges, triangles, positive, points, indices)
 }
 
-// With words for the largest outline, which has 4 * 64 points.
+// The same with room for the largest outline, which has 4 * 64 points.
 fn large_fault(
     edges: OuterEdges,
     triangles: bool,
@@ -53,7 +53,7 @@ fn large_fault(
     fault_in(&mut words, edges, triangles, positive, points, indices)
 }
 
-// The fault, with as many words as the outline asks for.
+// Returns the fault, with as much room as the outline needs.
 pub(crate) fn fault_within(
     edges: OuterEdges,
     triangles: bool,

@@ -1,3 +1,3 @@
-// The check of a mesh that anybody made for a patch: accepted, or its first kind of fault.
+// The check of any mesh for a patch: accepted, or its first fault.
 pub mod check;
 mod fault;

@@ -1,5 +1,4 @@
--- Sides that meet their reverse or are pieces of the outline, and the marks of those pieces.
--- Assumes nothing.
+-- Closed sides: those that have a reverse or are pieces of the outline; and the marks of those pieces. Assumes nothing.
 use Prim.Native.Nat.{ℕ, zero, suc, _+_, _*_, _/_, _%_, _≤_, _<_}
 use mathlib.Core.Path.{_≡_, refl, ap}
 use mathlib.Core.Bool.{Bool, true, false, _||_}
@@ -26,7 +25,7 @@ use Rattle.side_chains.proofs.Numbers.{one-of, both, both-which, ends-same, sid
 use Rattle.sides.specs.Opens.{meets, Among, Listed}
 use Rattle.sides.proofs.Repeats.{once-new}
 
--- the test of two sides is the one for equal sides
+-- the test of two sides holds exactly if they are equal
 ends-are : (s r : Side) → sameEnds s r ≡ true → s ≡ r
 ends-are s r h =
     let w = both-which (samePoint (s .start) (r .start)) (samePoint (s .end) (r .end)) h in
@@ -35,7 +34,7 @@ ends-are s r h =
 ends-self : (s : Side) → sameEnds s s ≡ true
 ends-self s = both (samePoint (s .start) (s .start)) (samePoint (s .end) (s .end)) (is-same (s .start) (s .start) refl) (is-same (s .end) (s .end) refl)
 
--- a triangle by points has its own sides
+-- a triangle, by points, has its own sides
 module _ (P : ℕ → Point) (t : Triangle) where
   abbrev from : ℕ → ℕ → Side
   from x y = record { start = P x; end = P y }
@@ -51,7 +50,7 @@ module _ (P : ℕ → Point) (t : Triangle) where
 pub blank-all : (n : ℕ) → Blank (replicate n 0)
 blank-all n = record { at = zero-at n }
 
--- a mark past the end of the list is not set
+-- setting a mark past the end of the list changes nothing
 pub set-past : (xs : List ℕ) (k v : ℕ) → length xs ≤ k → xs ≡ set xs k v
 set-past [] k v l = refl
 set-past (x ∷ xs) zero v l = absurd (omega arith)
@@ -70,7 +69,7 @@ all-marked-more marks n a h = record {
 }
 
 module _ (positive : Bool) (outline ps : List Point) (ts : List Triangle) where
-  -- a side with its reverse in the table
+  -- a side whose reverse is in the table
   reverse-closes : (m n : ℕ) → n ≤ length ts * 3 → some (isSide ts (sideEnd ts m) (sideStart ts m)) n ≡ true → closes positive outline ps ts m ≡ true
   unfolding sideStart sideEnd
   reverse-closes m n l h =
@@ -101,7 +100,7 @@ module _ (positive : Bool) (outline ps : List Point) (ts : List Triangle) where
       rw (ends-are (piece positive outline k) s (h .same))
       (some-here (λ i. bounds (faceOf (at ps) (triangleAt ts i)) s) (length ts) (m / 3) (omega arith) (bounds-own (at ps) (triangleAt ts (m / 3)) (m % 3)))
 
-  -- the sides of a list
+  -- the first sides in the list
   pub joins-none : (opens : List ℕ) → Joins positive outline ps ts opens 0
   joins-none opens = record { each = λ i l. absurd (omega arith) }
 
@@ -111,23 +110,23 @@ module _ (positive : Bool) (outline ps : List Point) (ts : List Triangle) where
     each = λ i l. elim (decLe n i) [ yes p ↦ (let d : i ≡ n = omega arith in rw d h) | no p ↦ j .each i (omega arith) ];
   }
 
-  -- a side that has its reverse or is among those of the list
+  -- a side that has its reverse or is in the list
   pick : (opens : List ℕ) (n m : ℕ) → Joins positive outline ps ts opens n → (meets ts m ≡ true) ⊎ Among opens n m → closes positive outline ps ts m ≡ true
   pick opens n m j (inl h) = reverse-closes m (length ts * 3) (omega arith) h
   pick opens n m j (inr a) = rw (a .is) at (j .each (a .place) (a .within))
 
-  -- all sides, where those of the list are all that have no reverse
+  -- all sides, if the list has all sides without a reverse
   pub joined-all : (opens : List ℕ) (n m : ℕ) → m ≤ length ts * 3 → Listed ts (length ts * 3) opens n → Joins positive outline ps ts opens n → ClosedTo positive outline ps ts m
   joined-all opens n m b l j = record { each = λ i c. pick opens n i j (l .each i (omega arith)) }
 
-  -- those before number k of the list
+  -- the sides before entry k of the list
   pub joined-before : (opens : List ℕ) (n k : ℕ) → k < n → Listed ts (length ts * 3) opens n → Joins positive outline ps ts opens k → ClosedTo positive outline ps ts (getD opens k 0)
   joined-before opens n k b l j = record { each = λ i c. pick opens k i j (l .before k b i c) }
 
   pub closed-none : ClosedTo positive outline ps ts 0
   closed-none = record { each = λ m l. absurd (omega arith) }
 
-  -- the marks
+  -- the marks, and how they are set
   pub marked-none : (marks : List ℕ) → Blank marks → Marked positive outline ps ts marks
   marked-none marks z = record { drawn = λ k l h. absurd (omega (arith, z .at k)) }
 
@@ -146,14 +145,14 @@ module _ (positive : Bool) (outline ps : List Point) (ts : List Triangle) where
       other : (i : ℕ) → i < length outline → 0 < getD (set marks k 1) i 0 → (i ≡ k → ⊥) → isDrawn ps ts (piece positive outline i) ≡ true
       other i b p d = t .drawn i b (rw (getD-set-other marks k i 1 0 d) at p)
 
-  -- the pieces that have a mark are drawn
+  -- the marked pieces are sides
   pub drawn-none : DrawnTo positive outline ps ts 0
   drawn-none = record { each = λ k l. absurd (omega arith) }
 
   pub marked-drawn : (marks : List ℕ) (n : ℕ) → n ≤ length outline → Marked positive outline ps ts marks → AllMarked marks n → DrawnTo positive outline ps ts n
   marked-drawn marks n l t a = record { each = λ k b. t .drawn k (omega arith) (a .each k b) }
 
-  -- nothing is shown
+  -- nothing is shown yet
   pub shown-none : Shown positive outline ps ts (record { once = 0; joined = 0; drawn = 0 })
   shown-none = record {
     once-most = omega arith;
@@ -164,11 +163,11 @@ module _ (positive : Bool) (outline ps : List Point) (ts : List Triangle) where
     drawn = drawn-none;
   }
 
-  -- a side is there twice
+  -- a side is repeated
   pub shown-once : (n : ℕ) → n ≤ length ts → Once ts (n * 3) → Shown positive outline ps ts (record { once = n; joined = 0; drawn = 0 })
   shown-once n l o = record { once-most = l; once = once-new ts n o; joined-most = omega arith; joined = closed-none; drawn-most = omega arith; drawn = drawn-none }
 
-  -- none is
+  -- no side is repeated
   pub shown-all : (n m k : ℕ) (marks : List ℕ) → n ≤ length ts → Once ts (n * 3) → m ≤ length ts * 3 → ClosedTo positive outline ps ts m → k ≤ length outline
       → Marked positive outline ps ts marks → AllMarked marks k → Shown positive outline ps ts (record { once = n; joined = m; drawn = k })
   shown-all n m k marks l o b c d t a =

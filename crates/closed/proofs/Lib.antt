@@ -1,2 +1,2 @@
--- The laws of sides that meet.
+-- The laws of `closed`.
 pub mod Joins

@@ -1,5 +1,4 @@
--- How far a mesh is shown to be without the faults of sides and the outline, and what shows it.
--- Assumes nothing.
+-- How far a mesh is shown to be free of the faults of sides and outline. Assumes nothing.
 use Prim.Native.Nat.{ℕ, _*_, _≤_, _<_}
 use mathlib.Core.Path.{_≡_}
 use mathlib.Core.Bool.{Bool, true}
@@ -13,28 +12,28 @@ use Rattle.mesh_faults.specs.Outline.{sameEnds, sideBetween, closes, isDrawn, C
 use Rattle.closed.specs.declared.closing.Reached.{Reached}
 use Rattle.side_chains.specs.Sides.{sideStart, sideEnd}
 
--- piece number k of the outline is side number m
+-- piece k of the outline is side m
 pub record IsPiece (positive : Bool) (outline ps : List Point) (ts : List Triangle) (m k : ℕ) : Type 0 where
   pub within : k < length outline
   pub same : sameEnds (piece positive outline k) (sideBetween ps (sideStart ts m) (sideEnd ts m)) ≡ true
 
--- no mark is there
+-- no mark is set
 pub record Blank (marks : List ℕ) : Type 0 where
   pub at : (k : ℕ) → getD marks k 0 ≡ 0
 
--- every piece that has a mark is drawn
+-- every marked piece is a side
 pub record Marked (positive : Bool) (outline ps : List Point) (ts : List Triangle) (marks : List ℕ) : Type 0 where
   pub drawn : (k : ℕ) → k < length outline → 0 < getD marks k 0 → isDrawn ps ts (piece positive outline k) ≡ true
 
--- the first n marks are there
+-- the first n marks are set
 pub record AllMarked (marks : List ℕ) (n : ℕ) : Type 0 where
   pub each : (k : ℕ) → k < n → 0 < getD marks k 0
 
--- the first n sides of a list meet their reverse or are pieces of the outline
+-- the first n sides in the list `opens` are closed: the reverse is a side, or the side is a piece of the outline
 pub record Joins (positive : Bool) (outline ps : List Point) (ts : List Triangle) (opens : List ℕ) (n : ℕ) : Type 0 where
   pub each : (i : ℕ) → i < n → closes positive outline ps ts (getD opens i 0) ≡ true
 
--- how far none of the faults that sides and the outline show is found
+-- up to r no fault of sides or outline occurs: no triangle has a repeated side, every side is closed, every piece is a side
 pub record Shown (positive : Bool) (outline ps : List Point) (ts : List Triangle) (r : Reached) : Type 0 where
   pub once-most : r .once ≤ length ts
   pub once : NewTo ts (r .once)

@@ -1,2 +1,2 @@
--- A mesh that closes.
+-- The definitions of `closed`.
 pub mod Closing

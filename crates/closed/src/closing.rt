@@ -1,5 +1,5 @@
-// How far a table shows a mesh to be without the faults of sides and the outline: the table is as large as the mesh asks for, and of a mesh too large for it
-// nothing is shown.
+// How far a table of sides shows that a mesh is free of the faults of sides and outline. The table is as large as the mesh
+// needs; a mesh that is too large for it is not examined.
 ghost use Prim.Native.Nat.{_≤_, _<_};
 ghost use lib.ListN.{length};
 ghost use Rattle.drawing.specs.Words.{readPoints, readTriangles};
@@ -7,15 +7,15 @@ ghost use Rattle.mesh_faults.specs.Turns.{AllNumbered};
 ghost use Rattle.sides.specs.Tables.{vertices, Room, Cleared};
 ghost use Rattle.closed.specs.Closing.{Blank, Shown};
 
-// So many triangles, from the first on, have no side that an earlier one has; so many sides meet their reverse or are pieces of the outline; so many pieces
-// are drawn.
+// How many triangles, from the first on, have no side in common with an earlier one; how many sides, from the first on, are
+// closed; and how many pieces of the outline, from the first on, are sides.
 pub struct Reached {
     pub once: usize,
     pub joined: usize,
     pub drawn: usize,
 }
 
-// With a table, a list for sides without a reverse and marks for pieces that are lent for it.
+// The same with a lent table, a lent list for sides without a reverse, and lent marks for pieces.
 fn reach_by(
     outline: &[u32],
     points: &[u32],
@@ -56,7 +56,7 @@ fn reach_by(
     }
 }
 
-// With rows of bits, for up to 64 points, which have at most 64 pieces of an outline.
+// The same with rows of bits, for up to 64 points and so up to 64 pieces of the outline.
 fn reach_small(outline: &[u32], points: &[u32], indices: &[u16], positive: bool) -> Reached
     requires { ⌜ AllNumbered (length (readPoints (now points))) (now indices) ⌝ ∗ ⌜ length (now points) ≤ 192 ⌝ ∗ ⌜ length (now indices) ≤ 25344 ⌝ }
     ensures { λ r. ⌜ Shown positive (readPoints (now (outline .entry))) (readPoints (now (points .entry))) (readTriangles (now (indices .entry))) r ⌝ }
@@ -80,7 +80,8 @@ fn reach_small(outline: &[u32], points: &[u32], indices: &[u16], positive: bool)
     )
 }
 
-// With chains, for up to 8192 points and 8448 triangles; the largest patch is cut into 4225 and 8192, with 256 pieces of the outline.
+// The same with chains, for up to 8192 points and 8448 triangles; the largest patch has 4225 points, 8192 triangles and 256
+// pieces of the outline.
 fn reach_large(outline: &[u32], points: &[u32], indices: &[u16], positive: bool) -> Reached
     requires { ⌜ AllNumbered (length (readPoints (now points))) (now indices) ⌝ ∗ ⌜ length (now points) ≤ 24576 ⌝ ∗ ⌜ length (now indices) ≤ 25344 ⌝ }
     ensures { λ r. ⌜ Shown positive (readPoints (now (outline .entry))) (readPoints (now (points .entry))) (readTriangles (now (indices .entry))) r ⌝ }
@@ -104,7 +105,7 @@ fn reach_large(outline: &[u32], points: &[u32], indices: &[u16], positive: bool)
     )
 }
 
-// How far none of the faults of sides and the outline is found. A search that starts there finds the first of each kind.
+// Returns how far no fault of sides or outline occurs. A search that starts there finds the first fault of each kind.
 pub fn reach(outline: &[u32], points: &[u32], indices: &[u16], positive: bool) -> Reached
     requires { ⌜ AllNumbered (length (readPoints (now points))) (now indices) ⌝ }
     ensures { λ r. ⌜ Shown positive (readPoints (now (outline .entry))) (readPoints (now (points .entry))) (readTriangles (now (indices .entry))) r ⌝ }

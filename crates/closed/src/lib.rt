@@ -1,4 +1,4 @@
-// A quick yes by a table of sides: every directed side of a mesh is used once and meets its reverse or is a piece of the outline, and no piece
-// is missing. Where the answer is no, nothing is said of the mesh.
+// A fast proof that a mesh is watertight, by a table of sides: every directed side occurs once, and its reverse is a side or it
+// is a piece of the outline; no piece is missing. If the proof fails, the mesh may or may not have a fault.
 pub mod closing;
 mod pieces;

@@ -14,7 +14,7 @@ use mesh_faults::outline::is_piece_at;
 use searches::point::point_at;
 use side_chains::number::end_at;
 
-// A piece of the outline that goes from p to q, number `near` looked at first, or the number of pieces where none was found.
+// Returns the piece of the outline that is p→q, or the number of pieces; number `near` is tested first.
 fn find_piece(outline: &[u32], near: usize, positive: bool, p: Point, q: Point) -> usize
     ensures { λ r. ⌜ (r < length (readPoints (now (outline .entry))) → sameEnds (piece positive (readPoints (now (outline .entry))) r) (record { start = p; end = q }) ≡ true) ⌝ }
 {
@@ -34,7 +34,7 @@ fn find_piece(outline: &[u32], near: usize, positive: bool, p: Point, q: Point) 
     k
 }
 
-// Sets mark number k, if there is one.
+// Sets mark k, if the list has it.
 fn set_mark(marks: &mut [u16], k: usize)
     ensures { λ r. ⌜ now (marks .exit) ≡ set (now (marks .entry)) k 1 ⌝ }
 {
@@ -43,7 +43,7 @@ fn set_mark(marks: &mut [u16], k: usize)
     }
 }
 
-// The piece that side number m is, whose mark is set, or the number of pieces where none was found; number `near` is looked at first.
+// Marks the piece that side m is and returns its number, or returns the number of pieces; number `near` is tested first.
 fn mark_piece(
     outline: &[u32],
     points: &[u32],
@@ -65,8 +65,8 @@ fn mark_piece(
     k
 }
 
-// How many sides, from the first on, meet their reverse or are pieces of the outline. The first `count` sides of a list are all that have no reverse; those that
-// are pieces are marked, up to the first that is none.
+// Returns how many sides, from the first on, are closed. The first `count` entries of `opens` are all sides without a reverse;
+// those that are pieces of the outline are marked, up to the first that is not a piece.
 pub(crate) fn all_pieces(
     outline: &[u32],
     points: &[u32],
@@ -94,7 +94,7 @@ pub(crate) fn all_pieces(
     indices.len() / 3 * 3
 }
 
-// How many of the first `count` marks, from the first on, are there.
+// Returns how many of the first `count` marks, from the first on, are set.
 pub(crate) fn first_unmarked(marks: &[u16], count: usize) -> usize
     ensures { λ r. ⌜ (r ≤ count) × AllMarked (now (marks .entry)) r ⌝ }
 {

@@ -1,4 +1,4 @@
--- A call that compares answers each number exactly where it means. Assumes nothing.
+-- A call that compares gives each number exactly if it is right. Assumes nothing.
 use Prim.Native.Nat.{ℕ}
 use mathlib.Core.Path.{_≡_, refl, sym, ap, _∙_}
 use mathlib.Core.Bool.{cond}
@@ -17,7 +17,7 @@ use Rattle.answer_codes.specs.Reports.{Reports}
 use Rattle.answer_codes.proofs.Exactly.{told-back, number-exactly, answered-exactly}
 use Rattle.compare_exports.specs.Calls.{CompareCalled, CompareExactly}
 
--- the answer that a number and a count stand for
+-- the answer with this number and this count
 abbrev answerIn : ℕ → List ℕ → Comparison
 answerIn n c =
     cond (eqb n 0) (Differences (getD c 0 0))

@@ -1,3 +1,3 @@
--- The laws of the exported call.
+-- The laws of `compare_exports`.
 pub mod Numbers
 pub mod Exactly

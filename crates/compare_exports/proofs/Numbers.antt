@@ -1,5 +1,4 @@
--- The numbers of refusals, and the call.
--- Assumes nothing.
+-- The numbers of refusals, and the call. Assumes nothing.
 use Prim.Native.Nat.{ℕ, _+_, _≤_}
 use mathlib.Core.Path.{_≡_, refl, sym, ap, _∙_}
 use mathlib.Core.List.{List, [], _∷_}
@@ -19,13 +18,13 @@ shift-most NotThrees = omega arith
 shift-most UnknownIndex = omega arith
 shift-most EqualPoints = omega arith
 
--- counted on from n
+-- the number of a refusal, where n is the first number of its side
 pub fault-told : (n : ℕ) (f : Fault) → record { number = n + shiftOf f; count = 0 } ≡ replyOf (toldFault n f)
 fault-told n NotThrees = ap (λ (k : ℕ). record { number = k; count = 0 }) (add-zero n)
 fault-told n UnknownIndex = refl
 fault-told n EqualPoints = refl
 
--- the answer is told by its number and its count
+-- the call reports the answer by its number and count
 pub called : (right a : Comparison) (ws xs xs′ : List ℕ) (p : Reply) → Answered right a ws xs xs′ → p ≡ replyOf (told a) → Called (told right) ws xs xs′ (p .count ∷ []) (p .number)
 called right a ws xs xs′ p h e =
     let f : p ≡ replyOf (told right) = e ∙ ap (λ (b : Comparison). replyOf (told b)) (h .answer) in

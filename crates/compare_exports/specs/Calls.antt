@@ -1,5 +1,5 @@
--- What a call answers and leaves behind, for every input: lp and li are the words of the left mesh, rp and ri those of the right one,
--- xs and xs′ the list of differences at entry and at exit, and c′ the count at exit. Assumes nothing.
+-- What a call answers and leaves, for every input: lp and li are the words of the left mesh, rp and ri of the right mesh, xs
+-- and xs′ the list of differences at entry and at exit, and c′ the count at exit. Assumes nothing.
 use Prim.Native.Nat.{ℕ}
 use mathlib.Core.Path.{_≡_}
 use mathlib.Core.List.{List, [], _∷_}
@@ -20,27 +20,26 @@ use Rattle.sameness.specs.Same.{SameMesh}
 use Rattle.sameness.specs.Refusals.{Comparable, AnswerMeans}
 use Rattle.compare_exports.specs.declared.reply.Reply.{Reply}
 
--- a refusal's place after the first number of its side
+-- the position of a fault among the three numbers of its side
 abbrev pub shiftOf : Fault → ℕ
 shiftOf NotThrees = 0
 shiftOf UnknownIndex = 1
 shiftOf EqualPoints = 2
 
--- an answer's number and its value, 0 where there is none
+-- the number of an answer and its value, 0 if it has no value
 abbrev pub replyOf : Told → Reply
 replyOf t = record { number = t .number; count = getD (t .values) 0 0 }
 
--- the number and the count that comparing tells, and the differences at the front of the list where the number is 0, else the list as it was
+-- the contract: the number and the count of the answer; for 0 the list begins with the differences, else it is unchanged
 abbrev pub CompareCalled : List ℕ → List ℕ → List ℕ → List ℕ → List ℕ → List ℕ → List ℕ → ℕ → Type 0
 CompareCalled lp li rp ri xs xs′ c′ r =
     Called (told (verdict lp li rp ri (length xs))) (words (differences (readMesh lp li) (readMesh rp ri))) xs xs′ c′ r
 
--- when each number is answered, for a list of `room` words, and what count is in memory then
+-- when the call gives each number, for a list of `room` words, and which count it leaves
 pub record CompareExactly (lp li rp ri : List ℕ) (room : ℕ) (c′ : List ℕ) (r : ℕ) : Type 0 where
-  -- each answer is given, by its number and its count, exactly where it means
+  -- each answer is given, by number and count, exactly if it is right
   pub answers : AnsweredExactly (λ a. told a .number) (λ a. oneWord (told a .values)) (λ a. AnswerMeans a lp li rp ri room) c′ r
-  -- number by number
-  -- 0 with the count 0: both can be compared, and hold the same points and triangles
+  -- the same for each number; 0 with the count 0: both meshes can be compared, and have the same points and triangles
   pub same : ((r ≡ 0) × (c′ ≡ 0 ∷ [])) ↔ (Comparable lp li × Comparable rp ri × SameMesh (readMesh lp li) (readMesh rp ri))
   pub compared : (r ≡ 0) ↔ AnswerMeans (Differences (getD c′ 0 0)) lp li rp ri room
   pub no-room : (r ≡ 40) ↔ AnswerMeans (NoRoom (getD c′ 0 0)) lp li rp ri room

@@ -1,2 +1,2 @@
--- The definitions of the exported call.
+-- The definitions of `compare_exports`.
 pub mod Calls

@@ -1,4 +1,4 @@
-// Answers of comparing as numbers, each with the number of differences, 0 where none is told.
+// The answers of comparing as numbers, each with the number of differences, or 0.
 ghost use mathlib.Core.Path.{_≡_};
 ghost use Rattle.compare.specs.Answers.{told};
 ghost use Rattle.compare_exports.specs.Calls.{replyOf, shiftOf};
@@ -11,7 +11,7 @@ pub struct Reply {
     pub count: u64,
 }
 
-// A refusal's place after the first number of its side.
+// The position of a fault among the three numbers of its side.
 fn shift_of(fault: Fault) -> u32
     ensures { λ r. ⌜ r ≡ shiftOf fault ⌝ }
 {

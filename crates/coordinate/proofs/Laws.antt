@@ -1,4 +1,4 @@
--- Laws of a coordinate as a float: exact for quads and isolines, near for triangles, and strictly rising. Assumes nothing.
+-- Laws of a coordinate as a float: exact for quads and isolines, near for triangles, and strictly increasing. Assumes nothing.
 use mathlib.Core.Path.{_≡_, refl, sym, ap, subst, _∙_}
 use mathlib.Core.Bool.{false}
 use mathlib.Core.Logic.{inl, inr}
@@ -20,7 +20,7 @@ use lib.Ieee.Scale.{grid, round-val}
 use Rattle.coordinate.specs.Coordinate.{coordinate, parts, Exact, Near}
 use Rattle.coordinate.proofs.Round.{div-is, closest-near, size-gt}
 
--- a coordinate is x / one rounded once
+-- a coordinate is x / one, rounded once
 pub coordinate-is : (one x : ℕ) → 0 < one → one ≤ 16777216 → x ≤ 16777216 → coordinate one x ≡ round binary32 false x one
 unfolding coordinate ofInt
 coordinate-is one x p o h =
@@ -33,16 +33,16 @@ exact x h =
     subst (Exact x) (sym (coordinate-is 65536 x (omega arith) (omega arith) (omega arith)))
     (round-exact binary32 false x 65536 x 133 (omega arith) (omega arith) (lt-of-lt-of-le (shl-lt 24 133 (omega arith)) (lit≤ tt)) (sym (mul-assoc x (2 ^ 133) 65536)))
 
--- the same over whole numbers
+-- the same for whole numbers
 pub exact-cross : (x : ℕ) → x ≤ 65536 → num (coordinate 65536 x) * 65536 ≡ x * den (coordinate 65536 x)
 exact-cross x h = value→cross (coordinate 65536 x) x 65536 (exact x h)
 
--- a float that is N parts of 2 ^ -41 says its N
+-- `parts` of a float that is N units of 2 ^ -41 is N
 pub parts-is : (f : Float) (N : ℕ) → HasValue f false N (2 ^ 41) → parts f ≡ N
 unfolding parts
 parts-is f N h = ap (λ (n : ℕ). n / den f) (value→cross f N (2 ^ 41) h) ∙ mul-div-cancel N (den-pos f)
 
--- N * 2 ^ 108 parts of 2 ^ -149 are N parts of 2 ^ -41
+-- N * 2 ^ 108 units of 2 ^ -149 are N units of 2 ^ -41
 coarse : (f : Float) (N : ℕ) → HasValue f false (N * 2 ^ 108) (2 ^ 149) → HasValue f false N (2 ^ 41)
 coarse nan N h = absurd h
 coarse (inf s) N h = absurd h
@@ -56,7 +56,7 @@ near-of x N f v l m =
     let e : parts f ≡ N = parts-is f N v in
     record { is = rw e v; least = omega arith; most = omega arith }
 
--- between 0 and 1 the rounding drops 108 to 125 binary digits of the parts of 2 ^ -149
+-- between 0 and 1 rounding drops 108 to 125 binary digits of the units of 2 ^ -149
 drop-least : (x : ℕ) → 0 < x → 108 ≤ drop 24 (x * 2 ^ 149) 196608
 drop-least x p =
     let z : 131 < size (x * 2 ^ 149 / 196608) = size-gt _ 131 (le-div-iff-mul-le (omega arith) .1 (le-trans (lit≤ tt) (mul-le-mul-right (2 ^ 149) p))) in
@@ -67,7 +67,7 @@ drop-most x h =
     let z : size (x * 2 ^ 149 / 196608) ≤ 149 = size-le _ 149 (div-lt-iff-lt-mul (omega arith) .1 (mul-lt-mul-of-pos-right h (pow-pos 149))) in
     omega (arith, z)
 
--- with k dropped the kept number is x * 2 ^ 41 over 196608 * 2 ^ (k - 108), rounded
+-- if k digits are dropped, the rounded number is x * 2 ^ 41 over 196608 * 2 ^ (k - 108), rounded
 kept-is : (x k j : ℕ) → k ≡ j + 108 → closest (x * 2 ^ 149) (196608 * 2 ^ k) ≡ closest (x * 2 ^ 41) (196608 * 2 ^ j)
 kept-is x k j e =
     closest-same (x * 2 ^ 149) (196608 * 2 ^ k) (x * 2 ^ 41) (196608 * 2 ^ j) (mul-pos (omega arith) (pow-pos k)) (mul-pos (omega arith) (pow-pos j))
@@ -76,7 +76,7 @@ kept-is x k j e =
     scale : (x a s c P : ℕ) → x * (a * s) * (c * P) ≡ x * a * (c * (P * s))
     scale x a s c P = simp (mul-assoc, mul-comm, mul-left-comm)
 
--- K * 2 ^ j parts are near, where K is that number
+-- K * 2 ^ j units are near, where K is that number
 bounds : (x K P : ℕ) → P ≤ 131072 → (x * 2 ^ 41 * 2 ≤ K * (196608 * P) * 2 + 196608 * P) × (K * (196608 * P) * 2 ≤ x * 2 ^ 41 * 2 + 196608 * P)
     → (x * 2 ^ 41 ≤ 196608 * (K * P) + 196608 * 65536) × (196608 * (K * P) ≤ x * 2 ^ 41 + 196608 * 65536)
 bounds x K P h b = omega arith
@@ -125,7 +125,7 @@ triangle-rising x y l h =
     let b = near y h in
     omega arith
 
--- x / 65536 is x * 2 ^ 25 parts of 2 ^ -41
+-- x / 65536 is x * 2 ^ 25 units of 2 ^ -41
 finer : (f : Float) (x : ℕ) → HasValue f false x 65536 → HasValue f false (x * 2 ^ 25) (2 ^ 41)
 finer nan x h = absurd h
 finer (inf s) x h = absurd h
@@ -140,7 +140,7 @@ quad-parts x h = parts-is (coordinate 65536 x) (x * 2 ^ 25) (finer (coordinate 6
 pub quad-rising : (x y : ℕ) → x < y → y ≤ 65536 → parts (coordinate 65536 x) < parts (coordinate 65536 y)
 quad-rising x y l h = omega (arith, quad-parts x (omega arith), quad-parts y h)
 
--- so no two coordinates of a patch share a float
+-- so different coordinates of a patch have different floats
 apart : (one : ℕ) → ((x y : ℕ) → x < y → y ≤ one → parts (coordinate one x) < parts (coordinate one y))
     → (x y : ℕ) → x ≤ one → y ≤ one → coordinate one x ≡ coordinate one y → x ≡ y
 apart one rising x y h k e = elim (decLe x y) [

@@ -1,4 +1,4 @@
--- The laws of `coordinate`, lowest first.
+-- The laws of `coordinate`.
 pub mod Round
 pub mod Laws
 pub mod Fill

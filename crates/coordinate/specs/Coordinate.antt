@@ -1,4 +1,4 @@
--- A whole coordinate as an `f32`, and what that float is over whole numbers. Assumes nothing.
+-- A whole-number coordinate as an `f32`, and how near that float is to the exact quotient. Assumes nothing.
 use Prim.Native.Nat.{ℕ, _+_, _*_, _/_, _^_, _≤_, _<_}
 use mathlib.Core.Bool.{false}
 use mathlib.Core.List.{List}
@@ -8,24 +8,24 @@ use lib.Ieee.{Float, binary32, ofInt, div}
 use lib.Ieee.Exact.{HasValue}
 use lib.Ieee.Positive.{num, den}
 
--- x / one: each number as an `f32`, and one division
+-- x / one in `f32`: both numbers are converted, then divided
 unfoldable pub coordinate : ℕ → ℕ → Float
 coordinate one x = div binary32 (ofInt binary32 (pos x)) (ofInt binary32 (pos one))
 
--- a float's size in parts of 2 ^ -41, rounded down
+-- the value of a float in units of 2 ^ -41, rounded down
 unfoldable pub parts : Float → ℕ
 parts f = num f * 2 ^ 41 / den f
 
--- f is finite, has no minus sign, and is exactly x / 65536
+-- f is finite, not negative, and exactly x / 65536
 abbrev pub Exact : ℕ → Float → Type 0
 Exact x f = HasValue f false x 65536
 
--- f is exactly a whole number N of parts of 2 ^ -41, and 196608 * N differs from x * 2 ^ 41 by at most 196608 * 65536
+-- f is a whole number N of units of 2 ^ -41, and 196608 * N differs from x * 2 ^ 41 by at most 196608 * 65536
 pub record Near (x : ℕ) (f : Float) : Type 0 where
   pub is : HasValue f false (parts f) (2 ^ 41)
   pub least : x * 2 ^ 41 ≤ 196608 * parts f + 196608 * 65536
   pub most : 196608 * parts f ≤ x * 2 ^ 41 + 196608 * 65536
 
--- each of the first n words is a number that `f32` holds exactly, so that its cast is defined
+-- each of the first n words converts to `f32` exactly, as the conversion requires
 pub record Castable (n : ℕ) (words : List ℕ) : Type 0 where
   pub each : (i : ℕ) → i < n → getD words i 0 ≤ 16777216

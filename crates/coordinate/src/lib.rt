@@ -1,4 +1,4 @@
-// Coordinates as `f32`: the whole number cast and divided once by what stands for 1.
+// Coordinates as `f32`: the whole number, converted and divided once.
 ghost use mathlib.Core.Path.{_≡_};
 ghost use mathlib.Core.List.{map};
 ghost use Prim.Native.Nat.{_≤_, _<_};
@@ -6,7 +6,7 @@ ghost use lib.ListN.{length, take};
 ghost use Rattle.buffer.specs.Over.{over};
 ghost use Rattle.coordinate.specs.Coordinate.{coordinate, Castable};
 
-// A coordinate, of the whole number that stands for 1. A cast to `f32` is defined up to 2^24; no coordinate is above that.
+// Returns the float of a coordinate, where `one` represents 1. The conversion to `f32` is defined up to 2^24, and no coordinate exceeds that.
 pub fn coordinate_of(x: u32, one: u32) -> f32
     requires { ⌜ (x ≤ 16777216) × (0 < one) × (one ≤ 16777216) ⌝ }
     ensures { λ r. ⌜ r ≡ coordinate one x ⌝ }
@@ -14,7 +14,7 @@ pub fn coordinate_of(x: u32, one: u32) -> f32
     (x as f32) / (one as f32)
 }
 
-// The first `count` words as floats at the front of `out`, each divided by `one`.
+// Writes the first `count` words as floats to the front of `out`, each divided by `one`.
 pub fn write_coordinates(out: &mut [f32], words: &[u32], count: usize, one: u32)
     requires { ⌜ (count ≤ length (now out)) × (count ≤ length (now words)) × (0 < one) × (one ≤ 16777216) ⌝ ∗ ⌜ Castable count (now words) ⌝ }
     ensures { λ _. ⌜ now (out .exit) ≡ over (now (out .entry)) 0 (map (coordinate one) (take count (now (words .entry)))) ⌝ }

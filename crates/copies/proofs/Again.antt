@@ -1,5 +1,4 @@
--- Words by the list that they stand in, and words that are written again with others after them.
--- Assumes nothing.
+-- Lists by their words, and words that are overwritten together with those after them. Assumes nothing.
 use Prim.Native.Nat.{ℕ, zero, suc, _+_, _-_, _≤_}
 use mathlib.Core.Path.{_≡_, refl, sym, ap, _∙_}
 use mathlib.Core.List.{List, [], _∷_, _++_, append-assoc, append-nil}
@@ -25,13 +24,13 @@ words-from xs i (suc k) e =
 pub words-all : (xs : List ℕ) (n : ℕ) → n ≡ length xs → flat (λ j. getD xs j 0 ∷ []) 0 n ≡ xs
 words-all xs n e = words-from xs 0 n (omega arith)
 
--- a list that was written over whole
+-- a list that was overwritten completely
 pub wrote-whole : {xs ys xs′ : List ℕ} {w : ℕ} → length ys ≡ length xs → Wrote xs 0 ys xs′ w → xs′ ≡ ys
 unfolding over
 wrote-whole {xs} {ys} e p = p .is ∙ ap (λ (l : List ℕ). ys ++ l) (drop-all xs (0 + length ys) (omega arith)) ∙ append-nil ys
 
--- ---- words that are written again, with others after them
--- `gs` are those after `ys` that are lost
+-- ---- words that are overwritten, and others after them
+-- `gs` are the words after `ys` that are lost
 again-over : (xs : List ℕ) (at : ℕ) (ys gs zs : List ℕ) → at ≤ length xs → length gs ≤ length zs → over (over xs at (ys ++ gs)) (at + length ys) zs ≡ over xs at (ys ++ zs)
 unfolding over
 again-over xs at ys gs zs fits less =
@@ -60,7 +59,7 @@ wrote-again {xs} {at = at} ys gs zs fits less e p q = record {
   next = omega (arith, length-append ys zs);
 }
 
--- ---- pieces further on
+-- ---- pieces with a shifted number
 pub flat-moved : (f : ℕ → List ℕ) (k i n : ℕ) → flat (λ j. f (j + k)) i n ≡ flat f (i + k) n
 unfolding flat
 flat-moved f k i zero = refl

@@ -1,3 +1,3 @@
--- The laws of copies, for the crates above.
+-- The laws of `copies`, for other crates.
 pub mod Shifts
 pub mod Again

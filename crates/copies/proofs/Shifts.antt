@@ -1,5 +1,4 @@
--- Copies of words: a copy of copies is a run of later copies.
--- Assumes nothing.
+-- Copies of words: a copy of several copies is a run of later copies. Assumes nothing.
 use Prim.Native.Nat.{ℕ, zero, suc, min, _+_, _-_, _*_, _%_, _≤_, _<_}
 use mathlib.Core.Path.{_≡_, refl, sym, ap, subst, _∙_}
 use mathlib.Core.List.{List, [], _∷_, _++_, append-assoc}
@@ -29,7 +28,7 @@ shifted-twice d e (x ∷ xs) =
     let head : ((x + e) % 65536 + d) % 65536 ≡ (x + (e + d)) % 65536 = mod-add-mod (x + e) 65536 d ∙ ap (λ (k : ℕ). k % 65536) (add-assoc x e d) in
     rw (head, shifted-twice d e xs)
 
--- ---- pieces one after the other
+-- ---- joined pieces
 pub flat-split : (f : ℕ → List ℕ) (i j k : ℕ) → flat f i (j + k) ≡ flat f i j ++ flat f (i + j) k
 unfolding flat
 flat-split f i zero k = rw (zero-add k, add-zero i)
@@ -38,7 +37,7 @@ flat-split f i (suc j) k =
     let l : i + 1 + j ≡ i + suc j = omega arith in
     rw (e, flat-split f (i + 1) j k, l) (sym (append-assoc (f i) (flat f (i + 1) j) (flat f (i + suc j) k)))
 
--- pieces that are the same up to the last one
+-- pieces that agree up to the last
 pub flat-below : (f g : ℕ → List ℕ) (i k : ℕ) → ((j : ℕ) → j < i + k → f j ≡ g j) → flat f i k ≡ flat g i k
 unfolding flat
 flat-below f g i zero h = refl
@@ -71,12 +70,12 @@ module _ (by : ℕ) (ys : List ℕ) where
       shifted-append (s * by) (copy by ys i) (flat (copy by ys) (i + 1) k)
       ∙ rw (copy-copied s i, copies-copied s (i + 1) k, e)
 
-  -- the first k + 1, copied: as many from the copy s on
+  -- a copy of the first k + 1 copies is k + 1 copies from copy s on
   all-copied : (s k : ℕ) → shifted (s * by) (ys ++ flat (copy by ys) 1 k) ≡ flat (copy by ys) s (suc k)
   unfolding flat copy
   all-copied s k = shifted-append (s * by) ys (flat (copy by ys) 1 k) ∙ ap (λ (l : List ℕ). shifted (s * by) ys ++ l) (copies-copied s 1 k)
 
--- ---- what stands in front of what is left to write
+-- ---- the words before what is left to write
 pub left-front : {out rest xs ys : List ℕ} {w at : ℕ} (done : List ℕ) → ys ≡ done ++ rest → at ≤ length xs → Left out w rest xs at ys → take w out ≡ take at xs ++ done
 unfolding over
 left-front {out} {rest} {xs} {ys} {w} {at} done e h l =
@@ -90,13 +89,13 @@ left-front {out} {rest} {xs} {ys} {w} {at} done e h l =
     let there : over xs at ys ≡ (P ++ done) ++ (rest ++ drop (at + length ys) xs) = rw (ap (over xs at) e, append-assoc done rest (drop (at + length (done ++ rest)) xs)) (sym (append-assoc P done (rest ++ drop (at + length (done ++ rest)) xs)) ∙ ap (λ (m : List ℕ). P ++ done ++ (rest ++ drop (at + length m) xs)) (sym e)) in
     sym here ∙ ap (take w) (l .is) ∙ ap (take w) there ∙ take-at (P ++ done) (rest ++ drop (at + length ys) xs) w q
 
--- a loop that counts has written the pieces before its present one
+-- a counting loop has written the pieces before the current one
 counted : {f : ℕ → List ℕ} {i n : ℕ} {out : List ℕ} {w : ℕ} {xs : List ℕ} {at : ℕ} → at ≤ length xs → Counting f i n out w xs at → take w out ≡ take at xs ++ flat f 0 i
 counted {f} {i} {n} h c =
     let e : i + (n - i) ≡ n = omega (arith, c .within) in
     left-front (flat f 0 i) (ap (flat f 0) (sym e) ∙ flat-split f 0 i (n - i) ∙ ap (λ (k : ℕ). flat f 0 i ++ flat f k (n - i)) (zero-add i)) h (c .left)
 
--- and has left what stands before them
+-- and has not changed the words before them
 pub count-keeps : {f : ℕ → List ℕ} {i n : ℕ} {out : List ℕ} {w : ℕ} {xs : List ℕ} {at : ℕ} → at ≤ length xs → Counting f i n out w xs at → (j : ℕ) → j < at → getD out j 0 ≡ getD xs j 0
 count-keeps {f} {i} {n} {out} {w} {xs} {at} h c j l =
     let front = counted h c in
@@ -119,7 +118,7 @@ copied-from by xs from i (suc k) h =
 pub all-words : (by : ℕ) (xs : List ℕ) (from n : ℕ) → from + n ≤ length xs → flat (copied by xs from) 0 n ≡ shifted by (take n (drop from xs))
 all-words by xs from n h = copied-from by xs from 0 n (omega arith) ∙ ap (λ (k : ℕ). shifted by (take n (drop k xs))) (add-zero from)
 
--- ---- the loop that writes the n words at `at` k times: r copies stand there
+-- ---- the loop that writes the n words at `at` k times; r copies are there
 abbrev pub wordsAt : List ℕ → ℕ → ℕ → List ℕ
 wordsAt xs at n = take n (drop at xs)
 
@@ -151,7 +150,7 @@ module _ (xs : List ℕ) (at n k by : ℕ) (fits : at + k * n ≤ length xs) (so
         let parts : n * (r + (k - r)) ≡ n * k = ap (λ (j : ℕ). n * j) (omega arith) in
         omega (arith, run-length r (k - r), run-length 1 (k - 1), all, parts, mul-add n 1 (k - 1), mul-add n r (k - r), mul-comm n r)
 
-    -- the first m of them
+    -- the first m copies
     copying-front : (m : ℕ) → 1 ≤ m → m ≤ r → take (m * n) (drop at out) ≡ wordsAt xs at n ++ flat (copy by (wordsAt xs at n)) 1 (m - 1)
     copying-front m h l =
         let ys = wordsAt xs at n in
@@ -192,7 +191,7 @@ module _ (xs : List ℕ) (at n k by : ℕ) (fits : at + k * n ≤ length xs) (so
     pub copying-done : k ≤ r → Wrote xs (at + n) (flat (copy by (wordsAt xs at n)) 1 (k - 1)) out w
     copying-done h = left-none (flat-done (copy by (wordsAt xs at n)) r k h) (c .left)
 
--- what was written stands there
+-- the written words are at their place
 words-stand : {xs ys mid : List ℕ} {at w : ℕ} (n : ℕ) → length ys ≡ n → at ≤ length xs → Wrote xs at ys mid w → wordsAt mid at n ≡ ys
 unfolding over
 words-stand {xs} {ys} {mid} {at} n e h p =

@@ -1,18 +1,17 @@
--- Copies of words, each greater than the one before by the same number.
--- Assumes nothing.
+-- Shifted copies of words: each copy exceeds the one before by the same number. Assumes nothing.
 use Prim.Native.Nat.{ℕ, _+_, _*_, _%_, _≤_}
 use mathlib.Core.List.{List, [], _∷_}
 
--- each word greater by d, modulo 65536
+-- each word plus d, modulo 65536
 unfoldable pub shifted : ℕ → List ℕ → List ℕ
 shifted d [] = []
 shifted d (x ∷ xs) = ((x + d) % 65536) ∷ shifted d xs
 
--- the copy i of ys
+-- copy i of ys: each word plus i * by
 unfoldable pub copy : ℕ → List ℕ → ℕ → List ℕ
 copy by ys i = shifted (i * by) ys
 
--- r is neither 0 nor above a or b
+-- r is at least 1 and at most a and b
 pub record Lesser (a b r : ℕ) : Type 0 where
   pub some : 1 ≤ r
   pub first : r ≤ a

@@ -1,10 +1,10 @@
-// Words written again and again, each copy greater than the one before by the same number.
+// Shifted copies of words: each copy exceeds the one before by the same number.
 ghost use Prim.Native.Nat.{_+_, _-_, _*_, _≤_, _<_};
 ghost use lib.ListN.{length, take, drop};
 ghost use Rattle.buffer.specs.Over.{Wrote, flat};
 ghost use Rattle.copies.specs.Copies.{shifted, copy, Lesser};
 
-// The n words from `from` on once more, each greater by `by`, modulo 65536. It stands in one loop so that it is compiled to vector code.
+// Writes the n words from `from` on again, each plus `by`, modulo 65536. A single plain loop, so that it compiles to vector code.
 fn write_copy(out: &mut [u16], from: usize, at: usize, n: usize, by: usize) -> usize
     requires { ⌜ (from + n ≤ at) × (by ≤ 65536) ⌝ ∗ ⌜ at + n ≤ length (now out) ⌝ }
     ensures { λ w. ⌜ Wrote (now (out .entry)) at (shifted by (take n (drop from (now (out .entry))))) (now (out .exit)) w ⌝ }
@@ -26,7 +26,7 @@ fn lesser(a: usize, b: usize) -> usize
     if a <= b { a } else { b }
 }
 
-// The n words from `at` on, k times in all; each time there are as many copies at once as stand there already, or as are left.
+// Writes copies of the n words from `at` on until there are k in all; each round copies all that are there, or as many as are left to write.
 pub fn write_copies(out: &mut [u16], at: usize, n: usize, k: usize, by: usize) -> usize
     requires { ⌜ (1 ≤ k) × (k ≤ 64) × (by ≤ 1024) ⌝ ∗ ⌜ at + k * n ≤ length (now out) ⌝ }
     ensures { λ w. ⌜ Wrote (now (out .entry)) (at + n) (flat (copy by (take n (drop at (now (out .entry))))) 1 (k - 1)) (now (out .exit)) w ⌝ }

@@ -1,5 +1,4 @@
--- The sides of a band: the outer line's segments, the inner lines' turned round, and each rung both ways.
--- Assumes nothing.
+-- The sides of a band: the outer line's segments, the inner lines' segments reversed, and each rung in both directions. Assumes nothing.
 use Prim.Native.Nat.{ℕ, _+_, _≤_, _<_}
 use mathlib.Core.Path.{_≡_, ap}
 use mathlib.Core.List.{List, [], _∷_}
@@ -12,24 +11,24 @@ use Rattle.cover.proofs.Hits.{sum-append}
 use Rattle.cover.proofs.Line.{Closed, line-from}
 use Rattle.cover.proofs.Strip.{rungs, strip-sides}
 
--- an edge by itself: some of the m outer segments and not all, and inner points that are apart, from `low` up to `top`
+-- one edge: it has at least one of the m outer segments but not all, and its inner vertices are distinct and lie from `low` up to `top`
 pub record Sound (m low top : ℕ) (e : Edge) : Type 0 where
   pub some : 1 ≤ e .p
   pub part : e .p < m
   pub inside : (j : ℕ) → j ≤ e .r → (low ≤ e .line j) × (e .line j < top)
   pub apart : (j k : ℕ) → j ≤ k → k ≤ e .r → e .line j ≡ e .line k → j ≡ k
 
--- two neighbours: the inner line of the one ends where the other's starts, and they have no other point in common
+-- two neighbouring edges: the inner line of d ends where that of e starts, and they have no other vertex in common
 pub record Meets (d e : Edge) : Type 0 where
   pub joint : d .line (d .r) ≡ e .line 0
   pub only : (j k : ℕ) → j ≤ d .r → k ≤ e .r → d .line j ≡ e .line k → (j ≡ d .r) × (k ≡ 0)
 
--- the edges that follow d, up to z, which comes after them
+-- the edges after d, up to z, which follows them
 abbrev pub Chain : (m low top : ℕ) → Edge → List Edge → Edge → Type 0
 Chain m low top d [] z = Meets d z
 Chain m low top d (e ∷ es) z = Sound m low top e × Meets d e × Chain m low top e es z
 
--- the edges z and es, walked round once: what a band asks for
+-- the edges z and es form a closed loop, as a band requires
 pub record Loop (F : ℕ → ℕ) (m low top : ℕ) (z : Edge) (es : List Edge) : Type 0 where
   pub closed : Closed F m
   pub big : 3 ≤ m
@@ -37,17 +36,17 @@ pub record Loop (F : ℕ → ℕ) (m low top : ℕ) (z : Edge) (es : List Edge) 
   pub first : Sound m low top z
   pub chain : Chain m low top z es z
 
--- the weights of the inner lines' segments
+-- the sum of a weight over the inner lines' segments
 unfoldable pub innerSum : (ℕ → ℕ → ℕ) → List Edge → ℕ
 innerSum f [] = 0
 innerSum f (e ∷ es) = lineSum f (e .line) (e .r) + innerSum f es
 
--- the weights of the rungs, from the outer line's o-th point on
+-- the sum of a weight over the rungs, from point o of the outer line on
 unfoldable pub cross : (ℕ → ℕ → ℕ) → (ℕ → ℕ) → ℕ → List Edge → ℕ
 cross f F o [] = 0
 cross f F o (e ∷ es) = rungs f (from o F) (e .line) (e .p) (e .r) + cross f F (o + e .p) es
 
--- a strip's sides, with the outer line's segments up to it
+-- the sides of a strip, with the outer line's segments before it
 next-sides : (f : ℕ → ℕ → ℕ) (F B : ℕ → ℕ) (o p r : ℕ)
     → sumSides f (strip (from o F) B p r) + f (F o) (B 0) + lineSum f F o
     ≡ rungs f (from o F) B p r + rungs (flip f) (from o F) B p r + f (F (o + p)) (B r) + lineSum f F (o + p) + lineSum (flip f) B r

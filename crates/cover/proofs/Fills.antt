@@ -1,5 +1,4 @@
--- Triangles that fill a closed line.
--- Assumes nothing.
+-- Triangles that fill a closed line. Assumes nothing.
 use Prim.Native.Nat.{ℕ, _+_, _≤_, _<_, min, max}
 use mathlib.Core.Path.{_≡_}
 use mathlib.Core.List.{List}
@@ -8,9 +7,8 @@ use Rattle.strip.specs.declared.triangle.Triangle.{Triangle}
 use Rattle.cover.specs.Sides.{hit, flip, sumSides, uses}
 use Rattle.cover.proofs.Hits.{hit-flip}
 
--- the triangles' sides together with the line's segments turned round:
--- each is there as often as its reverse, none twice, and all from `low` up to `top`
--- `line f` is the weights of the line's segments
+-- the triangles' sides together with the line's segments reversed: each occurs as often as its reverse, none occurs twice, and
+-- all vertices lie from `low` up to `top`; `line f` is the sum of f over the line's segments
 pub record Fills (low top : ℕ) (line : (ℕ → ℕ → ℕ) → ℕ) (ts : List Triangle) : Type 0 where
   pub even : (f : ℕ → ℕ → ℕ) → sumSides f ts + line (flip f) ≡ sumSides (flip f) ts + line f
   pub once : (x y : ℕ) → uses x y ts + line (hit y x) ≤ 1
@@ -20,6 +18,6 @@ module _ {low top : ℕ} {line : (ℕ → ℕ → ℕ) → ℕ} {ts : List Trian
   pub fills-turned : uses x y ts + line (hit y x) ≡ uses y x ts + line (hit x y)
   fills-turned = rw hit-flip at (d .even (hit x y))
 
-  -- both ends of a side are within
+  -- both ends of a side lie within
   pub fills-in : 1 ≤ uses x y ts + line (hit y x) → (low ≤ min x y) × (max x y < top)
   fills-in h = omega (arith, d .within x y h, d .within y x (omega (arith, fills-turned)))

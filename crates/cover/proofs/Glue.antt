@@ -31,7 +31,7 @@ module _ (F : ℕ → ℕ) (m low mid top : ℕ) (z : Edge) (es : List Edge) (w 
       (λ h k. omega (arith, rungs-in x y h, rungs-in y x k))
 
   module _ (ts : List Triangle) (d : Fills mid top (λ f. innerSum f (z ∷ es)) ts) where
-    -- all sides, with the outer line's turned round, are of three kinds
+    -- all sides, with the outer line's segments reversed, are of three kinds
     kinds : (f g : ℕ → ℕ → ℕ) → flip f ≡ g → sumSides f (band F (z ∷ es) ++ ts) + lineSum g F m
         ≡ lineSum f F m + lineSum g F m + (sumSides f ts + innerSum g (z ∷ es)) + (cross f F 0 (z ∷ es) + cross g F 0 (z ∷ es))
     kinds f g e = rw (← e) (simp sum-append (omega (arith, band-sides F m mid top z es w f)))

@@ -1,5 +1,5 @@
--- The cells of a grid fill its rim: each segment of the grid is walked once each way, also where the grid is a line or a point.
--- Assumes nothing.
+-- The cells of a grid fill its border: each segment of the grid occurs once in each direction, also if the grid is a line or a
+-- point. Assumes nothing.
 use Prim.Native.Nat.{ℕ, zero, suc, _+_, _*_, _-_, _≤_, _<_}
 use mathlib.Core.Path.{_≡_, refl, ap}
 use native.Mathlib.Omega.{arith}
@@ -13,11 +13,11 @@ use Rattle.cover.proofs.Line.{line-back}
 use Rattle.cover.proofs.Band.{innerSum}
 use Rattle.cover.proofs.Fills.{Fills}
 
--- a weight of the pairs of points of rows and columns, over the first R rows and C columns
+-- the sum of a weight over pairs of vertices, for the first R rows and C columns
 abbrev over : (ℕ → ℕ → ℕ) → (P Q : ℕ → ℕ → ℕ) → ℕ → ℕ → ℕ
 over f P Q R C = sum (λ r. sum (λ c. f (P r c) (Q r c)) C) R
 
--- the weights of the segments of a grid's rows, of its columns, and of its cells' diagonals
+-- the sums of a weight over the segments of a grid's rows, of its columns, and over its cells' diagonals
 segments : (ℕ → ℕ → ℕ) → (ℕ → ℕ → ℕ) → ℕ → ℕ → ℕ
 segments f P a b =
     over f P (λ r c. P r (suc c)) (suc a) b + over f P (λ r c. P (suc r) c) a (suc b) + over f P (λ r c. P (suc r) (suc c)) a b
@@ -49,7 +49,7 @@ module _ (f : ℕ → ℕ → ℕ) (P : ℕ → ℕ → ℕ) where
         line-back (flip f) (λ k. P a (b - k)) (P a) b (λ j k h. ap (P a) (omega arith)),
       )
 
--- where a side x→y stands that leads from a point of the grid's first R rows and C columns to the number d further on
+-- the position of a side x→y from a vertex in the first R rows and C columns to the vertex d further on
 record Spot (start b R C d x y : ℕ) : Type 0 where
   c : ℕ
   column : c < C
@@ -80,7 +80,7 @@ module _ (start b : ℕ) where
   unfolding gridAt
   grid-in a r c h k = omega (arith, mul-le-mul-right (suc b) h)
 
-  -- the sides of one kind: none twice, and each at its spot
+  -- the sides of one kind: none occurs twice, and each has its position
   kind : (Q : ℕ → ℕ → ℕ) (R C d : ℕ) → ((r c : ℕ) → Q r c ≡ P r c + d) → C ≤ suc b → (x y : ℕ)
       → (over (hit x y) P Q R C ≤ 1) × (1 ≤ over (hit x y) P Q R C → Spot start b R C d x y)
   unfolding gridAt
@@ -104,7 +104,7 @@ module _ (start b : ℕ) where
         },
   )
 
-  -- no segment is there twice, and each leads on to a greater number
+  -- no segment occurs twice, and each leads to a greater number
   segments-at : (a x y : ℕ) → (segments (hit x y) P a b ≤ 1)
       × (1 ≤ segments (hit x y) P a b → (start ≤ x) × (x < y) × (y < start + suc a * suc b))
   unfolding segments gridAt
@@ -124,7 +124,7 @@ module _ (start b : ℕ) where
       )
 
   module _ (a c0 c1 c2 c3 : ℕ) where
-    -- the cells' sides and the rim's turned round are the segments, both ways
+    -- the cells' sides and the border's segments reversed are the segments in both directions
     both-ways : (f g : ℕ → ℕ → ℕ) → flip f ≡ g
         → sumSides f (cells P a b) + innerSum g (gridEdges P a b c0 c1 c2 c3)
         ≡ segments f P a b + segments g P a b

@@ -1,5 +1,4 @@
--- The triangles of a quad patch are, strip by strip and cell by cell, those that document 01 lists.
--- Assumes nothing.
+-- The triangles of a quad patch are those that document 01 lists, strip by strip and cell by cell. Assumes nothing.
 use Prim.Native.Nat.{ℕ, suc, _+_, _-_}
 use mathlib.Core.Path.{_≡_, refl, ap₂, fun-ext}
 use mathlib.Core.List.{_++_, append-assoc, append-nil}
@@ -20,7 +19,7 @@ module _ (c : ℕ → ℕ) (n : ℕ) where
   abbrev total : ℕ
   total = 0 + (c 0 + c 1 + c 2 + c 3)
 
-  -- the grid's vertices, by their row and column
+  -- the vertices of the grid by row and column
   abbrev P : ℕ → ℕ → ℕ
   P = gridAt total (n - 1)
 
@@ -28,7 +27,7 @@ module _ (c : ℕ → ℕ) (n : ℕ) where
   unfolding gridAt sum
   grid-vertex r s x y h k = rw (h, k) (omega arith)
 
-  -- the outline's, from the o-th on
+  -- the vertices of the outline from number o on
   outline-vertex : (k o : ℕ) → sum c k ≡ o → (i : ℕ) → from o (ringAt 0 (c 0 + c 1 + c 2 + c 3)) i ≡ outlineOn c k i
   unfolding sum
   outline-vertex k o h i =
@@ -60,7 +59,7 @@ module _ (c : ℕ → ℕ) (n : ℕ) where
         let e = strip-at 3 (0 + c 0 + c 1 + c 2) (n - 2) (λ k. P (m - 2) (n - 2 - k)) refl refl (λ i. grid-vertex _ _ (m - 1) (n - 1 - i) (omega arith) (omega arith)) in
         rw (a, b, d, e) (simp (append-assoc, append-nil))
 
--- the list of a quad patch's triangles is the four strips in walk order, each against the nearest line of the grid, then the cells
+-- the triangles of a quad patch are the four strips in walk order, each to the nearest line of the grid, then the cells
 pub quad-exactly : (c : ℕ → ℕ) (m n : ℕ) → quad 0 (c 0) (c 1) (c 2) (c 3) m n ≡ gridStrips c m n
 unfolding quad
 quad-exactly c m n = ap₂ (λ s t. s ++ t) (same-band c n m) (same-cells c n m)

@@ -1,5 +1,4 @@
--- Laws of hits, and of the sums of weights over sides.
--- Assumes nothing.
+-- Laws of `hit`, and of sums of a weight over sides. Assumes nothing.
 use Prim.Native.Nat.{ℕ, _+_, _≤_}
 use mathlib.Core.Path.{_≡_, refl, ap₂, fun-ext}
 use mathlib.Core.Bool.{Bool, true, false}

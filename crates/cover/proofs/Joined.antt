@@ -1,5 +1,4 @@
--- Laws of lists of triangles one after the other.
--- Assumes nothing.
+-- Laws of joined lists of triangles. Assumes nothing.
 use Prim.Native.Nat.{ℕ, zero, suc}
 use mathlib.Core.Path.{_≡_, refl, sym, ap, ap₂, _∙_}
 use mathlib.Core.List.{List, _++_, append-assoc, append-nil}

@@ -1,5 +1,4 @@
--- How many triangles, lines and dots there are.
--- Assumes nothing.
+-- The numbers of triangles, lines and dots. Assumes nothing.
 use Prim.Native.Nat.{ℕ, zero, suc, _+_, _*_, _-_}
 use mathlib.Core.Path.{_≡_, refl}
 use mathlib.Core.List.{List, [], _∷_}
@@ -33,7 +32,7 @@ unfolding quad bandFrom
 quad-length base c0 c1 c2 c3 m n =
     simp (length-append, strip-length) (omega (arith, cells-length (gridAt (base + (c0 + c1 + c2 + c3)) (n - 1)) (m - 2) (n - 2)))
 
--- ---- the words of isolines and dots
+-- ---- the index words of isolines and dots
 pub isolines-length : (m n : ℕ) → length (isolines m n) ≡ 2 * (m * n)
 unfolding isolines
 isolines-length m n =

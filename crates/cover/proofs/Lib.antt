@@ -1,4 +1,4 @@
--- The laws of sides, lowest first: sums, lines, strips, bands, and what fills an outline.
+-- The laws of `cover`, lowest first: sums, lines, strips, bands, and what fills an outline.
 pub mod Sums
 pub mod Hits
 pub mod Line

@@ -1,5 +1,4 @@
--- The segments of a line.
--- Assumes nothing.
+-- The segments of a line. Assumes nothing.
 use Prim.Native.Nat.{ℕ, zero, suc, _+_, _≤_, _<_, min, max}
 use mathlib.Core.Path.{_≡_, refl, ap₂}
 use mathlib.Core.Logic.{_⊎_, ⊎-elim}
@@ -11,13 +10,13 @@ use Rattle.cover.specs.Band.{from}
 use Rattle.cover.proofs.Sums.{part, sum-once, sum-first, one-of-two}
 use Rattle.cover.proofs.Hits.{hit-le, hit-at, hit-self}
 
--- the segments of a line from its o-th point on
+-- the segments of a line up to point o, and from there on
 pub line-from : (f : ℕ → ℕ → ℕ) (F : ℕ → ℕ) (o n : ℕ) → lineSum f F (o + n) ≡ lineSum f F o + lineSum f (from o F) n
 unfolding sum
 line-from f F o zero = rw (add-zero o) (omega arith)
 line-from f F o (suc n) = rw add-suc (omega (arith, line-from f F o n))
 
--- a line walked back
+-- a line walked backwards
 pub line-back : (f : ℕ → ℕ → ℕ) (A B : ℕ → ℕ) (n : ℕ) → ((j k : ℕ) → j + k ≡ n → A j ≡ B k) → lineSum f A n ≡ lineSum (flip f) B n
 unfolding sum
 line-back f A B zero e = refl
@@ -29,7 +28,7 @@ line-back f A B (suc n) e =
       ap₂ f (e n 1 (omega arith)) (e (suc n) 0 (omega arith)),
     )
 
--- a segment that occurs occurs somewhere
+-- a segment that occurs has a place on the line
 pub record Piece (F : ℕ → ℕ) (x y n : ℕ) : Type 0 where
   pub k : ℕ
   pub below : k < n
@@ -51,7 +50,7 @@ pieces-at F k (suc n) h = elim (decLe n k) [
   | no l ↦ omega (arith, pieces-at F k n (omega arith))
 ]
 
--- where a line's points are from `low` up to `top`, the ends of its segments are
+-- if a line's vertices lie from `low` up to `top`, so do the ends of its segments
 pub line-in : (F : ℕ → ℕ) (n low top : ℕ) → ((k : ℕ) → k ≤ n → (low ≤ F k) × (F k < top))
     → (x y : ℕ) → 1 ≤ lineSum (hit x y) F n + lineSum (hit y x) F n → (low ≤ min x y) × (max x y < top)
 line-in F n low top on x y h =
@@ -60,12 +59,12 @@ line-in F n low top on x y h =
     of : (p q : ℕ) → Piece F p q n → (low ≤ min p q) × (max p q < top)
     of p q s = omega (arith, on (s .k) (omega arith), on (suc (s .k)) (s .below))
 
--- the points 0 to n of a line that closes: the last is the first, and no others are alike
+-- the vertices 0 to n of a closed line: the last equals the first, and all others differ
 pub record Closed (F : ℕ → ℕ) (n : ℕ) : Type 0 where
   pub close : F n ≡ F 0
   pub same : (j k : ℕ) → j ≤ k → k ≤ n → F j ≡ F k → (j ≡ k) ⊎ ((j ≡ 0) × (k ≡ n))
 
--- no segment of a closed line of 3 or more is there twice, or with its reverse
+-- no segment of a closed line of 3 or more segments occurs twice, or together with its reverse
 pub line-once : (F : ℕ → ℕ) (x y n : ℕ) → (1 ≤ n → 3 ≤ n) → Closed F n → lineSum (hit x y) F n + lineSum (hit y x) F n ≤ 1
 line-once F x y n big c =
     one-of-two _ _ (once x y) (once y x)

@@ -1,5 +1,4 @@
--- Triangles that fill a ring close up as a mesh needs.
--- Assumes nothing.
+-- Triangles that fill a ring make a watertight mesh. Assumes nothing.
 use Prim.Native.Nat.{ℕ, _+_, _≤_, _<_}
 use mathlib.Core.Path.{_≡_}
 use mathlib.Core.Logic.{inl, inr}
@@ -15,7 +14,7 @@ use Rattle.cover.proofs.Line.{piece, pieces-at, line-once}
 use Rattle.cover.proofs.Ring.{ring-closed}
 use Rattle.cover.proofs.Fills.{Fills, fills-turned}
 
--- where every used side is within, every triangle is
+-- if the vertices of every side lie in the range, those of every triangle do
 all-within : (base top : ℕ) (ts : List Triangle) → ((x y : ℕ) → 1 ≤ uses x y ts → (base ≤ x) × (x < top)) → Within base top ts
 unfolding sumSides
 all-within base top [] h = tt

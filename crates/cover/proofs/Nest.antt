@@ -1,5 +1,4 @@
--- The nested rings of a triangle fill its outline.
--- Assumes nothing.
+-- The nested rings of a triangle patch fill its outline. Assumes nothing.
 use Prim.Native.Nat.{ℕ, zero, suc, _+_, _*_, _≤_, _<_, max}
 use mathlib.Core.Path.{_≡_, refl, ap, _∙_, fun-ext}
 use mathlib.Core.Logic.{⊎-elim}
@@ -50,7 +49,7 @@ module _ (inner r : ℕ) where
         only = λ i j s t e. ⊎-elim (λ g. omega arith) (λ g. omega arith) (c .same (0 * r + j) (2 * r + i) (omega arith) (omega arith) (cc));
       }
 
-  -- the three inner lines are the ring
+  -- the three inner lines together are the ring
   inner-ring : (f : ℕ → ℕ → ℕ) (c0 c1 c2 : ℕ) → ringSum f inner (3 * r) ≡ innerSum f (ringEdges inner r c0 c1 c2)
   unfolding innerSum sum
   inner-ring f c0 c1 c2 =
@@ -61,7 +60,7 @@ module _ (inner r : ℕ) where
           ≡ lineSum f (ringAt inner (3 * r)) (k * r) + lineSum f (from (k * r) (ringAt inner (3 * r))) r
       upto k = let e : suc k * r ≡ k * r + r = omega arith in rw e (line-from f (ringAt inner (3 * r)) (k * r) r)
 
--- one ring's band and what fills the ring within
+-- one ring's band, and triangles that fill the ring inside
 wrap : (base c0 c1 c2 r m top : ℕ) (ts : List Triangle) → c0 + c1 + c2 ≡ m → 1 ≤ c0 → 1 ≤ c1 → 1 ≤ c2 → base + m + max 1 (3 * r) ≤ top
     → Fills (base + m) top (λ f. ringSum f (base + m) (3 * r)) ts
     → Fills base top (λ f. ringSum f base m) (band (ringAt base m) (ringEdges (base + m) r c0 c1 c2) ++ ts)
@@ -84,7 +83,7 @@ wrap base c0 c1 c2 r m top ts em h0 h1 h2 room d =
     edge : (k p : ℕ) → k ≤ 2 → 1 ≤ p → p < m → Sound m (base + m) top (ringEdge (base + m) r k p)
     edge = sound (base + m) r m top room
 
--- the innermost: nothing, and one triangle
+-- the innermost ring: no triangle, or one
 fills-none : (base top : ℕ) → Fills base top (λ f. ringSum f base 0) []
 unfolding sumSides sum
 fills-none base top = record { even = λ f. refl; once = λ x y. omega arith; within = λ x y h. absurd (omega arith) }

@@ -1,5 +1,4 @@
--- The two triangles of a plain quad fill its outline.
--- Assumes nothing.
+-- The two triangles of a plain quad patch fill its outline. Assumes nothing.
 use Prim.Native.Nat.{ℕ, suc, _+_, _≤_}
 use mathlib.Core.Path.{_≡_}
 use mathlib.Core.Logic.{⊎-elim}
@@ -21,12 +20,12 @@ module _ (base : ℕ) where
   abbrev F : ℕ → ℕ
   F = ringAt base 4
 
-  -- the outline's pieces, and the diagonal both ways
+  -- the sides are the outline's pieces, and the diagonal in both directions
   plain-sides : (f : ℕ → ℕ → ℕ) → sumSides f (plainQuad base) ≡ ringSum f base 4 + f base (base + 2) + f (base + 2) base
   unfolding sumSides sum ringAt
   plain-sides f = simp add-zero (omega arith)
 
-  -- the diagonal is no piece of the outline
+  -- the diagonal is not a piece of the outline
   not-across : (x y : ℕ) → 1 ≤ lineSum (hit x y) F 4 → (x + 2 ≡ y → ⊥) × (y + 2 ≡ x → ⊥)
   not-across x y h =
       let s = piece F x y 4 h in

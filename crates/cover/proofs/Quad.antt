@@ -1,5 +1,4 @@
--- A quad's band and grid fill its outline.
--- Assumes nothing.
+-- A quad patch's band and grid fill its outline. Assumes nothing.
 use Prim.Native.Nat.{ℕ, suc, _+_, _*_, _-_, _≤_, _<_}
 use mathlib.Core.Path.{_≡_, refl, ap₂}
 use mathlib.Core.List.{[], _∷_, _++_}
@@ -16,18 +15,18 @@ use Rattle.cover.proofs.Glue.{glue}
 use Rattle.cover.proofs.Mesh.{closes}
 use Rattle.cover.proofs.Grid.{grid-same, grid-in, grid-fills}
 
--- a walk of n segments over the rows 0 to a and the columns 0 to b
+-- a path of n segments over the rows 0 to a and the columns 0 to b
 record Trail (a b : ℕ) : Type 0 where
   n : ℕ
   row : ℕ → ℕ
   column : ℕ → ℕ
   on : (k : ℕ) → k ≤ n → (row k ≤ a) × (column k ≤ b)
 
--- it does not come back
+-- the path visits no vertex twice
 record Straight {a b : ℕ} (w : Trail a b) : Type 0 where
   apart : (j k : ℕ) → j ≤ k → k ≤ w .n → w .row j ≡ w .row k → w .column j ≡ w .column k → j ≡ k
 
--- another goes on from its end, and they have no other point in common
+-- the path w starts where v ends, and they have no other vertex in common
 record Turns {a b : ℕ} (v w : Trail a b) : Type 0 where
   row : v .row (v .n) ≡ w .row 0
   column : v .column (v .n) ≡ w .column 0
@@ -93,7 +92,7 @@ module _ (base c0 c1 c2 c3 a b m : ℕ) (em : c0 + c1 + c2 + c3 ≡ m) (h0 : 1 �
       glue (ringAt base m) m base (base + m) (base + m + suc a * suc b) _ _ loop (λ i h. omega (arith, ring-in base m i h)) _
       (grid-fills (base + m) b a c0 c1 c2 c3)
 
--- with m segments by n inside
+-- with m by n inner segments
 module _ (base c0 c1 c2 c3 m n : ℕ) (h0 : 1 ≤ c0) (h1 : 1 ≤ c1) (h2 : 1 ≤ c2) (h3 : 1 ≤ c3) (hm : 2 ≤ m) (hn : 2 ≤ n) where
   quad-fills : Fills base (base + quadPoints c0 c1 c2 c3 m n) (λ f. ringSum f base (c0 + c1 + c2 + c3)) (quad base c0 c1 c2 c3 m n)
   unfolding quad

@@ -1,5 +1,4 @@
--- The points of a closed ring.
--- Assumes nothing.
+-- The vertices of a closed ring. Assumes nothing.
 use Prim.Native.Nat.{ℕ, _+_, _≤_, _<_, max}
 use mathlib.Core.Path.{_≡_, refl}
 use mathlib.Core.Logic.{_⊎_, inl, inr, ⊎-elim}
@@ -10,7 +9,7 @@ use borrow.Author.Tests.{eqb-true, eqb-false}
 use Rattle.cover.specs.Ring.{ringAt}
 use Rattle.cover.proofs.Line.{Closed}
 
--- a ring's point is its last one, at the base, or stands as far from the base as it is counted
+-- vertex k of a ring is `base` if k is `total`, and otherwise `base` + k
 pub ring-point : (base total k : ℕ) → ((k ≡ total) × (ringAt base total k ≡ base)) ⊎ ((k ≡ total → ⊥) × (ringAt base total k ≡ base + k))
 unfolding ringAt
 ring-point base total k = go (eqb k total) refl

@@ -1,5 +1,4 @@
--- The nested rings' triangles are, strip by strip, those that document 01 lists.
--- Assumes nothing.
+-- The triangles of nested rings are those that document 01 lists, strip by strip. Assumes nothing.
 use Prim.Native.Nat.{ℕ, zero, suc, _+_, _*_, _/_, _%_}
 use mathlib.Core.Path.{_≡_, refl, sym, ap, ap₂, _∙_}
 use mathlib.Core.List.{List, _++_, append-assoc, append-nil}
@@ -18,14 +17,14 @@ use Rattle.cover.proofs.Joined.{joined-first, joined-same}
 use Rattle.cover.proofs.Sums.{sum-constant}
 use Rattle.cover.proofs.RingVertices.{segments-inside, edge-inside, first-inside}
 
--- ---- a strip between parts of two rings, by numbers
+-- ---- a strip between parts of two rings, by vertex numbers
 abbrev part : ℕ → ℕ → ℕ → ℕ → ℕ → ℕ → ℕ → ℕ → List Triangle
 part x m o p y m′ o′ r = strip (from o (ringAt x m)) (from o′ (ringAt y m′)) p r
 
 same-part : {x x′ m n o o′ p p′ y y′ u u′ v v′ r r′ : ℕ} → x ≡ x′ → m ≡ n → o ≡ o′ → p ≡ p′ → y ≡ y′ → u ≡ u′ → v ≡ v′ → r ≡ r′ → part x m o p y u v r ≡ part x′ n o′ p′ y′ u′ v′ r′
 same-part hx hm ho hp hy hu hv hr = λ i. part (hx i) (hm i) (ho i) (hp i) (hy i) (hu i) (hv i) (hr i)
 
--- the list, for vertices that are numbered from `base` on
+-- the strips of a patch whose vertices are numbered from `base` on
 abbrev partFrom : ℕ → (ℕ → ℕ) → ℕ → ℕ → ℕ → List Triangle
 partFrom base c n j k =
     part (base + ringFirst c n j) (ringSize c n j) (edgeFirst c n j k) (ringSegments c n j k)
@@ -38,7 +37,7 @@ module _ (base : ℕ) (c : ℕ → ℕ) (r : ℕ) where
   abbrev total : ℕ
   total = c 0 + c 1 + c 2
 
-  -- the pairs of rings further in
+  -- the pairs of rings further inside
   first-from : (j : ℕ) → base + ringFirst c (suc (suc r)) (suc j) ≡ base + total + ringFirst (λ _. r) r j
   unfolding sum
   first-from j = omega (arith, first-inside c r j)
@@ -47,7 +46,7 @@ module _ (base : ℕ) (c : ℕ → ℕ) (r : ℕ) where
   part-inside j k = same-part (first-from j) (edge-inside c r j 3) (edge-inside c r j k) (segments-inside c r j k)
       (first-from (suc j)) (edge-inside c r (suc j) 3) (edge-inside c r (suc j) k) (segments-inside c r (suc j) k)
 
-  -- the first pair
+  -- the outermost pair of rings
   part-first : (k o : ℕ) → edgeFirst c (suc (suc r)) 0 k ≡ o → partFrom base c (suc (suc r)) 0 k ≡ part base total o (c k) (base + total) (3 * r) (k * r) r
   unfolding sum
   part-first k o h =
@@ -85,7 +84,7 @@ nest-from (suc (suc r)) base c =
     ap (λ ts. band (ringAt base (c 0 + c 1 + c 2)) (ringEdges (base + (c 0 + c 1 + c 2)) r (c 0) (c 1) (c 2)) ++ ts) (nest-from r (base + (c 0 + c 1 + c 2)) (λ _. r))
     ∙ sym (list-inside base c r)
 
--- the list of a triangle patch's triangles is, for each pair of rings, the three strips in walk order, then the innermost ring's own
+-- the triangles of a triangle patch are the three strips of each pair of rings, in walk order, then that of the innermost ring
 pub nest-exactly : (c : ℕ → ℕ) (n : ℕ) → nest 0 (c 0) (c 1) (c 2) n ≡ ringStrips c n
 nest-exactly c n =
     let here : (j k : ℕ) → partFrom 0 c n j k ≡ ringStrip c n j k = λ j k. same-part (zero-add _) refl refl refl (zero-add _) refl refl refl in

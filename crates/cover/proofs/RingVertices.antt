@@ -1,5 +1,4 @@
--- Laws of the numbers of a triangle patch's vertices.
--- Assumes nothing.
+-- Laws of the vertex numbers of a triangle patch. Assumes nothing.
 use Prim.Native.Nat.{ℕ, zero, suc, _+_, _%_, _<_}
 use mathlib.Core.Path.{_≡_, refl, sym, ap, _∙_}
 use native.Mathlib.Omega.{arith}
@@ -9,7 +8,7 @@ use Rattle.cover.specs.RingVertices.{ringSegments, edgeFirst, ringSize, 
 use Rattle.cover.proofs.Sums.{sum-within}
 use Rattle.cover.proofs.Ring.{ring-zero, ring-last, ring-before}
 
--- ---- the rings inside the outer ring are numbered as those of a patch of their own, after the outer ring's vertices
+-- ---- the rings inside the outer ring are numbered like those of a separate patch, after the outer ring's vertices
 module _ (c : ℕ → ℕ) (r : ℕ) where
   pub segments-inside : (j k : ℕ) → ringSegments c (suc (suc r)) (suc j) k ≡ ringSegments (λ _. r) r j k
   segments-inside zero k = omega arith
@@ -27,11 +26,11 @@ module _ (c : ℕ → ℕ) (r : ℕ) where
 
 -- ---- along the edges of a ring
 module _ (c : ℕ → ℕ) (n j : ℕ) where
-  -- before an edge's end
+  -- a vertex before the end of its edge
   pub vertex-before : (k i : ℕ) → k < 3 → i < ringSegments c n j k → vertexOn c n j k i ≡ ringFirst c n j + (edgeFirst c n j k + i)
   vertex-before k i h l = ring-before (ringFirst c n j) (ringSize c n j) (edgeFirst c n j k + i) (sum-within (ringSegments c n j) 3 k i h l)
 
-  -- an edge's end is the next edge's first vertex
+  -- the end of an edge is the first vertex of the next
   pub vertex-end : (k : ℕ) → k < 3 → vertexOn c n j k (ringSegments c n j k) ≡ vertexOn c n j ((k + 1) % 3) 0
   unfolding sum
   vertex-end zero h = ap (ringAt (ringFirst c n j) (ringSize c n j)) (omega arith)

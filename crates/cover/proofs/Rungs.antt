@@ -1,5 +1,4 @@
--- No rung of a band is there twice.
--- Assumes nothing.
+-- No rung of a band occurs twice. Assumes nothing.
 use Prim.Native.Nat.{ℕ, _+_, _≤_, _<_}
 use mathlib.Core.Path.{_≡_, refl}
 use mathlib.Core.Logic.{⊎-elim}
@@ -14,15 +13,15 @@ use Rattle.cover.proofs.Line.{Closed}
 use Rattle.cover.proofs.Strip.{rungs, strip-rung, strip-once}
 use Rattle.cover.proofs.Band.{Sound, Meets, Chain, Loop, cross}
 
--- a rung of a band stands at a point of the outer line and at an inner point
+-- a rung of a band connects a vertex of the outer line and an inner vertex
 pub record Ends (F : ℕ → ℕ) (m low top x y : ℕ) : Type 0 where
   pub i : ℕ
   pub i-to : i ≤ m
   pub end : y ≡ F i
   pub inside : (low ≤ x) × (x < top)
 
--- one of the edges that follow d: at their first outer point it is at no
--- earlier point of d's inner line, and at their last at no point of z's
+-- a rung of an edge after d: at its first outer vertex it does not reach an earlier vertex of d's inner line, and at its last
+-- outer vertex it does not reach a vertex of z's
 record Later (F : ℕ → ℕ) (m low top : ℕ) (d z : Edge) (o x y : ℕ) : Type 0 where
   spot : Ends F m low top x y
   i-from : o ≤ spot .i
@@ -30,12 +29,12 @@ record Later (F : ℕ → ℕ) (m low top : ℕ) (d z : Edge) (o x y : ℕ) : Ty
   last : spot .i ≡ m → (k : ℕ) → k ≤ z .r → x ≡ z .line k → ⊥
 
 module _ (F : ℕ → ℕ) (m low top : ℕ) where
-  -- a rung of the strip of one edge
+  -- a rung of one edge's strip
   abbrev of : (o : ℕ) (e : Edge) (x y : ℕ) → Sound m low top e → o + e .p ≤ m → Rung (from o F) (e .line) x y 0 0 (e .p) (e .r)
       → Ends F m low top x y
   of o e x y h u s = record { i = o + s .i; i-to = omega arith; end = s .end; inside = rw (s .start) (h .inside (s .j) (s .j-to)) }
 
-  -- no rung of that strip is there twice
+  -- no rung of that strip occurs twice
   once : (o : ℕ) (e : Edge) (x y : ℕ) → Closed F m → Sound m low top e → o + e .p ≤ m
       → rungs (hit x y) (from o F) (e .line) (e .p) (e .r) ≤ 1
   once o e x y cF h u =
@@ -44,7 +43,7 @@ module _ (F : ℕ → ℕ) (m low top : ℕ) where
       ⊎-elim (λ s. omega (arith, h .apart j j′ c d w)) (λ s. omega (arith, h .part)) (cF .same (o + i) (o + i′) (omega arith) (omega arith) v))
 
 module _ (F : ℕ → ℕ) (m low top : ℕ) (z : Edge) where
-  -- where no outer segment is left no edge is
+  -- if no outer segment is left, no edge is left
   ended : (es : List Edge) (d : Edge) → outers es ≡ 0 → Chain m low top d es z → Meets d z
   ended [] d h c = c
   ended (e ∷ es) d h c = absurd (omega (arith, c .0 .some))

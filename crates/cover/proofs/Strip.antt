@@ -1,5 +1,4 @@
--- The sides and the rungs of a whole strip.
--- Assumes nothing.
+-- The sides and the rungs of a whole strip. Assumes nothing.
 use Prim.Native.Nat.{ℕ, _+_, _≤_}
 use mathlib.Core.Path.{_≡_}
 use native.Mathlib.Omega.{arith}
@@ -9,7 +8,7 @@ use Rattle.strip.proofs.Rule.{rule}
 use Rattle.cover.specs.Sides.{hit, flip, sumSides, sum, lineSum}
 use Rattle.cover.proofs.Walk.{Way, Rung, downs, sides, rung, rungs-once}
 
--- the weights of the strip's rungs
+-- the sum of a weight over the strip's rungs
 pub rungs : (ℕ → ℕ → ℕ) → (ℕ → ℕ) → (ℕ → ℕ) → ℕ → ℕ → ℕ
 rungs f A B p r = downs f A B (outerNext p r) (p + r) 0 0
 

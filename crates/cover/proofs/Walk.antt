@@ -1,5 +1,4 @@
--- The walk along a strip, step by step: its sides and its rungs.
--- Assumes nothing.
+-- The walk along a strip, step by step: its sides and its rungs. Assumes nothing.
 use Prim.Native.Nat.{ℕ, zero, suc, _+_, _≤_, _<_}
 use mathlib.Core.Path.{_≡_}
 use mathlib.Core.Bool.{Bool, true, false}
@@ -12,12 +11,12 @@ use Rattle.cover.specs.Sides.{hit, flip, sideSum, sumSides, sum, lineSum
 use Rattle.cover.proofs.Sums.{none}
 use Rattle.cover.proofs.Hits.{hit-le, hit-at}
 
--- the weights of the walk's rungs, from the inner line to the outer
+-- the sum of a weight over the walk's rungs, from the inner line to the outer
 unfoldable pub downs : (ℕ → ℕ → ℕ) → (ℕ → ℕ) → (ℕ → ℕ) → (ℕ → ℕ → Bool) → ℕ → ℕ → ℕ → ℕ
 downs f A B next zero a b = 0
 downs f A B next (suc n) a b = f (B b) (A a) + downs f A B next n (stepOuter (next a b) a) (stepInner (next a b) b)
 
--- one step: its triangle's sides are a segment and two rungs
+-- one step: the sides of its triangle are a segment and two rungs
 step-sides : (f : ℕ → ℕ → ℕ) (A B : ℕ → ℕ) (t : Bool) (a b : ℕ)
     → sideSum f (stepTriangle A B t a b) + lineSum f A a + lineSum (flip f) B b
     ≡ f (B b) (A a) + f (A (stepOuter t a)) (B (stepInner t b)) + lineSum f A (stepOuter t a) + lineSum (flip f) B (stepInner t b)

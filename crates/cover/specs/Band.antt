@@ -1,11 +1,10 @@
--- A band of strips between a closed outer line and the inner lines of its edges.
--- Assumes nothing.
+-- A band: the strips between a closed outer line and an inner line for each edge. Assumes nothing.
 use Prim.Native.Nat.{ℕ, _+_}
 use mathlib.Core.List.{List, [], _∷_, _++_}
 use Rattle.strip.specs.declared.triangle.Triangle.{Triangle}
 use Rattle.strip.specs.Strips.{strip}
 
--- the points of a line from its o-th on
+-- the line F from its point o on
 abbrev pub from : ℕ → (ℕ → ℕ) → ℕ → ℕ
 from o F i = F (o + i)
 
@@ -15,16 +14,16 @@ pub record Edge : Type 0 where
   pub r : ℕ
   pub line : ℕ → ℕ
 
--- the segments of all edges on the outer line
+-- the segments of all edges' outer lines together
 abbrev pub outers : List Edge → ℕ
 outers [] = 0
 outers (e ∷ es) = e .p + outers es
 
--- a strip for each edge, in walk order, along the outer line F from its o-th point on
+-- one strip per edge, in walk order, along the outer line F from its point o on
 unfoldable pub bandFrom : (ℕ → ℕ) → ℕ → List Edge → List Triangle
 bandFrom F o [] = []
 bandFrom F o (e ∷ es) = strip (from o F) (e .line) (e .p) (e .r) ++ bandFrom F (o + e .p) es
 
--- the same from the outer line's first point on
+-- the band along the whole outer line F
 abbrev pub band : (ℕ → ℕ) → List Edge → List Triangle
 band F es = bandFrom F 0 es

@@ -1,4 +1,4 @@
--- The triangles of patches by vertex number, and their sides.
+-- The definitions of `cover`: the triangles of patches by vertex number, and their sides.
 pub mod Sides
 pub mod Ring
 pub mod Band

@@ -1,5 +1,4 @@
--- The triangles of a triangle patch, by vertex number: nested rings, and between two rings a band of three strips.
--- Assumes nothing.
+-- The triangles of a triangle patch by vertex number: nested rings, with a band of three strips between each two. Assumes nothing.
 use Prim.Native.Nat.{ℕ, zero, suc, _+_, _*_, _≤_}
 use mathlib.Core.Path.{_≡_}
 use mathlib.Core.List.{List, [], _∷_, _++_}
@@ -7,7 +6,7 @@ use Rattle.strip.specs.declared.triangle.Triangle.{Triangle}
 use Rattle.cover.specs.Ring.{ringAt}
 use Rattle.cover.specs.Band.{from, Edge, band}
 
--- edge k of the band around a ring whose edges have r segments and whose points are numbered from `inner`
+-- edge k, of p segments, of the band around a ring whose edges have r segments and whose vertices are numbered from `inner`
 abbrev pub ringEdge : ℕ → ℕ → ℕ → ℕ → Edge
 ringEdge inner r k p = record { p = p; r = r; line = from (k * r) (ringAt inner (3 * r)) }
 
@@ -15,28 +14,27 @@ ringEdge inner r k p = record { p = p; r = r; line = from (k * r) (ringAt inner 
 abbrev pub ringEdges : ℕ → ℕ → ℕ → ℕ → ℕ → List Edge
 ringEdges inner r c0 c1 c2 = ringEdge inner r 0 c0 ∷ ringEdge inner r 1 c1 ∷ ringEdge inner r 2 c2 ∷ []
 
--- the triangles where the outer ring's edges have c0, c1 and c2 segments and the inner level gives n:
--- from the outer ring to ring 1, then inwards;
--- for odd n the innermost ring's three points are one more
+-- the triangles of a ring with c0, c1 and c2 segments and of all rings inside it, where the inner level gives n: the band to
+-- the next ring, then inwards; an innermost ring of one segment per edge is itself a triangle
 unfoldable pub nest : ℕ → ℕ → ℕ → ℕ → ℕ → List Triangle
 nest base c0 c1 c2 zero = []
 nest base c0 c1 c2 (suc zero) = record { a = base; b = base + 1; c = base + 2 } ∷ []
 nest base c0 c1 c2 (suc (suc r)) =
     band (ringAt base (c0 + c1 + c2)) (ringEdges (base + (c0 + c1 + c2)) r c0 c1 c2) ++ nest (base + (c0 + c1 + c2)) r r r r
 
--- the segments c0, c1 and c2 that an outer ring can have around an inside of n
+-- the segments c0, c1 and c2 that a ring can have where n is 0, 1 or more
 abbrev pub Edges : ℕ → ℕ → ℕ → ℕ → Type 0
 Edges c0 c1 c2 zero = (c0 ≡ 0) × (c1 ≡ 0) × (c2 ≡ 0)
 Edges c0 c1 c2 (suc zero) = (c0 ≡ 1) × (c1 ≡ 1) × (c2 ≡ 1)
 Edges c0 c1 c2 (suc (suc r)) = (1 ≤ c0) × (1 ≤ c1) × (1 ≤ c2)
 
--- how many points that makes; an inside of 0 segments is one point, the centre
+-- the number of vertices of those rings; for n = 0 there is one vertex, the centre
 unfoldable pub points : ℕ → ℕ → ℕ → ℕ → ℕ
 points c0 c1 c2 zero = 1
 points c0 c1 c2 (suc zero) = 3
 points c0 c1 c2 (suc (suc r)) = c0 + c1 + c2 + points r r r r
 
--- how many triangles
+-- the number of triangles
 unfoldable pub count : ℕ → ℕ → ℕ → ℕ → ℕ
 count c0 c1 c2 zero = 0
 count c0 c1 c2 (suc zero) = 1

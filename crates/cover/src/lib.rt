@@ -1,1 +1,1 @@
-// Which sides the triangles of a patch have, by vertex number: definitions and proofs only, nothing to run.
+// The triangles of a patch by vertex number, and their sides. Definitions and proofs, with no code to run.

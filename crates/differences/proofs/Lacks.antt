@@ -1,5 +1,4 @@
--- Each way out of the tests for a difference.
--- Assumes nothing.
+-- Each return of the tests for a difference. Assumes nothing.
 use Prim.Native.Nat.{ℕ, _/_, _≤_, _<_}
 use mathlib.Core.Path.{_≡_, refl, sym, ap, _∙_}
 use mathlib.Core.Bool.{Bool, true, false, not}
@@ -41,7 +40,7 @@ module _ (pw ow : List ℕ) (k : ℕ) where
       none : among samePoint (pointsIn ow) (pointsIn ow .count) (at (readPoints pw) k) ≡ false
       none = rw (← e) (some-none (λ i. samePoint (at (readPoints ow) i) p) (length (readPoints ow)) (λ i n. h .none (omega (arith, h .most)) i (omega (arith, points-count ow))))
 
--- a triangle in its place
+-- the other mesh has the triangle at the same number
 pub in-place-found : (xs ys : Row Face) (k : ℕ) → InPlace xs ys k → lacks sameFace xs ys k ≡ false
 in-place-found xs ys k h = lacks-found sameFace xs ys k (some-here (λ i. sameFace (ys .entry i) (xs .entry k)) (ys .count) k (h .number) (in-order (ys .entry k) (xs .entry k) (h .same)))
 
@@ -50,11 +49,11 @@ pub held-all : (ts : List Triangle) (t : Triangle) (n : ℕ) (r : Bool) → Held
 held-all ts t n true h = let w = h .yes refl in sym (some-here (λ i. sameTriangle (triangleAt ts i) t) n (w .0) (w .1) (w .2))
 held-all ts t n false h = sym (some-none (λ i. sameTriangle (triangleAt ts i) t) n (λ i l. h .no refl i (omega arith) l))
 
--- and of some of them
+-- a search of some triangles
 pub held-near : (ts : List Triangle) (t : Triangle) (from to : ℕ) (r : Bool) → Held ts from to t r → to ≤ length ts → r ≡ true → true ≡ someTriangle ts t
 held-near ts t from to r h l e = let w = h .yes e in sym (some-here (λ i. sameTriangle (triangleAt ts i) t) (length ts) (w .0) (omega (arith, w .1)) (w .2))
 
--- the triangles of a mesh, tested by number for a match
+-- searching a mesh's triangles by number for a match
 pub among-match : (pw iw : List ℕ) → Indexed pw iw → ((k : ℕ) → getD iw k 0 < 65536) → (f : Face) (m : Match) → Matched (readPoints pw) f m
     → some (λ i. isMatch m (triangleAt (readTriangles iw) i)) (length (readTriangles iw)) ≡ among sameFace (facesIn pw iw) (facesIn pw iw .count) f
 among-match pw iw h small f m w = some-same _ _ _ (λ i l. sym (w .each (triangleAt (readTriangles iw) i) (cornered pw iw h small i (omega (arith, triangles-count iw)))))
@@ -67,7 +66,7 @@ pub has-missing : (pw iw : List ℕ) → Indexed pw iw → ((k : ℕ) → getD i
     → m ≡ Missing → false ≡ among sameFace (facesIn pw iw) (facesIn pw iw .count) f
 has-missing pw iw h small f m w e = sym (some-none (λ i. false) (length (readTriangles iw)) (λ i l. refl)) ∙ among-match pw iw h small f Missing (rw e at w)
 
--- and for one of its own
+-- searching a mesh's earlier triangles for one of its own
 pub among-own : (pw iw : List ℕ) → Good pw iw → ((k : ℕ) → getD iw k 0 < 65536) → (k : ℕ) → k < length iw / 3
     → some (λ i. sameTriangle (triangleAt (readTriangles iw) i) (triangleAt (readTriangles iw) k)) k ≡ among sameFace (facesIn pw iw) k (facesIn pw iw .entry k)
 among-own pw iw h small k l = some-same _ _ k (λ i m. sym

@@ -1,4 +1,4 @@
--- The laws of the searches for differences, lowest first.
+-- The laws of `differences`, lowest first.
 pub mod Tests
 pub mod Finds
 pub mod Numbers

@@ -1,5 +1,4 @@
--- In a mesh without equal points, triangles are the same by coordinates exactly where they are by numbers.
--- Assumes nothing.
+-- In a mesh with distinct points, triangles are the same by coordinates exactly if they are the same by number. Assumes nothing.
 use Prim.Native.Nat.{ℕ, _*_, _/_, _+_, _≤_, _<_}
 use mathlib.Core.Path.{_≡_, refl, sym, ap, _∙_}
 use mathlib.Core.Bool.{Bool, true, false, and-false, true≢false}
@@ -24,7 +23,7 @@ use Rattle.differences.specs.declared.corners.Match.the-variants.{Corner
 use Rattle.differences.specs.Meshes.{Single, Indexed, sameFace}
 use Rattle.differences.specs.Found.{Found, Cornered, Matched}
 
--- no point lies where an earlier one lies
+-- no point equals an earlier point
 pub single-before : (pw : List ℕ) → Single pw → (i j : ℕ) → i < j → j < length (readPoints pw) → samePoint (at (readPoints pw) i) (at (readPoints pw) j) ≡ false
 unfolding firstRepeated
 single-before pw h i j l m = some-all _ j (first-all _ _ (h .is) j m) i l
@@ -44,7 +43,7 @@ apart pw h i x l m n = elim (decLe i x) [
     lower : (i x : ℕ) → i ≤ x → (i ≡ x → ⊥) → i < x
     lower i x l n = elim (decLe x i) [ yes q ↦ absurd (n (omega arith)) | no q ↦ omega arith ]
 
--- point i lies where point x lies exactly where i is x
+-- points i and x are equal exactly if i is x
 pub number-is : (pw : List ℕ) → Single pw → (i x : ℕ) (p : Point) → i < length (readPoints pw) → x < length (readPoints pw)
     → samePoint (at (readPoints pw) x) p ≡ true → samePoint (at (readPoints pw) i) p ≡ eqb i x
 number-is pw h i x p l m e = rw (← same-is (at (readPoints pw) x) p e) (elim (decLe i x) [
@@ -55,7 +54,7 @@ number-is pw h i x p l m e = rw (← same-is (at (readPoints pw) x) p e) (elim (
   | no q ↦ rw (ne-eqb i x (λ d. omega arith)) (apart pw h i x l m (λ d. omega arith))
 ])
 
--- a triangle s whose corners lie at those of f
+-- the corners of triangle s are at those of f
 pub record Lies (ps : List Point) (s : Triangle) (f : Face) : Type 0 where
   pub p : samePoint (at ps (s .a)) (f .p) ≡ true
   pub q : samePoint (at ps (s .b)) (f .q) ≡ true
@@ -76,16 +75,16 @@ numbers-same pw h t s f m n l = rw (
   number-is pw h (t .c) (s .b) (f .q) (m .c) (n .b) (l .q),
 )
 
--- a triangle lies where it lies
+-- the corners of a triangle are at its own
 pub lies-itself : (ps : List Point) (t : Triangle) → Lies ps t (faceOf (at ps) t)
 lies-itself ps t = record { p = is-same (at ps (t .a)) (at ps (t .a)) refl; q = is-same (at ps (t .b)) (at ps (t .b)) refl; r = is-same (at ps (t .c)) (at ps (t .c)) refl }
 
--- ---- the corners of f among the first `count` points, which are all that an index can number
+-- ---- the corners of f among the first `count` points, which are all that an index can refer to
 module _ (pw : List ℕ) (count : ℕ) (f : Face) where
   there : (p q : Point) (r : ℕ) → Found (readPoints pw) count p r → p ≡ q → r < count → samePoint (at (readPoints pw) r) q ≡ true
   there p q r h e l = rw (← e) (h .there l)
 
-  -- all three are there
+  -- all three corners are found
   pub match-found : (p q r : Point) (x y z : ℕ) → Single pw → count ≤ length pw / 3 → count ≤ 65536 → Found (readPoints pw) count p x
       → Found (readPoints pw) count q y → Found (readPoints pw) count r z → p ≡ f .p → q ≡ f .q → r ≡ f .r → x < count → y < count → z < count
       → Matched (readPoints pw) f (Corners (record { a = x; b = y; c = z }))
@@ -97,7 +96,7 @@ module _ (pw : List ℕ) (count : ℕ) (f : Face) where
             (record { p = there p (f .p) x hx ep lx; q = there q (f .q) y hy eq ly; r = there r (f .r) z hz er lz });
       }
 
-  -- one is missing: no triangle has it as a corner
+  -- a corner is missing, so no triangle has it
   module _ (cap : (i : ℕ) → i < length pw / 3 → i < 65536 → i < count) (p : Point) (r : ℕ) (h : Found (readPoints pw) count p r) (l : count ≤ r) where
     none : (q : Point) → p ≡ q → (i : ℕ) → i < length (readPoints pw) → i < 65536 → samePoint (at (readPoints pw) i) q ≡ false
     none q e i m k = rw (← e) (h .none (omega (arith, h .most)) i (cap i (omega (arith, points-count pw)) k))
@@ -111,7 +110,7 @@ module _ (pw : List ℕ) (count : ℕ) (f : Face) where
     pub missing-r : p ≡ f .r → Matched (readPoints pw) f Missing
     missing-r e = record { each = λ t m. simp (none (f .r) e (t .a) (m .a) (m .small-a), none (f .r) e (t .b) (m .b) (m .small-b), none (f .r) e (t .c) (m .c) (m .small-c), and-false) }
 
--- the corners of an index list's triangles
+-- the triangle's corners are below n
 pub record Ranged (n : ℕ) (t : Triangle) : Type 0 where
   pub a : t .a < n
   pub b : t .b < n

@@ -1,5 +1,4 @@
--- The differences between two meshes, and their words.
--- Assumes nothing.
+-- The differences between two meshes, and their words. Assumes nothing.
 use Prim.Native.Nat.{ℕ}
 use mathlib.Core.Bool.{Bool, cond}
 use mathlib.Core.List.{List, [], _∷_, _++_, map}
@@ -9,25 +8,25 @@ use Rattle.searches.specs.Points.{samePoint}
 use Rattle.differences.specs.Lacking.{Row, lacking}
 use Rattle.differences.specs.Meshes.{Mesh, sameFace}
 
--- a point or triangle that is on one side only
+-- a point or triangle that only one of the meshes has
 pub record Difference : Type 0 where
   pub kind : ℕ  -- 0 point, 1 triangle
   pub side : ℕ  -- 0 left, 1 right
-  pub number : ℕ  -- the point's or the triangle's
+  pub number : ℕ  -- the number of the point or triangle
 
--- those of one kind on one side, by their numbers
+-- the differences of one kind on one side, with these numbers
 abbrev pub each : ℕ → ℕ → List ℕ → List Difference
 each kind side ks = map (λ k. record { kind = kind; side = side; number = k }) ks
 
--- the points of one side's row that the other lacks
+-- the points of one mesh that the other lacks
 abbrev pub pointDifferences : ℕ → Row Point → Row Point → List Difference
 pointDifferences side ps qs = each 0 side (lacking samePoint ps qs)
 
--- the triangles of one side's row that the other lacks
+-- the triangles of one mesh that the other lacks
 abbrev pub faceDifferences : ℕ → Row Face → Row Face → List Difference
 faceDifferences side fs gs = each 1 side (lacking sameFace fs gs)
 
--- the four parts
+-- the four parts of the differences
 abbrev pub leftPoints : Mesh → Mesh → List Difference
 leftPoints l r = pointDifferences 0 (l .points) (r .points)
 
@@ -44,11 +43,11 @@ rightFaces l r = faceDifferences 1 (r .faces) (l .faces)
 unfoldable pub differences : Mesh → Mesh → List Difference
 differences l r = leftPoints l r ++ rightPoints l r ++ leftFaces l r ++ rightFaces l r
 
--- three words each
+-- the words of differences, three each
 unfoldable pub words : List Difference → List ℕ
 words [] = []
 words (d ∷ ds) = d .kind ∷ d .side ∷ d .number ∷ words ds
 
--- the words of number k, if it is a difference
+-- the words of point or triangle k if it is a difference, else no words
 abbrev pub wordsIf : ℕ → ℕ → Bool → ℕ → List ℕ
 wordsIf kind side is k = cond is (kind ∷ side ∷ k ∷ []) []

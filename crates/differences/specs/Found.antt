@@ -1,5 +1,4 @@
--- What the searches for a point and for a triangle say.
--- Assumes nothing.
+-- What the searches for a point and for a triangle establish. Assumes nothing.
 use Prim.Native.Nat.{ℕ, _≤_, _<_}
 use mathlib.Core.Path.{_≡_}
 use mathlib.Core.Bool.{Bool, true, false}
@@ -18,20 +17,20 @@ use Rattle.differences.specs.declared.corners.Match.the-variants.{Corner
 use Rattle.differences.specs.Lacking.{Row}
 use Rattle.differences.specs.Meshes.{sameCorners, sameFace}
 
--- from number `from` on up to r, at most to `to`, no point lies at p; one does at r, if r is less than `to`
+-- a search for p from number `from` up to `to` ended at r: point r equals p, unless r is `to`, and no point before r does
 pub record Passed (ps : List Point) (from to : ℕ) (p : Point) (r : ℕ) : Type 0 where
   pub least : from ≤ r
   pub most : r ≤ to
   pub there : r < to → samePoint (at ps r) p ≡ true
   pub none : (i : ℕ) → from ≤ i → i < r → samePoint (at ps i) p ≡ false
 
--- a point at p among the first `count`, or `count` and there is none
+-- r is the number of a point that equals p, or `count` if none of the first `count` points does
 pub record Found (ps : List Point) (count : ℕ) (p : Point) (r : ℕ) : Type 0 where
   pub most : r ≤ count
   pub there : r < count → samePoint (at ps r) p ≡ true
   pub none : r ≡ count → (i : ℕ) → i < count → samePoint (at ps i) p ≡ false
 
--- a triangle whose corners are points, and can be the numbers of an index list
+-- the triangle's corners are numbers of points, and have 16 bits
 pub record Cornered (n : ℕ) (t : Triangle) : Type 0 where
   pub a : t .a < n
   pub b : t .b < n
@@ -40,16 +39,16 @@ pub record Cornered (n : ℕ) (t : Triangle) : Type 0 where
   pub small-b : t .b < 65536
   pub small-c : t .c < 65536
 
--- is triangle t the one with these corners? none is where a corner is missing
+-- whether t is the triangle with these corners; false for every t if a corner is missing
 abbrev pub isMatch : Match → Triangle → Bool
 isMatch (Corners s) t = sameTriangle t s
 isMatch Missing t = false
 
--- m are the corners of f among the points ps: a triangle by number is f exactly where it has them
+-- m gives the corners of f among the points ps: a triangle by number is f exactly if it matches m
 pub record Matched (ps : List Point) (f : Face) (m : Match) : Type 0 where
   pub each : (t : Triangle) → Cornered (length ps) t → sameFace (faceOf (at ps) t) f ≡ isMatch m t
 
--- is one of the triangles t, up to rotation?
+-- whether one of the triangles is t, up to rotation
 abbrev pub someTriangle : List Triangle → Triangle → Bool
 someTriangle ts t = some (λ i. sameTriangle (triangleAt ts i) t) (length ts)
 

@@ -1,4 +1,4 @@
--- The definitions of what one mesh has and another has not.
+-- The definitions of `differences`.
 pub mod Lacking
 pub mod Meshes
 pub mod Found

@@ -1,5 +1,4 @@
--- Two meshes' points and triangles, and when they are the same.
--- Assumes nothing.
+-- Meshes to compare: their points and triangles, and when two are the same. Assumes nothing.
 use Prim.Native.Nat.{ℕ, _<_}
 use mathlib.Core.Path.{_≡_}
 use mathlib.Core.Bool.{Bool, _&&_, _||_}
@@ -13,32 +12,32 @@ use Rattle.searches.specs.Points.{samePoint, firstRepeated}
 use Rattle.searches.specs.Triangles.{triangleAt}
 use Rattle.differences.specs.Lacking.{Row}
 
--- a mesh: its points, and its triangles by their corners
+-- a mesh: its points, and its triangles with points as corners
 pub record Mesh : Type 0 where
   pub points : Row Point
   pub faces : Row Face
 
--- the points that words stand for
+-- the points that words hold
 abbrev pub pointsIn : List ℕ → Row Point
 pointsIn pw = record { count = length (readPoints pw); entry = at (readPoints pw) }
 
--- the triangles that point words and indices stand for
+-- the triangles that point words and index words hold
 abbrev pub facesIn : List ℕ → List ℕ → Row Face
 facesIn pw iw = record { count = length (readTriangles iw); entry = λ k. faceOf (at (readPoints pw)) (triangleAt (readTriangles iw) k) }
 
--- the mesh that they stand for
+-- the mesh that point words and index words hold
 abbrev pub readMesh : List ℕ → List ℕ → Mesh
 readMesh pw iw = record { points = pointsIn pw; faces = facesIn pw iw }
 
--- the same corners in the same order
+-- the triangles have equal corners in the same order
 abbrev pub sameCorners : Face → Face → Bool
 sameCorners f g = samePoint (f .p) (g .p) && samePoint (f .q) (g .q) && samePoint (f .r) (g .r)
 
--- the triangle from its second corner on
+-- the triangle with its second corner first
 abbrev pub rotated : Face → Face
 rotated f = record { p = f .q; q = f .r; r = f .p }
 
--- the same triangle: the corners agree by coordinates up to rotation, and not by a flip
+-- the triangles are the same: equal corners in the same cyclic order
 abbrev pub sameFace : Face → Face → Bool
 sameFace f g = sameCorners f g || sameCorners f (rotated g) || sameCorners f (rotated (rotated g))
 
@@ -46,11 +45,11 @@ sameFace f g = sameCorners f g || sameCorners f (rotated g) || sameCorners f (ro
 pub record Single (pw : List ℕ) : Type 0 where
   pub is : firstRepeated (readPoints pw) ≡ length (readPoints pw)
 
--- every index is a point's number
+-- every index is the number of a point
 pub record Indexed (pw iw : List ℕ) : Type 0 where
   pub each : (k : ℕ) → k < length iw → getD iw k 0 < length (readPoints pw)
 
--- a mesh that can be compared
+-- the mesh can be compared
 pub record Good (pw iw : List ℕ) : Type 0 where
   pub single : Single pw
   pub indexed : Indexed pw iw

@@ -1,4 +1,4 @@
-// The corners of a triangle of one mesh among the points of another, and the search for a triangle by them.
+// The corners of a triangle of one mesh among the points of another mesh, and the search for a triangle with these corners.
 ghost use mathlib.Core.Path.{_≡_};
 ghost use Prim.Native.Nat.{_/_, _≤_, _<_, ℕ};
 ghost use lib.ListN.{length};
@@ -13,13 +13,13 @@ use searches::point::point_at;
 use side_searches::same::has_triangle_in;
 use strip::triangle::Triangle;
 
-// The numbers of the points at a triangle's corners; or one of them is missing.
+// The numbers of the points equal to a triangle's corners, unless one is missing.
 pub enum Match {
     Corners(Triangle),
     Missing,
 }
 
-// How many of the points an index can number.
+// Returns how many of the points an index can refer to.
 fn numbered(points: &[u32]) -> usize
     ensures { λ r. ⌜ (r ≤ length (now (points .entry)) / 3) × (r ≤ 65536) × ((i : ℕ) → i < length (now (points .entry)) / 3 → i < 65536 → i < r) ⌝ }
 {
@@ -30,7 +30,7 @@ fn numbered(points: &[u32]) -> usize
     count
 }
 
-// The corners of triangle t among other points.
+// Returns the corners of triangle t among the points of the other mesh.
 pub(crate) fn match_corners(points: &[u32], t: Triangle, others: &[u32]) -> Match
     requires { ⌜ Cornered (length (now points) / 3) t ⌝ ∗ ⌜ Single (now others) ⌝ }
     ensures { λ m. ⌜ Matched (readPoints (now (others .entry))) (faceOf (at (readPoints (now (points .entry)))) t) m ⌝ }
@@ -58,7 +58,7 @@ pub(crate) fn match_corners(points: &[u32], t: Triangle, others: &[u32]) -> Matc
     })
 }
 
-// Whether some triangle is t, up to rotation; those next to number `near` are looked at first.
+// Whether one of the triangles is t, up to rotation; those next to number `near` are tested first.
 pub(crate) fn has_triangle(indices: &[u16], near: usize, t: Triangle) -> bool
     ensures { λ r. ⌜ r ≡ someTriangle (readTriangles (now (indices .entry))) t ⌝ }
 {

@@ -1,4 +1,4 @@
-// What one of two meshes has and the other has not: whether a point or a triangle by its number is such a difference.
+// What one of two meshes has and the other lacks: whether a point or a triangle, by its number, is a difference.
 mod corners;
 mod place;
 mod point;

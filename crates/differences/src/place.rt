@@ -1,4 +1,4 @@
-// The quickest test: the triangle with the same number.
+// The fastest test: the triangle with the same number.
 ghost use mathlib.Core.Path.{_≡_};
 ghost use mathlib.Core.Bool.{true};
 ghost use Prim.Native.Nat.{_/_, _<_};
@@ -10,7 +10,7 @@ use searches::point::point_at;
 use searches::point::same_point;
 use searches::triangle::triangle_at;
 
-// Whether point x of one list lies where point y of another lies.
+// Whether point x of one list equals point y of another.
 fn same_place(points: &[u32], x: u16, others: &[u32], y: u16) -> bool
     requires { ⌜ x < length (now points) / 3 ⌝ ∗ ⌜ y < length (now others) / 3 ⌝ }
     ensures { λ z. ⌜ z ≡ samePoint (pointsIn (now (others .entry)) .entry y) (pointsIn (now (points .entry)) .entry x) ⌝ }
@@ -18,7 +18,7 @@ fn same_place(points: &[u32], x: u16, others: &[u32], y: u16) -> bool
     same_point(point_at(others, y as usize), point_at(points, x as usize))
 }
 
-// Whether triangle number k of the other mesh has the same corners in the same order.
+// Whether triangle k of the other mesh has equal corners in the same order.
 pub(crate) fn is_in_place(
     points: &[u32],
     indices: &[u16],

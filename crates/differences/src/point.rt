@@ -12,7 +12,7 @@ use mesh::Point;
 use searches::point::point_at;
 use searches::point::same_point;
 
-// Whether point number i lies at p; most are told apart by one coordinate.
+// Whether point i equals p; one coordinate distinguishes most points.
 fn lies_at(points: &[u32], i: usize, p: Point) -> bool
     requires { ⌜ i < length (now points) / 3 ⌝ }
     ensures { λ r. ⌜ r ≡ samePoint (at (readPoints (now (points .entry))) i) p ⌝ }
@@ -24,7 +24,7 @@ fn lies_at(points: &[u32], i: usize, p: Point) -> bool
     false
 }
 
-// The first point from number `from` up to `to` that lies at p, or `to`.
+// Returns the first point from number `from` up to, not including, `to` that equals p, or `to`.
 fn first_in(points: &[u32], from: usize, to: usize, p: Point) -> usize
     requires { ⌜ (from ≤ to) × (to ≤ length (now points) / 3) ⌝ }
     ensures { λ r. ⌜ Passed (readPoints (now (points .entry))) from to p r ⌝ }
@@ -39,7 +39,7 @@ fn first_in(points: &[u32], from: usize, to: usize, p: Point) -> usize
     i
 }
 
-// A point at p that stands near number `near`, or else the first of the first `count`, or `count`.
+// Returns a point that equals p and is near number `near`, else the first of the first `count` points that does, else `count`.
 fn find_far(points: &[u32], count: usize, near: usize, p: Point) -> usize
     requires { ⌜ count ≤ length (now points) / 3 ⌝ }
     ensures { λ r. ⌜ Found (readPoints (now (points .entry))) count p r ⌝ }
@@ -53,7 +53,7 @@ fn find_far(points: &[u32], count: usize, near: usize, p: Point) -> usize
     first_in(points, 0, count, p)
 }
 
-// A point at p among the first `count`, or `count`; number `near` is looked at first.
+// Returns a point that equals p among the first `count`, or `count`; number `near` is tested first.
 pub(crate) fn find_point(points: &[u32], count: usize, near: usize, p: Point) -> usize
     requires { ⌜ count ≤ length (now points) / 3 ⌝ }
     ensures { λ r. ⌜ Found (readPoints (now (points .entry))) count p r ⌝ }

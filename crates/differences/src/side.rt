@@ -1,4 +1,4 @@
-// Whether one side's point or triangle is a difference: the other side lacks it, and it is the first of its own that is the same.
+// Whether a point or triangle of one mesh is a difference: the other mesh lacks it, and no earlier one of its own mesh is the same.
 ghost use mathlib.Core.Path.{_≡_};
 ghost use Prim.Native.Nat.{_/_, _<_};
 ghost use lib.ListN.{length};
@@ -18,7 +18,7 @@ use searches::triangle::triangle_at;
 use side_searches::same::has_triangle_in;
 use strip::triangle::Triangle;
 
-// Whether point number k is not among the other points.
+// Whether point k is not among the other mesh's points.
 pub fn lacks_point(points: &[u32], k: usize, others: &[u32]) -> bool
     requires { ⌜ k < length (now points) / 3 ⌝ ∗ ⌜ Single (now points) ⌝ }
     ensures { λ r. ⌜ r ≡ lacks samePoint (pointsIn (now (points .entry))) (pointsIn (now (others .entry))) k ⌝ }
@@ -30,7 +30,7 @@ pub fn lacks_point(points: &[u32], k: usize, others: &[u32]) -> bool
     true
 }
 
-// Whether some triangle of the other mesh is t; those next to number `near` are looked at first.
+// Whether one of the other mesh's triangles is t; those next to number `near` are tested first.
 fn has_face(
     points: &[u32],
     t: Triangle,
@@ -48,7 +48,7 @@ fn has_face(
     false
 }
 
-// Whether triangle number k is not among the other mesh's triangles, nor among the earlier ones of its own.
+// Whether triangle k is not among the other mesh's triangles, nor among the earlier triangles of its own mesh.
 pub fn lacks_face(
     points: &[u32],
     indices: &[u16],

@@ -1,7 +1,7 @@
-// The numbers next to a number, which are looked at first.
+// The window of numbers next to a number; these are tested first.
 ghost use Prim.Native.Nat.{_≤_};
 
-// The first of them: 64 before, if there are so many.
+// Returns the start of the window: 64 before `near`, or 0.
 pub(crate) fn window_start(near: usize, count: usize) -> usize
     ensures { λ r. ⌜ r ≤ count ⌝ }
 {
@@ -14,7 +14,7 @@ pub(crate) fn window_start(near: usize, count: usize) -> usize
     count
 }
 
-// The one after the last: 128 on, if there are so many.
+// Returns the end of the window: 128 after its start, or `count`.
 pub(crate) fn window_end(start: usize, count: usize) -> usize
     requires { ⌜ start ≤ count ⌝ }
     ensures { λ r. ⌜ (start ≤ r) × (r ≤ count) ⌝ }

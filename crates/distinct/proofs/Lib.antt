@@ -1,2 +1,2 @@
--- The laws of the table of marks, lowest first.
+-- The laws of `distinct`, lowest first.
 pub mod Table

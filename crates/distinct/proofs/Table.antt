@@ -1,5 +1,4 @@
--- What the marks tell, and how they are kept.
--- Assumes nothing.
+-- What the marks show, and how they are updated. Assumes nothing.
 use Prim.Native.Nat.{ℕ, _+_, _-_, _<_}
 use mathlib.Core.Path.{_≡_, refl, sym, ap, _∙_}
 use mathlib.Core.Bool.{Bool, true, false, true≢false}
@@ -17,7 +16,7 @@ use Rattle.point_table.specs.Trees.{slotOf}
 use Rattle.distinct.specs.Marks.{Names, Marks, Clear, Marked}
 use Rattle.searches.proofs.Equal.{same-is}
 
--- a clear mark: no earlier point lies there
+-- if the mark is clear, no earlier point equals p
 named-no : (ps : List Point) (mark i : ℕ) (p : Point) → Clear ps mark p → (mark ≡ i + 1) ⊎ (mark ≡ 65535) → samePoint (at ps i) p ≡ true → ⊥
 named-no ps mark i p (inl z) (inl e) h = omega arith
 named-no ps mark i p (inl z) (inr e) h = omega arith
@@ -53,7 +52,7 @@ equal-or x y = elim (decLe x y) [
   | no p ↦ inr (λ e. omega arith)
 ]
 
--- the table after one point more
+-- the table after one more point
 module _ (ps : List Point) (n j s r : ℕ) (ms : List ℕ) (h : Marks ps n j ms) (m : Marked (getD ms s 0) j r) (e : s ≡ slotOf n (at ps j)) (l : s < length ms) where
   last : (r ≡ 65535) ⊎ ((getD ms s 0 ≡ 0) × (r ≡ j + 1)) → (r ≡ j + 1) ⊎ (r ≡ 65535)
   last (inl k) = inr k

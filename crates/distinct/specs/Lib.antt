@@ -1,2 +1,2 @@
--- The definitions of the table of marks.
+-- The definitions of `distinct`.
 pub mod Marks

@@ -1,3 +1,3 @@
-// The first point that lies where an earlier one lies, for lists too long to compare every point with every other.
+// The search for the first point that equals an earlier point, fast for long lists.
 pub mod mark;
 pub mod search;

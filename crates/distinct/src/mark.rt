@@ -1,5 +1,5 @@
-// A table of marks, one for each slot; every point has a slot. A mark is 0 for no point so far, 65535 for several, and else one more
-// than the number of the only point that has the slot. The marks need the same room for any number of points.
+// A table of marks, one per slot. A mark is 0 if no point so far has the slot, one more than the number of the point if one has
+// it, and 65535 if several have it or the number is too large. The table has the same size for any number of points.
 ghost use mathlib.Core.Path.{_≡_};
 ghost use mathlib.Core.Bool.{true};
 ghost use Rattle.drawing.specs.Words.{readPoints};
@@ -8,7 +8,7 @@ use mesh::Point;
 use searches::point::point_at;
 use searches::point::same_point;
 
-// Whether a mark tells that no earlier point lies at p. It may be false where none does.
+// Whether the mark shows that no earlier point equals p. False if the mark does not decide.
 pub(crate) fn is_clear(points: &[u32], mark: u16, p: Point) -> bool
     ensures { λ r. ⌜ (r ≡ true → Clear (readPoints (now (points .entry))) mark p) ⌝ }
 {
@@ -25,7 +25,7 @@ pub(crate) fn is_clear(points: &[u32], mark: u16, p: Point) -> bool
     !same_point(point_at(points, k), p)
 }
 
-// The mark of a slot after point number j.
+// Returns the mark of a slot after point j.
 pub(crate) fn mark_after(mark: u16, j: usize) -> u16
     ensures { λ r. ⌜ Marked mark j r ⌝ }
 {

@@ -1,4 +1,4 @@
-// The search: with a table of points as far as there is room for one, else with marks.
+// The search: with a table of points if they fit, else with marks.
 ghost use mathlib.Core.Path.{_≡_};
 ghost use Prim.Native.Nat.{_/_, _≤_, _<_};
 ghost use lib.ListN.{length};
@@ -14,7 +14,7 @@ use point_table::slot_of;
 use searches::point::first_equal;
 use searches::point::point_at;
 
-// Whether point number j, which lies at p, lies where an earlier one lies; the mark is that of its slot, of so many.
+// Whether point j, which is p, equals an earlier point; `mark` is the mark of its slot, of `slots` slots.
 fn repeats_earlier(points: &[u32], j: usize, p: Point, slots: usize, mark: u16) -> bool
     requires { ⌜ j < length (now points) / 3 ⌝ ∗ ⌜ p ≡ at (readPoints (now points)) j ⌝ ∗ ⌜ Names (readPoints (now points)) slots j (slotOf slots p) mark ⌝ }
     ensures { λ r. ⌜ r ≡ repeats (readPoints (now (points .entry))) j ⌝ }
@@ -25,7 +25,7 @@ fn repeats_earlier(points: &[u32], j: usize, p: Point, slots: usize, mark: u16) 
     first_equal(points, p, j) < j
 }
 
-// The first point that lies where an earlier one lies, or the number of points, with marks that are lent for it.
+// Returns the first point that equals an earlier point, or the number of points; uses the marks lent.
 fn by_marks(points: &[u32], marks: &mut [u16]) -> usize
     requires { ⌜ 0 < length (now marks) ⌝ }
     ensures { λ r. ⌜ r ≡ firstRepeated (readPoints (now (points .entry))) ⌝ }
@@ -46,7 +46,7 @@ fn by_marks(points: &[u32], marks: &mut [u16]) -> usize
     j
 }
 
-// With marks, for any number of points.
+// The same with marks, for any number of points.
 fn by_many_marks(points: &[u32]) -> usize
     ensures { λ r. ⌜ r ≡ firstRepeated (readPoints (now (points .entry))) ⌝ }
 {
@@ -54,7 +54,7 @@ fn by_many_marks(points: &[u32]) -> usize
     by_marks(points, &mut marks)
 }
 
-// With a table for up to 64 points.
+// The same with a table, for up to 64 points.
 fn by_small_table(points: &[u32]) -> usize
     requires { ⌜ length (now points) ≤ 192 ⌝ }
     ensures { λ r. ⌜ r ≡ firstRepeated (readPoints (now (points .entry))) ⌝ }
@@ -63,7 +63,7 @@ fn by_small_table(points: &[u32]) -> usize
     point_table::fill(points, &mut table, 251)
 }
 
-// With a table for up to 8192 points.
+// The same with a table, for up to 8192 points.
 fn by_large_table(points: &[u32]) -> usize
     requires { ⌜ length (now points) ≤ 24576 ⌝ }
     ensures { λ r. ⌜ r ≡ firstRepeated (readPoints (now (points .entry))) ⌝ }
@@ -72,7 +72,7 @@ fn by_large_table(points: &[u32]) -> usize
     point_table::fill(points, &mut table, 16381)
 }
 
-// The same; a table for few points would cost more than it saves.
+// The same, the fastest way; for few points a table costs more than it saves.
 pub fn first_repeated(points: &[u32]) -> usize
     ensures { λ r. ⌜ r ≡ firstRepeated (readPoints (now (points .entry))) ⌝ }
 {

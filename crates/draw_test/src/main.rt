@@ -1,5 +1,5 @@
-// Draws the rules' examples into lists with room, with one word too few in each, and with sentinel words behind the counts,
-// and writes what was answered and every word of both lists. Measures patches whose levels lie outside their range, and tries other tops.
+// Draws the examples of the rules into lists with enough room, with one word too few, and with sentinel words after the counts;
+// writes the answers and every word of both lists. Measures patches whose levels lie outside their range, and tries other top levels.
 ghost use Prim.Native.Nat.{_≤_};
 use level::Clamp;
 use level::Spacing;
@@ -34,7 +34,7 @@ fn main() {
     each_top();
 }
 
-// Levels below, inside and above the range of odd spacing; the number of isolines is judged by equal spacing.
+// Levels below, inside and above the range of odd spacing; the number of isolines has equal spacing.
 fn each_clamp() {
     let odd = odd_up_to(64);
     let quads = Patch::Quads {
@@ -53,7 +53,7 @@ fn each_clamp() {
     write_size(tessellate::measure::measure(isolines, odd));
 }
 
-// Smaller tops, and numbers that are none: a bad top is told before all else, and leaves every list as it was.
+// Smaller top levels, and numbers that are not top levels: a bad top level comes before every other answer, and every list stays unchanged.
 fn each_top() {
     write_size(tessellate::measure::measure(triangles(3.0), odd_up_to(2)));
     draw_into(triangles(3.0), odd_up_to(2), 9, 3);
@@ -110,7 +110,7 @@ fn settings(order: VertexOrder, point_mode: bool) -> Settings {
     }
 }
 
-// With just the room of v and i words, with one word less in each list, with neither, and with room to spare.
+// With exactly v and i words of room, with one word less in each list, with no room, and with more room.
 fn each_room(patch: Patch, v: usize, i: usize)
     requires { ⌜ (1 ≤ v) × (v ≤ 30) × (1 ≤ i) × (i ≤ 30) ⌝ }
 {
@@ -123,7 +123,7 @@ fn each_room(patch: Patch, v: usize, i: usize)
     draw_into(patch, usual, v + 2, i + 2);
 }
 
-// Draws points and indices into the first v and i words of two lists of 32 sevens, and writes both lists whole.
+// Draws points and indices into the first v and i words of two lists of 32 sevens, and writes both lists in full.
 fn draw_into(patch: Patch, settings: Settings, v: usize, i: usize)
     requires { ⌜ (v ≤ 32) × (i ≤ 32) ⌝ }
 {
@@ -151,7 +151,7 @@ fn write_size(size: Size) {
     }
 }
 
-// Where each level that counts lies, outer levels first.
+// Writes where each level that counts lies, outer levels first.
 fn write_clamps(clamps: Clamps) {
     match clamps {
         Clamps::Triangles {

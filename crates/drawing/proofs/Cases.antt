@@ -1,5 +1,4 @@
--- A law of every patch and its subdivision, by the cases of the subdivision.
--- Assumes nothing.
+-- A property of every patch and its subdivision, by the cases of the subdivision. Assumes nothing.
 use Prim.Native.Nat.{ℕ}
 use mathlib.Core.Path.{_≡_, refl}
 use mathlib.Core.Bool.{Bool, true, false, cond}
@@ -15,7 +14,7 @@ use Rattle.patch.specs.declared.subdivision.Subdivision.the-variants.{Discarded
 use Rattle.patch.specs.Every.{every}
 use Rattle.patch.specs.Subdivide.{single, discards, cut, subdivision}
 
--- P holds of a patch and its subdivision, in each case that is drawn
+-- P holds for a patch and its subdivision, in each case that is drawn
 pub record Cases (s : Spacing) (t : ℕ) (P : Patch → Subdivision → Type 0) : Type 0 where
   pub triangle : (a b c i : Float)
       → P (Triangles a b c i) (Triangle (segmentsOf s t a) (segmentsOf s t b) (segmentsOf s t c) (innerSegments s t i))
@@ -36,7 +35,7 @@ module _ {s : Spacing} {t : ℕ} {P : Patch → Subdivision → Type 0} (h : Cas
   drawn-cases (Quads a b c d i j) = either (P (Quads a b c d i j)) _ (h .plain-quad a b c d i j) (h .quad a b c d i j)
   drawn-cases (Isolines a b) = h .lines a b
 
-  -- and of the patches that are discarded
+  -- if P also holds for discarded patches, it holds for all
   pub all-cases : ((p : Patch) → P p Discarded) → (p : Patch) → P p (subdivision s t p)
   unfolding subdivision
   all-cases k p = either (P p) (discards p) (λ _. k p) (drawn-cases p)

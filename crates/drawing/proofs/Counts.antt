@@ -1,5 +1,4 @@
--- The lists of points and indices are as long as the closed forms say.
--- Assumes nothing.
+-- The lists of points and indices are as long as the closed forms say. Assumes nothing.
 use mathlib.Core.Path.{_≡_, refl, _∙_}
 use mathlib.Core.Bool.{Bool, true, false}
 use native.Mathlib.Omega.{arith}

@@ -1,5 +1,4 @@
--- Every triangle or quad patch, plain or not, is covered by its triangles, and its outer edges have the places asked.
--- Assumes nothing.
+-- Every triangle or quad patch, plain or not, is covered by its triangles, and its outer edges have the places of their levels. Assumes nothing.
 use Prim.Native.Nat.{ℕ}
 use mathlib.Core.Bool.{Bool}
 use mathlib.Core.List.{[], _∷_}
@@ -31,7 +30,7 @@ use Rattle.drawing.proofs.Runs.{good-run}
 use Rattle.drawing.proofs.Cases.{Cases, drawn-cases}
 use Rattle.drawing.proofs.Plain.{plain-outline, plain-placed}
 
--- a subdivision of a patch whose triangles cover it, and whose outer edges have the places asked
+-- the triangles of a subdivision cover its patch, and its outer edges have the places of their levels
 pub record Covered (s : Spacing) (t : ℕ) (p : Patch) (c : Subdivision) : Type 0 where
   pub cover : Surface p → (turn : Bool) → Cover turn (twiceAreaOf p) (outline s t p) (points c) (facesIn (points c) (primitives turn c))
   pub seams : Surface p → Placed (edges p) (points c) 0 (outerRuns s t p)

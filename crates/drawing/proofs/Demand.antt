@@ -1,5 +1,4 @@
--- Demand 3 holds of every patch that is drawn, whatever its levels and settings; the top is a variable.
--- Assumes nothing.
+-- Demand 3 holds for every drawn patch, whatever its levels, settings and top level. Assumes nothing.
 use Prim.Native.Nat.{ℕ}
 use mathlib.Core.Path.{_≡_}
 use mathlib.Core.Bool.{false}

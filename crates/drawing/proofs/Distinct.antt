@@ -1,5 +1,4 @@
--- No two points of a patch that is drawn are equal, of isolines neither.
--- Assumes nothing.
+-- The points of every drawn patch, isolines included, are distinct. Assumes nothing.
 use Prim.Native.Nat.{ℕ, _<_}
 use mathlib.Core.Path.{_≡_, ap}
 use mathlib.Core.Bool.{true, false}
@@ -32,7 +31,7 @@ isolines-distinct lines along gl ga =
     (λ r s c d l m u v e. omega (arith, ap (λ (p : Point). p .v) e, span-less (good-span gl) r s l (omega arith)))
     (λ r c d u l m e. omega (arith, ap (λ (p : Point). p .u) e, span-less (good-span ga) c d l (omega arith)))
 
--- point i and point j of a list are equal only if i is j
+-- all points of a list are distinct
 abbrev Apart : List Point → Type 0
 Apart ps = (i j : ℕ) → i < length ps → j < length ps → getD ps i missing ≡ getD ps j missing → i ≡ j
 

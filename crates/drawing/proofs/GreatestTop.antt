@@ -1,5 +1,5 @@
--- With the top 64 everything is as it was before tops could be chosen: the old promises, with no hypothesis on the top.
--- Assumes nothing.
+-- With the top level 64 all is as it was before top levels could be chosen: the earlier promises, without a hypothesis on the
+-- top level. Assumes nothing.
 use Prim.Native.Nat.{ℕ, _≤_, _<_}
 use mathlib.Core.Path.{_≡_, sym, subst, _∙_}
 use mathlib.Core.Bool.{false}
@@ -18,7 +18,7 @@ use Rattle.drawing.proofs.Sizes.{points-at-most, indices-at-most}
 use Rattle.drawing.proofs.Demand.{demand}
 use Rattle.drawing.proofs.Seams.{same-seams}
 
--- 64 is a top
+-- 64 is a top level
 greatest : {t : ℕ} → t ≡ 64 → Top t
 greatest e = subst Top (sym e) top-64
 
@@ -26,7 +26,7 @@ pub demand-64 : (set : Settings) (p : Patch) → set .top ≡ 64 → discards p 
     → Demand set p (points (subdivision (set .spacing) (set .top) p)) (indexWords set (subdivision (set .spacing) (set .top) p))
 demand-64 set p e = demand set (greatest e) p
 
--- an outer edge's places, by its spacing and its own level alone
+-- the places of an outer edge depend on its spacing and its own level alone
 pub same-seams-64 : (set set′ : Settings) (p p′ : Patch) → set .top ≡ 64 → set′ .top ≡ 64 → discards p ≡ false → discards p′ ≡ false
     → Surface p → Surface p′ → (k k′ : ℕ) → k < length (outers p) → k′ < length (outers p′)
     → set .spacing ≡ set′ .spacing → outerLevel p k ≡ outerLevel p′ k′

@@ -1,5 +1,4 @@
--- A quad patch that is not plain, from its levels on: its points one by one, and its triangles strip by strip and cell by cell.
--- Assumes nothing.
+-- A quad patch that is not plain, from its levels: its points by number, and its triangles strip by strip and cell by cell. Assumes nothing.
 use Prim.Native.Nat.{ℕ}
 use mathlib.Core.Path.{_≡_}
 use mathlib.Core.Bool.{false}
@@ -24,7 +23,7 @@ use Rattle.drawing.specs.Primitives.{triangles}
 use Rattle.drawing.specs.OuterEdges.{outerEdge}
 
 module _ (s : Spacing) (t : ℕ) (a b c d i j : Float) (some : every (single s t) (a ∷ b ∷ c ∷ d ∷ i ∷ j ∷ []) ≡ false) where
-  -- n and q of the outer edges, by their own levels, and of the rows and the columns
+  -- n and q of the outer edges, from their own levels, and of the rows and the columns
   abbrev outer : ℕ → Run
   outer = outerEdge s t (Quads a b c d i j)
 
@@ -34,12 +33,12 @@ module _ (s : Spacing) (t : ℕ) (a b c d i j : Float) (some : every (single s t
   abbrev columns : Run
   columns = run (innerSegments s t j)
 
-  -- a list is that of the patch's points exactly where they are, one by one, those of the outline and the grid
+  -- a list is that of the patch's points exactly if its points are those of the outline and the grid
   pub quad-points-exactly : (ps : List Point) → (ps ≡ points (cut s t (Quads a b c d i j))) ↔ GridPoints outer rows columns ps
   unfolding points
   quad-points-exactly ps = rw some (grid-exactly outer rows columns (λ k m h. most _ _ m) ps)
 
-  -- the list of its triangles, strip by strip and cell by cell
+  -- the patch's triangles, strip by strip and cell by cell
   pub quad-strips : triangles (cut s t (Quads a b c d i j)) ≡ gridStrips (segments outer) (rows .c) (columns .c)
   unfolding triangles
   quad-strips = rw some (quad-exactly (segments outer) (rows .c) (columns .c))

@@ -1,5 +1,4 @@
--- Every point that is drawn lies in its patch, so that no coordinate is past 1.
--- Assumes nothing.
+-- Every drawn point lies in its patch, so no coordinate exceeds 1. Assumes nothing.
 use Prim.Native.Nat.{ℕ, zero, suc, _+_, _≤_}
 use mathlib.Core.Path.{refl}
 use mathlib.Core.List.{List, [], _∷_}
@@ -76,7 +75,7 @@ quad-in e0 e1 e2 e3 rows columns gs gr gc =
 isolines-in : (lines along : Run) → GoodRun lines → GoodRun along → All (InPatch square) (isolinePoints lines along)
 isolines-in lines along gl ga = grid-all (InPatch square) _ _ _ (λ r c u v. omega (arith, good-to ga c (omega arith), good-to gl r (omega arith)))
 
--- a point of a patch has no coordinate past 1
+-- no coordinate of a point in a patch exceeds 1
 in-up-to : (p : Patch) (x : Point) → InPatch (domainOf p) x → UpTo (one p) x
 in-up-to (Triangles a b c i) x h = omega arith
 in-up-to (Quads a b c d i j) x h = omega arith
@@ -104,15 +103,15 @@ module _ (s : Spacing) (t : ℕ) (top : Top t) where
     lines = λ a b. isolines-in _ _ (good-run (segmentsOf Equal t a) (segments-valid Equal t top a)) (outer b);
   }
 
-  -- for every patch and setting; of a patch that is discarded there are none
+  -- for every patch and setting; a discarded patch has no points
   pub drawn-in : (p : Patch) → All (InPatch (domainOf p)) (points (subdivision s t p))
   unfolding points
   drawn-in = all-cases each (λ p. none)
 
-  -- no coordinate is above 196,608 on a triangle patch, nor above 65,536 on quads and isolines
+  -- no coordinate exceeds 196,608 on a triangle patch, or 65,536 on quads and isolines
   pub points-up-to : (p : Patch) → All (UpTo (one p)) (points (subdivision s t p))
   points-up-to p = all-more (in-up-to p) (drawn-in p)
 
-  -- the same of their words
+  -- the same for their words
   pub words-up-to : (p : Patch) → All (λ w. w ≤ one p) (vertexWords (points (subdivision s t p)))
   words-up-to p = words-to (points-up-to p)

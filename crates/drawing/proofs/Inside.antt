@@ -1,12 +1,11 @@
--- How many points and triangles the inside of a triangle patch has: the sums over its rings in closed form.
--- Assumes nothing.
+-- The number of points and triangles inside a triangle patch: the sums over its rings in closed form. Assumes nothing.
 use Prim.Native.Nat.{ℕ, zero, suc, _+_, _-_, _*_, _%_, _≤_}
 use mathlib.Core.Path.{_≡_, refl}
 use native.Mathlib.Omega.{arith}
 use Rattle.cover.specs.Nest.{points, count}
 use Rattle.drawing.specs.Counts.{insidePoints, insideTriangles}
 
--- from a ring of r segments an edge inwards
+-- the rings from one with r segments per edge inwards
 rings-points : (r : ℕ) → 4 * points r r r r + r % 2 ≡ 3 * (r * r) + 6 * r + 4
 unfolding points
 rings-points zero = refl

@@ -1,5 +1,4 @@
--- Patches that are alike have the same connections, whatever else their levels are.
--- Assumes nothing.
+-- Patches that are alike have the same index words, however their levels differ. Assumes nothing.
 use Prim.Native.Nat.{ℕ}
 use mathlib.Core.Path.{_≡_, refl, sym, ap₂, _∙_}
 use mathlib.Core.Bool.{Bool, true, false, cond, true≢false, false≢true}
@@ -27,7 +26,7 @@ use Rattle.drawing.proofs.Counts.{point-count}
 use Rattle.drawing.proofs.Demand.{not-discarded}
 use Rattle.drawing.proofs.Valid.{cut-valid}
 
--- plain patches are alike whatever their counts would be
+-- plain patches are alike, whatever their counts would be
 pub plain-alike : (set set′ : Settings) (p p′ : Patch) → kindNumber p ≡ kindNumber p′
     → set .«point_mode» ≡ set′ .«point_mode» → set .order ≡ set′ .order → set .origin ≡ set′ .origin
     → isPlain (subdivision (set .spacing) (set .top) p) ≡ true → isPlain (subdivision (set′ .spacing) (set′ .top) p′) ≡ true → Alike set set′ p p′
@@ -40,7 +39,7 @@ plain-alike set set′ p p′ k m o r h h′ = record {
   counts = λ n. absurd (true≢false (sym h ∙ n));
 }
 
--- two subdivisions with the same primitives and as many points
+-- two subdivisions with the same primitives and equally many points
 record Same (c c′ : Subdivision) : Type 0 where
   primitives : (turn : Bool) → primitives turn c ≡ primitives turn c′
   points : pointCount c ≡ pointCount c′
@@ -94,7 +93,7 @@ module _ (s s′ : Spacing) (t t′ : ℕ) where
   same (Isolines a b) (Triangles a′ b′ c′ i′) k e h = absurd (omega arith)
   same (Isolines a b) (Quads a′ b′ c′ d′ i′ j′) k e h = absurd (omega arith)
 
--- with the same point mode and turn they have the same indices
+-- with the same point mode and orientation they have the same indices
 in-mode : (mode mode′ turn turn′ : Bool) (c c′ : Subdivision) → mode ≡ mode′ → turn ≡ turn′ → Same c c′ → length (points c) ≡ length (points c′)
     → inMode mode turn c ≡ inMode mode′ turn′ c′
 in-mode false mode′ turn turn′ c c′ m t h n = rw (← m, ← t) (h .primitives turn)

@@ -1,4 +1,4 @@
--- The laws of what drawing gives, lowest first.
+-- The laws of `drawing`, lowest first.
 pub mod Cases
 pub mod Valid
 pub mod Runs

@@ -1,5 +1,4 @@
--- Every index of a valid subdivision is the number of one of its points.
--- Assumes nothing.
+-- Every index of a valid subdivision is the number of one of its points. Assumes nothing.
 use Prim.Native.Nat.{ℕ, zero, suc, _+_, _*_, _<_}
 use mathlib.Core.Path.{_≡_}
 use mathlib.Core.Bool.{Bool, true, false}
@@ -28,18 +27,18 @@ use Rattle.drawing.specs.Points.{run, points}
 use Rattle.drawing.specs.Primitives.{triangles, primitives, inMode, indexWords}
 use Rattle.drawing.proofs.Runs.{valid-edges}
 
--- words below a number
+-- all words are below a number
 abbrev Below : ℕ → List ℕ → Type 0
 Below top ws = All (λ w. w < top) ws
 
--- the corners of triangles that are within
+-- the corners of triangles whose vertices are in range
 corners-below : (base top : ℕ) (turn : Bool) (ts : List Corners) → Within base top ts → Below top (indices turn ts)
 unfolding indices
 corners-below base top turn [] w = none
 corners-below base top true (t ∷ ts) w = more (w .0 .1) (more (w .1 .1) (more (w .2 .1) (corners-below base top true ts (w .3))))
 corners-below base top false (t ∷ ts) w = more (w .0 .1) (more (w .2 .1) (more (w .1 .1) (corners-below base top false ts (w .3))))
 
--- pieces one after the other
+-- joined pieces
 flat-below : (top : ℕ) (f : ℕ → List ℕ) (n i k : ℕ) → i + k ≡ n → ((j : ℕ) → j < n → Below top (f j)) → Below top (flat f i k)
 unfolding flat
 flat-below top f n i zero e h = none

@@ -1,5 +1,4 @@
--- No spot is cut twice: for every patch that is drawn as triangles, whatever its levels and settings; the top is a variable.
--- Assumes nothing.
+-- No spot is covered twice: this holds for every patch drawn as triangles, whatever its levels, settings and top level. Assumes nothing.
 use Prim.Native.Nat.{ℕ}
 use mathlib.Core.Path.{_≡_, refl}
 use mathlib.Core.Bool.{Bool, false}
@@ -49,12 +48,12 @@ inside-surface (Triangles a b c i) s h = tt
 inside-surface (Quads a b c d i j) s h = tt
 inside-surface (Isolines a b) s h = h
 
--- points and index words that meet demand 3, whoever drew them
+-- for any points and index words that satisfy demand 3
 pub demand-once : (set : Settings) → Top (set .top) → (p : Patch) {ps : List Point} {ws : List ℕ} → Demand set p ps ws → SpotsOnce set p ps ws
 demand-once set top p d filled s inside clear =
     patch-once (set .spacing) (set .top) top p (d .cover (inside-surface p s inside) filled) s inside clear
 
--- every triangle or quad patch that is not discarded, every setting with a top
+-- for every triangle or quad patch that is not discarded, and all settings with a good top level
 pub drawn-once : (set : Settings) → Top (set .top) → (p : Patch) → discards p ≡ false
     → SpotsOnce set p (points (subdivision (set .spacing) (set .top) p)) (indexWords set (subdivision (set .spacing) (set .top) p))
 drawn-once set top p kept = demand-once set top p (demand set top p kept)

@@ -1,5 +1,4 @@
--- The outline's points one by one: point i of outer edge k lies at q(i) of that edge's own level.
--- Assumes nothing.
+-- The points of the outline: point i of outer edge k is at place q(i) of that edge's own level. Assumes nothing.
 use Prim.Native.Nat.{ℕ}
 use mathlib.Core.Path.{_≡_}
 use mathlib.Core.Logic.{_↔_}
@@ -17,7 +16,7 @@ use Rattle.drawing.specs.InPatch.{domainOf}
 use Rattle.drawing.specs.Demand.{Surface, outline}
 use Rattle.drawing.specs.OuterEdges.{outerEdge}
 
--- a list is the outline's exactly where its points are, one by one, those of the outer edges
+-- a list is that of the outline exactly if its points are those of the outer edges
 pub outline-exactly : (s : Spacing) (t : ℕ) (p : Patch) → Surface p → (ps : List Point) → (ps ≡ outline s t p) ↔ OuterRing (domainOf p) (outerEdge s t p) ps
 unfolding table
 outline-exactly s t (Triangles a b c i) f ps = outer-exactly triangle (outerEdge s t (Triangles a b c i)) (λ k i h. most _ _ i) ps

@@ -1,5 +1,4 @@
--- Where every outer level gives one segment, the outline is the corners alone, and each edge has its two ends.
--- Assumes nothing.
+-- If every outer level gives one segment, the outline has only corners, and each edge its two ends. Assumes nothing.
 use Prim.Native.Nat.{ℕ, suc}
 use mathlib.Core.Path.{_≡_, refl, sym, ap, _∙_}
 use mathlib.Core.Bool.{Bool, true, false, _&&_, false≢true}
@@ -22,7 +21,7 @@ use Rattle.drawing.specs.Points.{run}
 use Rattle.drawing.specs.Demand.{outerRuns}
 use Rattle.drawing.proofs.Runs.{good-run}
 
--- of a list whose elements all pass a test, the first ones do
+-- if all elements of a list pass a test, the first ones do
 both : (a b : Bool) → a && b ≡ true → (a ≡ true) × (b ≡ true)
 both true b e = (refl, e)
 both false b e = absurd (false≢true e)
@@ -34,7 +33,7 @@ first-pass test (x ∷ xs) ys e =
     let w = both (test x) (every test (xs ++ ys)) e in
     more (w .0) (first-pass test xs ys (w .1))
 
--- an edge with its two ends alone
+-- an edge whose only points are its two ends
 record TwoEnds (e : Run) : Type 0 where
   one : e .c ≡ 1
   start : e .q 0 ≡ 0
@@ -43,7 +42,7 @@ record TwoEnds (e : Run) : Type 0 where
 two-ends : {e : Run} → GoodRun e → e .c ≡ 1 → TwoEnds e
 two-ends {e} g h = record { one = h; start = g .first; end = ap (e .q) (sym h) ∙ g .last }
 
--- as many edges of one segment
+-- equally many edges of one segment
 abbrev pub plain : List Run → List Run
 plain es = map (λ e. ends) es
 
@@ -61,7 +60,7 @@ placed-plain : (edge : ℕ → OuterEdge) (ps : List Point) (k : ℕ) {es : List
 placed-plain edge ps k none p = tt
 placed-plain edge ps k (more h hs) p = rw (along-plain h) (p .0, p .1, placed-plain edge ps (suc k) hs (p .2))
 
--- a patch whose outer levels, with its inner ones, all give one segment
+-- a patch whose levels, outer and inner, all give one segment
 module _ (s : Spacing) (t : ℕ) (top : Top t) (p : Patch) (inner : List Float) (h : every (single s t) (outers p ++ inner) ≡ true) where
   ones : All TwoEnds (outerRuns s t p)
   ones = all-map (λ x. run (segmentsOf s t x)) TwoEnds

@@ -1,5 +1,4 @@
--- Words read back give the points and the triangles that they were written for.
--- Assumes nothing.
+-- Words read back as the points and the triangles that they were written for. Assumes nothing.
 use mathlib.Core.Path.{_≡_, refl, ap}
 use mathlib.Core.Bool.{Bool}
 use mathlib.Core.List.{List, [], _∷_, map}

@@ -1,5 +1,4 @@
--- A triangle patch that is not plain, from its levels on: its points one by one, and its triangles strip by strip.
--- Assumes nothing.
+-- A triangle patch that is not plain, from its levels: its points by number, and its triangles strip by strip. Assumes nothing.
 use Prim.Native.Nat.{ℕ}
 use mathlib.Core.Path.{_≡_}
 use mathlib.Core.Bool.{false}
@@ -26,21 +25,21 @@ use Rattle.drawing.specs.Demand.{outerLevel}
 use Rattle.drawing.specs.OuterEdges.{outerEdge}
 
 module _ (s : Spacing) (t : ℕ) (a b c i : Float) (some : every (single s t) (a ∷ b ∷ c ∷ i ∷ []) ≡ false) where
-  -- n and q of the outer edges, by their own levels, and of the inside
+  -- n and q of the outer edges, from their own levels, and of the inner level
   abbrev outer : ℕ → Run
   outer = outerEdge s t (Triangles a b c i)
 
   abbrev inside : Run
   inside = run (innerSegments s t i)
 
-  -- a list is that of the patch's points exactly where they are, one by one, those of the rings
+  -- a list is that of the patch's points exactly if its points are those of the rings
   pub triangle-points-exactly : Top t → (ps : List Point) → (ps ≡ points (cut s t (Triangles a b c i))) ↔ RingPoints outer inside ps
   unfolding points
   triangle-points-exactly top ps =
       rw some (rings-exactly outer inside (λ k _. good-positions _ _ (segments-valid s t top (outerLevel (Triangles a b c i) k)))
       (good-positions _ _ (inner-valid s t top i)) ps)
 
-  -- the list of its triangles, strip by strip
+  -- the patch's triangles, strip by strip
   pub triangle-strips : triangles (cut s t (Triangles a b c i)) ≡ ringStrips (segments outer) (inside .c)
   unfolding triangles
   triangle-strips = rw some (nest-exactly (segments outer) (inside .c))

@@ -1,5 +1,4 @@
--- The edges of a valid subdivision have good places.
--- Assumes nothing.
+-- The edges of a valid subdivision have good places. Assumes nothing.
 use Rattle.level.specs.declared.Segments.{Segments}
 use Rattle.cover.specs.Nest.{Edges}
 use Rattle.mesh.specs.Edge.{GoodRun}
@@ -11,7 +10,7 @@ use Rattle.drawing.specs.Points.{run}
 pub good-run : (s : Segments) → ValidEdge s → GoodRun (run s)
 good-run s v = good-positions (s .count) (s .scaled) v
 
--- any outer edges go with the inside of a valid triangle
+-- any outer edges go with the inner level of a valid triangle patch
 pub valid-edges : {a b c i : Segments} → ValidTriangle a b c i → Edges (a .count) (b .count) (c .count) (i .count)
 valid-edges {a} {b} {c} {i} v =
     edges-two _ _ _ _ (good-run a (v .edge0)) (good-run b (v .edge1)) (good-run c (v .edge2)) (good-run i (v .inside .edge))

@@ -1,5 +1,4 @@
--- 01's sample output, by computation from the definitions.
--- Assumes nothing.
+-- Document 01's sample output, by computation from the definitions. Assumes nothing.
 use mathlib.Core.Path.{_≡_, refl}
 use lib.Ieee.{isNan, le, ofInt}
 use Rattle.level.specs.Scale.{parts}

@@ -1,5 +1,5 @@
--- Two outer edges with the same spacing, level and top have the same places, in any two drawn patches: no seam between them opens.
--- Assumes nothing.
+-- Two outer edges with the same spacing, level and top level have the same places in any two drawn patches, so no gap opens
+-- between them. Assumes nothing.
 use Prim.Native.Nat.{ℕ, zero, suc, _+_, _<_}
 use mathlib.Core.Path.{_≡_, sym, ap, ap₂, _∙_}
 use mathlib.Core.Bool.{false}
@@ -27,7 +27,7 @@ placed-at edge ps d n j (r ∷ es) p zero h e =
     rw here (p .0)
 placed-at edge ps d n j (r ∷ es) p (suc k) h e = placed-at edge ps d n (suc j) es (p .2) k (omega arith) (omega arith)
 
--- the places along an outer edge, by its spacing, its own level and the top alone
+-- the places along an outer edge depend on its spacing, its own level and the top level alone
 pub seam : {set : Settings} {p : Patch} {ps : List Point} {ws : List ℕ} → Demand set p ps ws → Surface p
     → (k : ℕ) → k < length (outers p) → places (edges p k) ps ≡ along (run (segmentsOf (set .spacing) (set .top) (outerLevel p k)))
 seam {set} {p} {ps} d f k h =

@@ -1,5 +1,4 @@
--- No patch has more points or indices than the greatest sizes of its kind, and the patches with every level 64 have these.
--- Assumes nothing.
+-- No patch exceeds the greatest sizes of its kind, and the patches whose levels are all 64 reach them. Assumes nothing.
 use Prim.Native.Nat.{ℕ, _-_, _*_, _≤_}
 use mathlib.Core.Path.{refl}
 use mathlib.Core.Bool.{Bool, true, false}
@@ -26,7 +25,7 @@ use Rattle.drawing.proofs.Counts.{point-count, index-count}
 use Rattle.drawing.proofs.Valid.{cut-valid}
 use Rattle.drawing.proofs.Cases.{Cases, all-cases}
 
--- products of two counts, each less d
+-- the product of two counts, each minus d
 area : (d m n : ℕ) → m ≤ 64 → n ≤ 64 → (m - d) * (n - d) ≤ (64 - d) * (64 - d)
 area d m n h k = mul-le-mul (omega arith) (omega arith)
 
@@ -65,17 +64,17 @@ module _ (s : Spacing) (t : ℕ) (top : Top t) where
   unfolding pointCount primitiveCount
   sizes-at-most = all-cases small (λ p. omega arith)
 
--- of all kinds
+-- the greatest sizes over all kinds
 most : (p : Patch) → (mostPoints p ≤ 4225) × (mostPrimitives p ≤ 24576)
 most (Triangles a b c i) = omega arith
 most (Quads a b c d i j) = omega arith
 most (Isolines a b) = omega arith
 
--- at most 4,225 points, for every patch and every setting: a vertex's number always fits 16 bits
+-- at most 4,225 points, for every patch and setting: every vertex number has 16 bits
 pub points-at-most : (s : Spacing) (t : ℕ) → Top t → (p : Patch) → length (points (subdivision s t p)) ≤ 4225
 points-at-most s t top p = omega (arith, point-count (subdivision s t p) (cut-valid s t top p), sizes-at-most s t top p, most p)
 
--- and at most 24,576 indices
+-- at most 24,576 indices
 pub indices-at-most : (set : Settings) → Top (set .top) → (p : Patch) → length (indexWords set (subdivision (set .spacing) (set .top) p)) ≤ 24576
 indices-at-most set top p = omega (arith, index-count set (subdivision (set .spacing) (set .top) p) (cut-valid (set .spacing) (set .top) top p), go (set .«point_mode»))
   where

@@ -1,5 +1,4 @@
--- 01's ten starred cases hold, by computation from the definitions.
--- Assumes nothing.
+-- Document 01's ten starred cases hold, by computation from the definitions. Assumes nothing.
 use mathlib.Core.Path.{_≡_, refl}
 use mathlib.Core.List.{map}
 use lib.Ieee.{isNan, le, ofInt}

@@ -5,7 +5,7 @@ use Rattle.patch.specs.declared.kinds.Patch.{Patch}
 use Rattle.patch.specs.declared.kinds.Patch.the-variants.{Triangles, Quads, Isolines}
 use Rattle.mesh.specs.declared.Point.{Point}
 
--- what stands for 1: 01's S for triangles
+-- the number that represents the coordinate 1: document 01's S for triangles
 abbrev pub one : Patch → ℕ
 one (Triangles a b c i) = 196608
 one (Quads a b c d i j) = 65536

@@ -1,5 +1,4 @@
--- What is promised of every triangle and quad patch that is drawn: demand 3.
--- Assumes nothing.
+-- What demand 3 promises for every drawn triangle or quad patch. Assumes nothing.
 use Prim.Native.Nat.{ℕ, _<_}
 use mathlib.Core.Path.{_≡_}
 use mathlib.Core.Bool.{false}
@@ -33,11 +32,11 @@ Surface (Isolines a b) = ⊥
 abbrev pub outerLevel : Patch → ℕ → Float
 outerLevel p k = getD (outers p) k nan
 
--- the outer edges, each by its spacing, its own level and the top t alone
+-- the outer edges; each depends on the spacing, its own level and the top level t alone
 abbrev pub outerRuns : Spacing → ℕ → Patch → List Run
 outerRuns s t p = map (λ x. run (segmentsOf s t x)) (outers p)
 
--- the outline's points in walk order: those that each outer edge's own q puts on it
+-- the points of the outline in walk order
 abbrev pub outline : Spacing → ℕ → Patch → List Point
 outline s t (Triangles a b c i) = ring trianglePlace 0 (outerRuns s t (Triangles a b c i)) 0
 outline s t (Quads a b c d i j) = ring quadPlace 0 (outerRuns s t (Quads a b c d i j)) 0
@@ -49,23 +48,23 @@ edges (Triangles a b c i) = triangleEdge
 edges (Quads a b c d i j) = quadEdge
 edges (Isolines a b) = quadEdge
 
--- twice the patch's area
+-- twice the area of the patch
 abbrev pub twiceAreaOf : Patch → ℕ
 twiceAreaOf (Triangles a b c i) = triangleArea
 twiceAreaOf (Quads a b c d i j) = quadArea
 twiceAreaOf (Isolines a b) = 0
 
--- the triangles that index words stand for, by their points
+-- the triangles of index words, with points in place of numbers
 abbrev pub facesIn : List Point → List ℕ → List Face
 facesIn ps ws = map (faceOf (at ps)) (readTriangles ws)
 
--- demand 3 of the points and index words drawn for a patch
+-- demand 3 for the points ps and the index words ws that are drawn for a patch
 pub record Demand (set : Settings) (p : Patch) (ps : List Point) (ws : List ℕ) : Type 0 where
   -- every index is the number of a point
   pub numbered : (k : ℕ) → k < length ws → getD ws k 0 < length ps
-  -- a triangle or quad patch drawn as triangles: the seven sentences of `Cover`
+  -- drawn as triangles: every field of `Cover`
   pub cover : Surface p → set .«point_mode» ≡ false
       → Cover (positive (set .order) (set .origin)) (twiceAreaOf p) (outline (set .spacing) (set .top) p) ps (facesIn ps ws)
-  -- drawn as triangles or as dots: the places on each outer edge are q(0) to q(n) of the spacing, that edge's level and the top, and mirror;
-  -- all points drawn are asked, so no inner point lies on an outer edge
+  -- drawn as triangles or as dots: on each outer edge the points have the places q(0) to q(n) of the spacing, that edge's level
+  -- and the top level, and the places mirror. All points count, so no inner point lies on an outer edge
   pub seams : Surface p → Placed (edges p) ps 0 (outerRuns (set .spacing) (set .top) p)

@@ -1,5 +1,4 @@
--- Which spots lie strictly inside a patch, and that each is held by exactly one triangle.
--- Assumes nothing.
+-- Which spots lie strictly inside a patch, and that exactly one triangle holds each of them. Assumes nothing.
 use Prim.Native.Nat.{ℕ}
 use mathlib.Core.Path.{_≡_}
 use mathlib.Core.Bool.{false}
@@ -13,14 +12,13 @@ use Rattle.mesh.specs.Held.{Spot, Clear, HeldOnce}
 use Rattle.mesh.specs.Domain.{triangle, square, Within}
 use Rattle.drawing.specs.Demand.{facesIn}
 
--- the spot lies strictly inside the patch; isolines have no inside
+-- the spot lies strictly inside the patch; no spot lies inside isolines
 abbrev pub Inside : Patch → Spot → Type 0
 Inside (Triangles a b c i) s = Within triangle s
 Inside (Quads a b c d i j) s = Within square s
 Inside (Isolines a b) s = ⊥
 
--- no spot is cut twice: of the points and index words of a patch drawn as triangles, exactly one triangle holds any spot strictly inside
--- that lies on no side
+-- the patch is drawn as triangles: exactly one triangle holds each spot that lies strictly inside the patch and on no side
 abbrev pub SpotsOnce : Settings → Patch → List Point → List ℕ → Type 0
 SpotsOnce set p ps ws = set .«point_mode» ≡ false → (s : Spot) → Inside p s → Clear (facesIn ps ws) s
     → HeldOnce (positive (set .order) (set .origin)) (facesIn ps ws) s

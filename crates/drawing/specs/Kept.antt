@@ -1,5 +1,4 @@
--- When two patches have the same connections: nothing of their levels but the segment counts is asked, and of the plain patch not even these.
--- Assumes nothing.
+-- When two patches have the same index words. Their levels matter by segment counts alone, and for plain patches not at all. Assumes nothing.
 use Prim.Native.Nat.{ℕ}
 use mathlib.Core.Path.{_≡_}
 use mathlib.Core.Bool.{Bool, true, false}
@@ -14,20 +13,20 @@ use Rattle.patch.specs.declared.subdivision.Subdivision.{Subdivision}
 use Rattle.patch.specs.declared.subdivision.Subdivision.the-variants.{Discarded, PlainTriangle, Triangle, PlainQuad, Quad, Lines}
 use Rattle.patch.specs.Subdivide.{subdivision}
 
--- the kind of a patch, by the job file's number
+-- the number of a patch's kind in job files
 abbrev pub kindNumber : Patch → ℕ
 kindNumber (Triangles a b c i) = 0
 kindNumber (Quads a b c d i j) = 1
 kindNumber (Isolines a b) = 2
 
--- the segment counts of a patch that is not plain, outer levels first, each inner one after the 65,537 rule
+-- the segment counts of a patch that is not plain, outer levels first; inner levels follow the rule of 65,537
 abbrev pub segmentCounts : Spacing → ℕ → Patch → List ℕ
 segmentCounts s t (Triangles a b c i) = segmentsOf s t a .count ∷ segmentsOf s t b .count ∷ segmentsOf s t c .count ∷ innerSegments s t i .count ∷ []
 segmentCounts s t (Quads a b c d i j) =
     segmentsOf s t a .count ∷ segmentsOf s t b .count ∷ segmentsOf s t c .count ∷ segmentsOf s t d .count ∷ innerSegments s t i .count ∷ innerSegments s t j .count ∷ []
 segmentCounts s t (Isolines a b) = segmentsOf Equal t a .count ∷ segmentsOf s t b .count ∷ []
 
--- it is drawn as the plain patch
+-- the patch is drawn as the plain patch
 abbrev pub isPlain : Subdivision → Bool
 isPlain Discarded = false
 isPlain PlainTriangle = true
@@ -36,7 +35,7 @@ isPlain PlainQuad = true
 isPlain (Quad a b c d m n) = false
 isPlain (Lines m n) = false
 
--- two patches, each with its settings, that are to have the same connections: both plain, or neither and with equal counts
+-- two patches with settings for which drawing gives the same index words: both are plain, or neither is and their counts are equal
 pub record Alike (set set′ : Settings) (p p′ : Patch) : Type 0 where
   pub kind : kindNumber p ≡ kindNumber p′
   pub mode : set .«point_mode» ≡ set′ .«point_mode»

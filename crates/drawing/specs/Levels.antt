@@ -1,5 +1,4 @@
--- The tessellation levels that the worked cases name.
--- Assumes nothing.
+-- The tessellation levels of document 01's worked cases. Assumes nothing.
 use mathlib.Core.Bool.{false}
 use lib.IntN.{pos}
 use lib.Ieee.{Float, fin}

@@ -1,4 +1,4 @@
--- The definitions of what drawing gives.
+-- The definitions of `drawing`.
 pub mod Valid
 pub mod Points
 pub mod Primitives

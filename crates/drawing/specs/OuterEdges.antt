@@ -7,6 +7,6 @@ use Rattle.mesh.specs.Edge.{Run}
 use Rattle.drawing.specs.Points.{run}
 use Rattle.drawing.specs.Demand.{outerLevel}
 
--- n and q of outer edge k: of the spacing, that edge's own level and the top t
+-- n and q of outer edge k, from the spacing, that edge's own level and the top level t
 abbrev pub outerEdge : Spacing → ℕ → Patch → ℕ → Run
 outerEdge s t p k = run (segmentsOf s t (outerLevel p k))

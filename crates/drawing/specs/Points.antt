@@ -1,5 +1,4 @@
--- The points of every patch, in the order they are drawn.
--- Assumes nothing.
+-- The points of every patch, in drawing order. Assumes nothing.
 use mathlib.Core.List.{List, []}
 use Rattle.patch.specs.declared.subdivision.Subdivision.{Subdivision}
 use Rattle.patch.specs.declared.subdivision.Subdivision.the-variants.{Discarded, PlainTriangle, Triangle, PlainQuad, Quad, Lines}

@@ -1,5 +1,4 @@
--- The triangles, lines or dots of every patch, by vertex number, in the order they are drawn.
--- Assumes nothing.
+-- The triangles, lines or dots of every patch by vertex number, in drawing order. Assumes nothing.
 use mathlib.Core.Bool.{Bool, true, false}
 use mathlib.Core.List.{List, [], _∷_}
 use Prim.Native.Nat.{ℕ}
@@ -15,7 +14,7 @@ use Rattle.patch.specs.declared.subdivision.Subdivision.the-variants.{Discarded
 use Rattle.patch.specs.Turn.{positive}
 use Rattle.drawing.specs.Points.{points}
 
--- the triangles of a triangle or quad patch, as the strips turn
+-- the triangles of a triangle or quad patch, in the strips' own orientation
 unfoldable pub triangles : Subdivision → List Corners
 triangles Discarded = []
 triangles PlainTriangle = record { a = 0; b = 1; c = 2 } ∷ []
@@ -24,7 +23,7 @@ triangles PlainQuad = plainQuad 0
 triangles (Quad a b c d m n) = quad 0 (a .count) (b .count) (c .count) (d .count) (m .count) (n .count)
 triangles (Lines m n) = []
 
--- the words of a patch's triangles, turned as asked, or of its lines
+-- the index words of a patch's triangles, in the orientation asked for, or of its lines
 abbrev pub primitives : Bool → Subdivision → List ℕ
 primitives turn Discarded = []
 primitives turn PlainTriangle = indices turn (triangles PlainTriangle)
@@ -33,11 +32,11 @@ primitives turn PlainQuad = indices turn (triangles PlainQuad)
 primitives turn (Quad a b c d m n) = indices turn (triangles (Quad a b c d m n))
 primitives turn (Lines m n) = isolines (m .count) (n .count)
 
--- point mode draws a dot for each point in their place
+-- in point mode a patch has one dot per point instead
 abbrev pub inMode : Bool → Bool → Subdivision → List ℕ
 inMode false turn s = primitives turn s
 inMode true turn s = dots (length (points s))
 
--- the indices of a patch
+-- the index words of a patch
 unfoldable pub indexWords : Settings → Subdivision → List ℕ
 indexWords set s = inMode (set .«point_mode») (positive (set .order) (set .origin)) s

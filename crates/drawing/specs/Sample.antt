@@ -1,5 +1,4 @@
--- 01's sample output: a triangle patch with its four points and nine indices.
--- Assumes nothing.
+-- Document 01's sample output: a triangle patch with its four points and nine indices. Assumes nothing.
 use Prim.Native.Nat.{ℕ}
 use mathlib.Core.List.{List, [], _∷_}
 use Rattle.patch.specs.declared.kinds.Patch.{Patch}
@@ -11,7 +10,7 @@ use Rattle.drawing.specs.Levels.{level1, level2}
 use Rattle.drawing.specs.Points.{points}
 use Rattle.drawing.specs.Primitives.{indexWords}
 
--- the vertices and indices of a patch
+-- the points and the index words of a patch
 pub record Output : Type 0 where
   pub vertices : List Point
   pub indices : List ℕ
@@ -25,7 +24,7 @@ output set p =
 abbrev pub samplePatch : Patch
 samplePatch = Triangles level1 level1 level1 level2
 
--- the lines of the sample: V, W, U and the centre, and three triangles
+-- the sample's points V, W, U and the centre, and its three triangles
 abbrev pub sampleOutput : Output
 sampleOutput = record {
   vertices =

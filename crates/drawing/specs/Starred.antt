@@ -1,5 +1,4 @@
--- 01's ten starred cases, in one table: seven edges and three patches.
--- Assumes nothing.
+-- Document 01's ten starred cases in one table: seven edges and three patches. Assumes nothing.
 use Prim.Native.Nat.{ℕ}
 use mathlib.Core.Bool.{false}
 use mathlib.Core.List.{List, [], _∷_, map}
@@ -19,7 +18,7 @@ use Rattle.drawing.specs.Levels.{level1, level2, level3, level4}
 use Rattle.drawing.specs.Points.{run, points}
 use Rattle.drawing.specs.Primitives.{indexWords}
 
--- the settings of the patches: equal spacing, top 64, counter-clockwise, lower-left, no dots
+-- the settings of the three patches
 abbrev pub usual : Settings
 usual = record { spacing = Equal; top = 64; order = CounterClockwise; origin = LowerLeft; «point_mode» = false }
 
@@ -28,13 +27,12 @@ pub record Named : Type 0 where
   pub number : ℕ
   pub point : Point
 
--- an edge's segments, with their number n and the positions q(0) to q(n);
--- or a patch, with some of its points and all of its indices
+-- one case: an edge with n and the places q(0) to q(n), or a patch with some of its points and all its indices
 pub data Case : Type 0 where
   edge : Segments → ℕ → List ℕ → Case
   patch : Patch → List Named → List ℕ → Case
 
--- a case with the answers that the definitions give in place of its own: a case that holds is left as it is
+-- the case with its results replaced by those of the definitions; a case that holds stays the same
 abbrev pub worked : Case → Case
 worked (edge s n qs) = edge s (s .count) (along (run s))
 worked (patch p named ws) =

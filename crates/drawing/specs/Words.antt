@@ -1,5 +1,4 @@
--- Points and triangles as words of a list, written and read back.
--- Assumes nothing.
+-- Points and triangles as words, written and read back. Assumes nothing.
 use Prim.Native.Nat.{ℕ}
 use mathlib.Core.List.{List, [], _∷_}
 use Rattle.strip.specs.declared.triangle.Triangle.{Triangle}
@@ -7,14 +6,14 @@ use Rattle.mesh.specs.declared.Point.{Point}
 pub use Rattle.mesh.specs.Words.{pointWords}
 unfoldable pub use Rattle.mesh.specs.Words.{vertexWords}
 
--- the points that words stand for, three words each
+-- the points that words hold, three words each
 unfoldable pub readPoints : List ℕ → List Point
 readPoints [] = []
 readPoints (u ∷ []) = []
 readPoints (u ∷ v ∷ []) = []
 readPoints (u ∷ v ∷ w ∷ rest) = record { u = u; v = v; w = w } ∷ readPoints rest
 
--- the triangles that words stand for, three words each
+-- the triangles that index words hold, three words each
 unfoldable pub readTriangles : List ℕ → List Triangle
 readTriangles [] = []
 readTriangles (a ∷ []) = []

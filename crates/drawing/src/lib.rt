@@ -1,1 +1,1 @@
-// What drawing a patch gives, and what holds of it: definitions and theorems, with nothing to run.
+// What drawing a patch gives, and what holds for it. Definitions and theorems, with no code to run.

@@ -1,5 +1,4 @@
--- The promise of drawing with floats: nothing is touched by a refusal, and all is written where everything fits.
--- Assumes nothing.
+-- The contract of drawing with floats: a refusal changes nothing, and all lists are written if everything fits. Assumes nothing.
 use Prim.Native.Nat.{ℕ, _*_}
 use mathlib.Core.Path.{_≡_, refl, sym, ap, _∙_}
 use mathlib.Core.List.{List, [], _∷_, map}
@@ -24,7 +23,7 @@ use Rattle.float_drawing.proofs.Verdicts.{answer-fits}
 use Rattle.float_drawing.proofs.Lists.{points-over, indices-over, floats-over}
 
 module _ (set : Settings) (p : Patch) {v i : List ℕ} {f : List Float} where
-  -- any answer but "drawn", whose tag is 0
+  -- any answer but "drawn", which has tag 0
   pub untouched : (r : FloatsAnswer) → OneOf (1 ∷ 2 ∷ 3 ∷ 4 ∷ 5 ∷ []) (tagOf the-type r) → toldFloats r ≡ floatsVerdict set p (length v) (length i) (length f)
       → DrewWithFloats set p v v i i f f r
   untouched (Drawn P I) h e = absurd (miss (1 ∷ 2 ∷ 3 ∷ 4 ∷ 5 ∷ []) 0 tt h)
@@ -34,7 +33,7 @@ module _ (set : Settings) (p : Patch) {v i : List ℕ} {f : List Float} where
   untouched NoRoomForFloats h e = record { answer = e; vertices = refl; indices = refl; floats = refl }
   untouched BadTop h e = record { answer = e; vertices = refl; indices = refl; floats = refl }
 
-  -- drawn, by the two operations and the loop
+  -- drawn, by the two operations and the loop for the floats
   pub all-written : {P I unit : ℕ} {v′ i′ : List ℕ} {f′ : List Float} (r : FloatsAnswer) (a : PointsAnswer) (b : IndicesAnswer)
       → r ≡ Drawn P I → toldFloats r ≡ floatsVerdict set p (length v) (length i) (length f)
       → DrewPoints set p v v′ a → DrewIndices set p i i′ b → unit ≡ one p → f′ ≡ over f 0 (map (coordinate unit) (take (3 * P) v′))

@@ -1,5 +1,4 @@
--- The floats along the outer edges: two edges with the same places have the same.
--- Assumes nothing.
+-- The floats along the outer edges: two edges with the same places have the same floats. Assumes nothing.
 use Prim.Native.Nat.{ℕ, zero, suc, _+_, _-_, _*_, _<_}
 use mathlib.Core.Path.{_≡_, refl, sym, ap, subst, _∙_}
 use mathlib.Core.Bool.{true}
@@ -40,7 +39,7 @@ use Rattle.float_drawing.proofs.Floats.{point-at, many, whole, float-at
 use Rattle.float_drawing.proofs.OnEdges.{part, points-on}
 
 -- ---- one edge
--- an axis is one of three
+-- an axis is below 3
 axis-below : (p : Patch) (k : ℕ) → axis p k < 3
 axis-below (Triangles a b c i) zero = omega arith
 axis-below (Triangles a b c i) (suc zero) = omega arith
@@ -81,7 +80,7 @@ module _ (set : Settings) (p : Patch) (r : FloatsAnswer) {v v′ i i′ : List �
       ∙ ap (coordinate (one p)) (whole set p r d e (axis p k + 3 * j) b ∙ word-of drawn (axis p k) j a l
       ∙ all-at missing j l (points-on (set .spacing) (set .top) (top-as _ (fits set p r d e .top)) p s) k on)
 
-  -- a point that lies on outer edge k has there the float of its place, both read off the lists
+  -- the float of a point on outer edge k is that of its place, both read from the lists
   pub edge-float : Surface p → (k j : ℕ) → j < P → edges p k .on (getD (readPoints (take (3 * P) v′)) j missing) ≡ true
       → getD f′ (axis p k + 3 * j) nan ≡ edgeFloat p k (edges p k .along (getD (readPoints (take (3 * P) v′)) j missing))
   edge-float = rw (points-drawn set p (Drawn P) (as-points set p r d e) refl .2) at-place
@@ -95,12 +94,12 @@ map-map : {A B C : Type 0} (g : B → C) (h : A → B) (xs : List A) → map g (
 map-map g h [] = refl
 map-map g h (x ∷ xs) = ap (λ l. g (h x) ∷ l) (map-map g h xs)
 
--- falling floats read from the other end
+-- falling floats in reverse order
 mirrored : (qs : List ℕ) → Mirrors qs → reverse (map (λ x. coordinate 65536 (65536 - x)) qs) ≡ map (coordinate 65536) qs
 mirrored qs m =
     sym (map-reverseAux (λ x. coordinate 65536 (65536 - x)) qs []) ∙ sym (map-map (coordinate 65536) (λ x. 65536 - x) (reverse qs)) ∙ ap (map (coordinate 65536)) m
 
--- a quad's floats by the places alone, whichever edge it is
+-- the floats of a quad patch depend on the places alone, for every edge
 quad-along : (a b c d i j : Float) (k : ℕ) (qs : List ℕ) → Mirrors qs
     → inRisingOrder (Quads a b c d i j) k (map (edgeFloat (Quads a b c d i j) k) qs) ≡ map (coordinate 65536) qs
 quad-along a b c d i j zero qs m = mirrored qs m

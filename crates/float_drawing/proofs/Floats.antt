@@ -1,5 +1,4 @@
--- The floats that are drawn, read off the list beside the whole coordinates.
--- Assumes nothing.
+-- The drawn floats beside the whole-number coordinates, read from the lists. Assumes nothing.
 use Prim.Native.Nat.{ℕ, zero, suc, _*_, _≤_, _<_}
 use mathlib.Core.Path.{_≡_, refl, sym, ap, _∙_}
 use mathlib.Core.List.{List, [], _∷_, map}
@@ -32,7 +31,7 @@ use Rattle.float_drawing.specs.Said.{FloatOf}
 use Rattle.float_drawing.proofs.Lists.{counted, word-at, word-small}
 use Rattle.float_drawing.proofs.Together.{fits}
 
--- by the kind of patch
+-- for each kind of patch
 float-of : (p : Patch) (x : ℕ) → x ≤ one p → FloatOf p x (coordinate (one p) x)
 float-of (Triangles a b c i) x h = near x h
 float-of (Quads a b c d i j) x h = exact x h
@@ -43,7 +42,7 @@ apart (Triangles a b c i) = triangle-apart
 apart (Quads a b c d i j) = quad-apart
 apart (Isolines a b) = quad-apart
 
--- the words of point j are n and the next two
+-- the words of point j are number n = 3 * j and the next two
 pub point-at : (ps : List Point) (j n : ℕ) → j < length ps → n ≡ 3 * j
     → getD ps j missing ≡ record { u = getD (vertexWords ps) n 0; v = getD (vertexWords ps) (suc n) 0; w = getD (vertexWords ps) (suc (suc n)) 0 }
 unfolding vertexWords
@@ -63,7 +62,7 @@ module _ (set : Settings) (p : Patch) (r : FloatsAnswer) {v v′ i i′ : List �
   whole-small : (k : ℕ) → k < 3 * P → getD v′ k 0 ≤ one p
   whole-small = word-small set p (fits set p r d e) (d .vertices ∙ rw e)
 
-  -- float k is the division of word k
+  -- float k is word k divided
   pub float-at : (k : ℕ) → k < 3 * P → getD f′ k nan ≡ coordinate (one p) (getD v′ k 0)
   float-at k h =
       let ws = pointWords set p in
@@ -73,11 +72,11 @@ module _ (set : Settings) (p : Patch) (r : FloatsAnswer) {v v′ i i′ : List �
       ∙ get-within (floatWords set p) nan (coordinate (one p) 0) k (omega (arith, n))
       ∙ List·getD-map (coordinate (one p)) ws k 0 ∙ ap (coordinate (one p)) (sym (whole k h))
 
-  -- and so exact or near, by the kind of patch
+  -- so it is exact or near, by the kind of patch
   pub floats-said : (k : ℕ) → k < 3 * P → FloatOf p (getD v′ k 0) (getD f′ k nan)
   floats-said k h = rw (float-at k h) (float-of p (getD v′ k 0) (whole-small k h))
 
-  -- equal floats stand beside equal words
+  -- equal floats belong to equal words
   same-word : (j k : ℕ) → j < 3 * P → k < 3 * P → getD f′ j nan ≡ getD f′ k nan → getD (pointWords set p) j 0 ≡ getD (pointWords set p) k 0
   same-word j k h l q =
       sym (whole j h) ∙ apart p (getD v′ j 0) (getD v′ k 0) (whole-small j h) (whole-small k l) (sym (float-at j h) ∙ q ∙ float-at k l) ∙ whole k l

@@ -1,5 +1,4 @@
--- The three lists where everything fits.
--- Assumes nothing.
+-- The three lists, if everything fits. Assumes nothing.
 use Prim.Native.Nat.{ℕ, _*_, _≤_, _<_}
 use mathlib.Core.Path.{_≡_, sym, ap, _∙_}
 use mathlib.Core.List.{List, map}
@@ -28,7 +27,7 @@ use Rattle.coordinate.specs.Coordinate.{coordinate, Castable}
 use Rattle.float_drawing.specs.Draws.{floatWords}
 use Rattle.float_drawing.proofs.Verdicts.{Fits}
 
--- what stands for 1 is a number that `f32` holds
+-- an `f32` holds the number that represents 1
 one-small : (p : Patch) → (0 < one p) × (one p ≤ 16777216)
 one-small (Triangles a b c i) = omega arith
 one-small (Quads a b c d i j) = omega arith
@@ -51,20 +50,20 @@ module _ (set : Settings) (p : Patch) {vs is : List ℕ} {fs : List Float} {P I 
   counted = omega (arith, fits .point-count, words-length (points (subdivision (set .spacing) (set .top) p)))
 
   module _ {vs′ : List ℕ} (e : vs′ ≡ over vs 0 (pointWords set p)) where
-    -- then the counted words of the vertex list are the points'
+    -- the counted words of the vertex list are those of the points
     pub front : take (3 * P) vs′ ≡ pointWords set p
     front = ap (take (3 * P)) e ∙ over-front vs (pointWords set p) (3 * P) counted
 
     pub word-at : (k : ℕ) → k < 3 * P → getD vs′ k 0 ≡ getD (pointWords set p) k 0
     word-at k h = sym (getD-take (3 * P) vs′ k 0 h) ∙ ap (λ (l : List ℕ). getD l k 0) front
 
-    -- none is past 1
+    -- no coordinate exceeds 1
     pub word-small : (k : ℕ) → k < 3 * P → getD vs′ k 0 ≤ one p
     word-small k h =
         let small = all-at {Q = λ w. w ≤ one p} 0 k (omega (arith, counted)) (words-up-to (set .spacing) (set .top) (top-as _ (fits .top)) p) in
         omega (arith, word-at k h)
 
-    -- so that each of them has a float; what the loop asks for
+    -- so each has a float: what the loop requires
     pub loop-asks : {unit : ℕ} → unit ≡ one p → ((3 * P ≤ length fs) × (3 * P ≤ length vs′) × (0 < unit) × (unit ≤ 16777216)) × Castable (3 * P) vs′
     loop-asks u =
         let same : length vs′ ≡ length vs = ap length e ∙ over-length vs 0 (pointWords set p) (omega (arith, counted, fits .vertices, fits .point-count)) in (

@@ -1,5 +1,4 @@
--- The coordinate that changes along an outer edge is known by the place of the point on the edge.
--- Assumes nothing.
+-- The coordinate that changes along an outer edge follows from the point's place on the edge. Assumes nothing.
 use Prim.Native.Nat.{ℕ, zero, suc, _*_, _/_, _≤_, _<_}
 use mathlib.Core.Path.{_≡_, refl, sym, subst}
 use mathlib.Core.Bool.{true}
@@ -35,14 +34,14 @@ part zero q = q .u
 part (suc zero) q = q .v
 part (suc (suc n)) q = q .w
 
--- on each outer edge that the point lies on
+-- for each outer edge on which the point lies
 abbrev pub OnEdges : Patch → Point → Type 0
 OnEdges p q = (k : ℕ) → edges p k .on q ≡ true → part (axis p k) q ≡ atPlace p k (edges p k .along q)
 
 is-zero : (n : ℕ) → eqb n 0 ≡ true → n ≡ 0
 is-zero n e = eqb→eq n 0 (subst T (sym e) tt)
 
--- triangles: all coordinates of an outline's point are multiples of three
+-- triangles: all coordinates of points on the outline are multiples of three
 record Thirds (q : Point) : Type 0 where
   pub u : 3 * (q .u / 3) ≡ q .u
   pub v : 3 * (q .v / 3) ≡ q .v
@@ -60,7 +59,7 @@ module _ (a b c i : Float) where
   outlined q t (suc zero) e = sym (t .u)
   outlined q t (suc (suc k)) e = sym (t .v)
 
-  -- a point inside lies on no edge
+  -- an inner point lies on no edge
   inside : (q : Point) → 0 < least q → OnEdges (Triangles a b c i) q
   inside q h zero e = absurd (omega (arith, is-zero (q .u) e))
   inside q h (suc zero) e = absurd (omega (arith, is-zero (q .v) e))
@@ -77,7 +76,7 @@ module _ (a b c i : Float) where
   corner-on : (k : ℕ) → OnEdges (Triangles a b c i) (trianglePlace k 0 0)
   corner-on k = outlined (trianglePlace k 0 0) (thirds k 0 (omega arith))
 
--- quads: the coordinate is up to 65,536
+-- quads: the coordinate is at most 65,536
 quad-on : (a b c d i j : Float) (q : Point) → UpTo 65536 q → OnEdges (Quads a b c d i j) q
 quad-on a b c d i j q h zero e = omega (arith, h .v)
 quad-on a b c d i j q h (suc zero) e = omega arith

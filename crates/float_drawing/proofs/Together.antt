@@ -1,6 +1,5 @@
--- What the call with floats leaves in the two whole-number lists is what the two drawing operations leave there, so that all that is
--- said of the two holds of it.
--- Assumes nothing.
+-- The call with floats leaves the same words in the two whole-number lists as the two drawing operations, so all that holds for
+-- them holds for it. Assumes nothing.
 use Prim.Native.Nat.{ℕ, _*_}
 use mathlib.Core.Path.{_≡_, refl, sym, ap, _∙_}
 use mathlib.Core.List.{List}
@@ -27,22 +26,22 @@ module _ (set : Settings) (p : Patch) (r : FloatsAnswer) {v v′ i i′ : List �
   pub fits : Fits set p v i f P I
   fits = drawn-fits set p v i f P I (sym e ∙ d .answer)
 
-  -- as drawing the points alone
+  -- the same as drawing the points alone
   pub as-points : DrewPoints set p v v′ (points.Drawn P)
   as-points =
       let right = told-drawn set p 3 _ _ _ (fits .top) (fits .drawn) (fits .vertices) ∙ ap drew (sym (fits .point-count)) in
       written P refl right (d .vertices ∙ rw e)
 
-  -- as drawing the indices alone
+  -- the same as drawing the indices alone
   pub as-indices : DrewIndices set p i i′ (indices.Drawn I)
   as-indices =
       let right = told-drawn set p 4 _ _ _ (fits .top) (fits .drawn) (fits .corners) ∙ ap drew (sym (fits .index-count)) in
       written I refl right (d .indices ∙ rw e)
 
-  -- demand 3 of what the call writes
+  -- demand 3 for what the call writes
   pub together-with-floats : Demand set p (readPoints (take (3 * P) v′)) (take I i′)
   together-with-floats = demand-together set p (points.Drawn P) (indices.Drawn I) as-points as-indices refl refl
 
-  -- and no spot is cut twice
+  -- no spot is covered twice
   pub once-with-floats : SpotsOnce set p (readPoints (take (3 * P) v′)) (take I i′)
   once-with-floats = once-together set p (points.Drawn P) (indices.Drawn I) as-points as-indices refl refl

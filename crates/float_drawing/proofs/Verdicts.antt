@@ -1,5 +1,4 @@
--- Which answer drawing with floats has to give, by what was found.
--- Assumes nothing.
+-- Which answer drawing with floats gives, by what was found. Assumes nothing.
 use Prim.Native.Nat.{ℕ, _+_, _*_, _≤_}
 use mathlib.Core.Path.{_≡_, refl, sym, ap, _∙_}
 use mathlib.Core.Bool.{Bool, true, false, cond}
@@ -22,7 +21,7 @@ use Rattle.float_drawing.specs.declared.answer.FloatsAnswer.the-variants
 use Rattle.float_drawing.specs.Answers.{toldFloats, roomVerdict, floatsVerdict}
 
 module _ (v i f : ℕ) where
-  -- by what measuring says
+  -- by the result of measuring
   abbrev pub sizeVerdict : Size → Told
   sizeVerdict (Counts points indices c) = roomVerdict points indices v i f
   sizeVerdict Discarded = refused 1
@@ -40,7 +39,7 @@ module _ (v i f : ℕ) where
   pub judged : (set : Settings) (p : Patch) {size s : Size} {t : Told} → toldSize size ≡ measureVerdict set p → size ≡ s → t ≡ sizeVerdict s → t ≡ floatsVerdict set p v i f
   judged set p e is h = h ∙ ap sizeVerdict (sym is ∙ is-measured set p e) ∙ by-size set p
 
--- what "drawn" means: the top is one, the patch is not discarded, each list has room, and the counts are right
+-- what "drawn" means: the top level is good, the patch is not discarded, each list has room, and the counts are right
 pub record Fits (set : Settings) (p : Patch) (vs is : List ℕ) (fs : List Float) (points indices : ℕ) : Type 0 where
   pub top : isTop (set .top) ≡ true
   pub drawn : discards p ≡ false
@@ -81,7 +80,7 @@ drawn-fits set p vs is fs P I e =
       index-count = ap (λ (t : Told). getD (t .values) 1 0) h;
     }
 
--- of an answer by its name
+-- for an answer by its name
 pub answer-fits : (set : Settings) (p : Patch) (vs is : List ℕ) (fs : List Float) {P I : ℕ} (r : FloatsAnswer) → r ≡ Drawn P I
     → toldFloats r ≡ floatsVerdict set p (length vs) (length is) (length fs) → Fits set p vs is fs P I
 answer-fits set p vs is fs {P} {I} r e h = drawn-fits set p vs is fs P I (ap toldFloats (sym e) ∙ h)

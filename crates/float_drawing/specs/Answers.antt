@@ -1,5 +1,4 @@
--- The numbers and values of the answers of drawing with floats, and which of them applies.
--- Assumes nothing.
+-- The numbers and values of the answers of drawing with floats, and which answer applies. Assumes nothing.
 use Prim.Native.Nat.{ℕ, _*_}
 use mathlib.Core.Bool.{cond}
 use lib.Dec.{ltb}
@@ -11,7 +10,7 @@ use Rattle.tessellate.specs.Answers.{Told, refused, drewBoth, pointsOf, indices
 use Rattle.float_drawing.specs.declared.answer.FloatsAnswer.{FloatsAnswer}
 use Rattle.float_drawing.specs.declared.answer.FloatsAnswer.the-variants.{Drawn, Discarded, NoRoomForVertices, NoRoomForIndices, NoRoomForFloats, BadTop}
 
--- the table of the two drawing operations, with 9 for the floats
+-- the numbers are those of the two drawing operations, and 9 if there is no room for the floats
 abbrev pub toldFloats : FloatsAnswer → Told
 toldFloats (Drawn points indices) = drewBoth points indices
 toldFloats Discarded = refused 1
@@ -20,12 +19,13 @@ toldFloats NoRoomForIndices = refused 4
 toldFloats NoRoomForFloats = refused 9
 toldFloats BadTop = refused 11
 
--- so many points and indices into lists of v, i and f words: three words and three floats a point, the lowest number first
+-- the answer for this many points and indices, with lists of v, i and f words: each point takes three words and three floats;
+-- of the refusals that apply the lowest number is given
 unfoldable pub roomVerdict : ℕ → ℕ → ℕ → ℕ → ℕ → Told
 roomVerdict points indices v i f =
     cond (ltb v (3 * points)) (refused 3) (cond (ltb i indices) (refused 4) (cond (ltb f (3 * points)) (refused 9) (drewBoth points indices)))
 
--- what drawing with floats has to say: first of all a bad top, else the lowest number that applies
+-- the answer of drawing with floats: a bad top level first, then the lowest number that applies
 unfoldable pub floatsVerdict : Settings → Patch → ℕ → ℕ → ℕ → Told
 unfolding roomVerdict
 floatsVerdict set p v i f = cond (isTop (set .top)) (cond (discards p) (refused 1) (roomVerdict (pointsOf set p) (indicesOf set p) v i f)) (refused 11)

@@ -1,5 +1,4 @@
--- The promise of drawing with floats: the answer, and each of the three lists at exit.
--- Assumes nothing.
+-- The contract of drawing with floats: the answer, and each of the three lists at exit. Assumes nothing.
 use Prim.Native.Nat.{ℕ}
 use mathlib.Core.Path.{_≡_}
 use mathlib.Core.List.{List, map}
@@ -13,17 +12,17 @@ use Rattle.coordinate.specs.Coordinate.{coordinate}
 use Rattle.float_drawing.specs.declared.answer.FloatsAnswer.{FloatsAnswer}
 use Rattle.float_drawing.specs.Answers.{toldFloats, floatsVerdict}
 
--- the floats of a patch: each word of its points, divided by what stands for 1
+-- the floats of a patch: each coordinate of its points, scaled to 1
 abbrev pub floatWords : Settings → Patch → List Float
 floatWords set p = map (coordinate (one p)) (pointWords set p)
 
--- v, i and f are the vertex list, the index list and the float list at entry, v′, i′ and f′ those at exit;
--- drawn: the counted words at each list's front and not one more; else all three untouched
+-- v, i and f are the vertex, index and float list at entry, v′, i′ and f′ at exit. If drawn, each list begins with the words of
+-- the patch and is unchanged after them; otherwise all three are unchanged
 pub record DrewWithFloats (set : Settings) (p : Patch) (v v′ i i′ : List ℕ) (f f′ : List Float) (r : FloatsAnswer) : Type 0 where
-  -- the lowest number that applies, with both counts where drawn
+  -- the answer, with both counts if drawn
   pub answer : toldFloats r ≡ floatsVerdict set p (length v) (length i) (length f)
-  -- what the two drawing operations write
+  -- the same words as the two drawing operations write
   pub vertices : v′ ≡ after (toldFloats r .number) v (pointWords set p)
   pub indices : i′ ≡ after (toldFloats r .number) i (connectionWords set p)
-  -- and three floats for each point
+  -- three floats per point
   pub floats : f′ ≡ after (toldFloats r .number) f (floatWords set p)

@@ -1,5 +1,4 @@
--- The floats along an outer edge of a patch.
--- Assumes nothing.
+-- The floats along an outer edge of a patch. Assumes nothing.
 use Prim.Native.Nat.{ℕ, zero, suc, _-_, _*_}
 use mathlib.Core.List.{List, map, reverse}
 use lib.Ieee.{Float}
@@ -11,7 +10,7 @@ use Rattle.drawing.specs.Demand.{edges}
 use Rattle.drawing.specs.Coordinates.{one}
 use Rattle.coordinate.specs.Coordinate.{coordinate}
 
--- which of a point's coordinates changes along outer edge k, 0 for u, 1 for v, 2 for w; for triangles it is 01's end coordinate
+-- which coordinate changes along outer edge k: 0 for u, 1 for v, 2 for w; for triangles it is the end coordinate
 abbrev pub axis : Patch → ℕ → ℕ
 axis (Triangles a b c i) zero = 2
 axis (Triangles a b c i) (suc zero) = 0
@@ -22,7 +21,7 @@ axis (Quads a b c d i j) (suc (suc zero)) = 1
 axis (Quads a b c d i j) (suc (suc (suc k))) = 0
 axis (Isolines a b) k = 0
 
--- that coordinate at a place of the edge: it rises along the walk, or falls on the quads' edges u = 0 and v = 1
+-- that coordinate at place x of edge k; it rises along the edge, or falls on the edges u = 0 and v = 1 of quads
 abbrev pub atPlace : Patch → ℕ → ℕ → ℕ
 atPlace (Triangles a b c i) k x = 3 * x
 atPlace (Quads a b c d i j) zero x = 65536 - x
@@ -31,7 +30,7 @@ atPlace (Quads a b c d i j) (suc (suc zero)) x = x
 atPlace (Quads a b c d i j) (suc (suc (suc k))) x = 65536 - x
 atPlace (Isolines a b) k x = x
 
--- a list of it along the walk, in rising order
+-- the list of that coordinate's floats along the edge, put in rising order
 abbrev pub inRisingOrder : Patch → ℕ → List Float → List Float
 inRisingOrder (Triangles a b c i) k fs = fs
 inRisingOrder (Quads a b c d i j) zero fs = reverse fs
@@ -40,7 +39,7 @@ inRisingOrder (Quads a b c d i j) (suc (suc zero)) fs = fs
 inRisingOrder (Quads a b c d i j) (suc (suc (suc k))) fs = reverse fs
 inRisingOrder (Isolines a b) k fs = fs
 
--- its float at a place
+-- the float of that coordinate at place x
 abbrev pub edgeFloat : Patch → ℕ → ℕ → Float
 edgeFloat p k x = coordinate (one p) (atPlace p k x)
 

@@ -1,12 +1,11 @@
--- What is said of a float beside its whole coordinate.
--- Assumes nothing.
+-- How a float relates to its whole-number coordinate. Assumes nothing.
 use Prim.Native.Nat.{ℕ}
 use lib.Ieee.{Float}
 use Rattle.patch.specs.declared.kinds.Patch.{Patch}
 use Rattle.patch.specs.declared.kinds.Patch.the-variants.{Triangles, Quads, Isolines}
 use Rattle.coordinate.specs.Coordinate.{Exact, Near}
 
--- quads and isolines: exactly x / 65,536; triangles: a whole number of parts of 2 ^ -41, near x / 196,608
+-- quads and isolines: f is exactly x / 65,536; triangles: f is a whole number of units of 2 ^ -41, near x / 196,608
 abbrev pub FloatOf : Patch → ℕ → Float → Type 0
 FloatOf (Triangles a b c i) x f = Near x f
 FloatOf (Quads a b c d i j) x f = Exact x f

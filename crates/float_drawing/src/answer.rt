@@ -1,5 +1,5 @@
-// What drawing with floats answers, by name: so many points and indices stand at the lists' fronts, and three floats for each
-// point; or why nothing was written.
+// The answers of drawing with floats. If drawn, the lists begin with this many points and indices, and with three floats per
+// point; otherwise nothing was written.
 pub enum FloatsAnswer {
     Drawn { points: u32, indices: u32 },
     Discarded,

@@ -1,5 +1,5 @@
-// Drawing with floats: all room is tested first, then the two drawing operations write their lists, and then each word of a point
-// is written once more as a float.
+// Drawing with floats: tests all room first, then the two drawing operations write their lists, then each coordinate is written
+// again as a float.
 ghost use Rattle.float_drawing.specs.Draws.{DrewWithFloats};
 use crate::answer::FloatsAnswer;
 use patch::kinds::Patch;
@@ -18,7 +18,7 @@ pub fn draw_with_floats(
     let FloatsAnswer::Drawn { points, indices: _ } = answer else {
         return answer;
     };
-    // There is room for all, so both draw.
+    // Both operations draw, as all room was tested above.
     tessellate::draw::draw_points(patch, settings, vertices);
     tessellate::draw::draw_indices(patch, settings, indices);
     coordinate::write_coordinates(

@@ -1,4 +1,4 @@
-// What stands for 1 in a patch's coordinates.
+// The number that represents 1 in a patch's coordinates.
 ghost use mathlib.Core.Path.{_≡_};
 ghost use Rattle.drawing.specs.Coordinates.{one};
 use patch::kinds::Patch;

@@ -1,4 +1,4 @@
-// What stands against a drawing, found before the first word is written: the lowest number that applies.
+// Why a drawing is refused, found before the first word is written: the lowest number that applies.
 ghost use mathlib.Core.Path.{_≡_};
 ghost use Rattle.float_drawing.specs.Answers.{toldFloats, roomVerdict, floatsVerdict};
 use crate::answer::FloatsAnswer;
@@ -6,7 +6,7 @@ use patch::kinds::Patch;
 use patch::settings::Settings;
 use tessellate::answer::Size;
 
-// The room for so many points and indices in lists of these lengths.
+// The answer for this many points and indices, with lists of these lengths.
 fn find_room(
     points: u32,
     indices: u32,

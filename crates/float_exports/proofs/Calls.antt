@@ -1,4 +1,4 @@
--- The promise of a call that draws with floats, for settings that are refused and for those that are known. Assumes nothing.
+-- The contract of a call that draws with floats, for refused and for known settings. Assumes nothing.
 use Prim.Native.Nat.{ℕ, suc}
 use mathlib.Core.Path.{_≡_, sym, _∙_}
 use mathlib.Core.List.{List, [], _∷_}
@@ -19,7 +19,7 @@ use Rattle.float_exports.specs.Calls.{FloatsCalled}
 
 module _ (bs : List ℕ) (xs : List Float) {a : Asked} (is : a ≡ askedIn bs xs) {v i : List ℕ} {f : List Float} {c′ : List ℕ} {r : ℕ} {reply : Reply}
     (s : (r ≡ reply .number) × (c′ ≡ reply .first ∷ reply .second ∷ [])) where
-  -- a refusal leaves the lists as they were
+  -- a refusal leaves the lists unchanged
   pub floats-refused : a ≡ Refused reply → FloatsCalled bs xs v v i i f f c′ r
   floats-refused e =
       let instead = refused-instead bs xs is e in

@@ -1,4 +1,4 @@
--- A call that draws with floats answers each number exactly where it means. Assumes nothing.
+-- A call that draws with floats gives each number exactly if it is right. Assumes nothing.
 use Prim.Native.Nat.{ℕ, _*_}
 use mathlib.Core.Path.{_≡_, refl, ap}
 use mathlib.Core.Bool.{Bool, true, false, cond}
@@ -33,7 +33,7 @@ module _ (set : Settings) (p : Patch) (v i f : ℕ) where
   abbrev I : ℕ
   I = indicesOf set p
 
-  -- the answer by name, by the top, by whether the patch is discarded and by which lists are short
+  -- the answer, by the top level, whether the patch is discarded, and which lists are short
   abbrev named : Bool → Bool → Bool → Bool → Bool → FloatsAnswer
   named t g a b c =
       cond t (cond g floats.Discarded (cond a floats.NoRoomForVertices (cond b floats.NoRoomForIndices (cond c floats.NoRoomForFloats (floats.Drawn P I))))) floats.BadTop

@@ -1,4 +1,4 @@
--- The numbers that a call of drawing with floats can answer with. Assumes nothing.
+-- The numbers that a call of drawing with floats can answer. Assumes nothing.
 use Prim.Native.Nat.{ℕ}
 use mathlib.Core.Path.{refl}
 use mathlib.Core.Bool.{Bool, true, false, cond}

@@ -1,4 +1,4 @@
--- What a call that answered 0 leaves behind: the counts are right, and demand 3 holds. Assumes nothing.
+-- What a call that answered 0 leaves: the counts are right, and demand 3 holds. Assumes nothing.
 use Prim.Native.Nat.{ℕ, _*_}
 use mathlib.Core.Path.{_≡_, refl, sym, ap, _∙_}
 use mathlib.Core.Bool.{Bool, true, false, cond}
@@ -42,7 +42,7 @@ module _ (bs : List ℕ) (xs : List Float) where
       go true false false false false e = refl
 
   module _ {v v′ i i′ : List ℕ} {f f′ : List Float} {c′ : List ℕ} (d : FloatsCalled bs xs v v′ i i′ f f′ c′ 0) where
-    -- such a call is a drawing with both counts told
+    -- such a call is a drawing with both counts in memory
     pub called-drew : DrewWithFloats (settingsIn bs) (patchIn bs xs) v v′ i i′ f f′ (Drawn (getD c′ 0 0) (getD c′ 1 0))
     called-drew =
         let t = floatsVerdict (settingsIn bs) (patchIn bs xs) (length v) (length i) (length f) in

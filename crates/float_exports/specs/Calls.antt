@@ -1,5 +1,5 @@
--- What a call of drawing with floats answers and leaves behind, for every input: bs are the setting bytes, xs the levels, v and v′ the
--- vertex list at entry and at exit, i and i′ the index list, f and f′ the float list, and c′ the counts at exit. Assumes nothing.
+-- What a call of drawing with floats answers and leaves, for every input: bs are the setting bytes, xs the levels, v, i and f
+-- the vertex, index and float list at entry, v′, i′ and f′ at exit, and c′ the counts at exit. Assumes nothing.
 use Prim.Native.Nat.{ℕ}
 use mathlib.Core.Path.{_≡_}
 use mathlib.Core.List.{List}
@@ -13,14 +13,14 @@ use Rattle.requests.specs.Asked.{known}
 use Rattle.float_drawing.specs.Answers.{floatsVerdict}
 use Rattle.float_drawing.specs.Draws.{floatWords}
 
--- what drawing with floats into lists of so many words has to say
+-- the answer to drawing with floats into lists of v, i and f words
 abbrev pub floatsSay : List ℕ → List Float → ℕ → ℕ → ℕ → Told
 floatsSay bs xs v i f = known bs badTop unknownSetting (floatsVerdict (settingsIn bs) (patchIn bs xs) v i f)
 
 pub record FloatsCalled (bs : List ℕ) (xs : List Float) (v v′ i i′ : List ℕ) (f f′ : List Float) (c′ : List ℕ) (r : ℕ) : Type 0 where
-  -- 11, 8, or what the operation says
+  -- the answer: 11, 8, or the operation's
   pub says : Says twoWords (floatsSay bs xs (length v) (length i) (length f)) c′ r
-  -- drawn: the counted words at each list's front and not one more; else untouched
+  -- if drawn, each list begins with the words of the patch and is unchanged after them; otherwise all three are unchanged
   pub vertices : v′ ≡ after r v (pointWords (settingsIn bs) (patchIn bs xs))
   pub indices : i′ ≡ after r i (connectionWords (settingsIn bs) (patchIn bs xs))
   pub floats : f′ ≡ after r f (floatWords (settingsIn bs) (patchIn bs xs))

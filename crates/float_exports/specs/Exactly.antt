@@ -1,4 +1,4 @@
--- When a call that draws with floats answers what. Assumes nothing.
+-- When a call that draws with floats gives which answer. Assumes nothing.
 use Prim.Native.Nat.{ℕ, _*_, _≤_, _<_}
 use mathlib.Core.Path.{_≡_}
 use mathlib.Core.List.{List}
@@ -15,7 +15,7 @@ use Rattle.requests.specs.Inputs.{patchIn, settingsIn}
 use Rattle.requests.specs.Exactly.{CalledExactly}
 use Rattle.exports.specs.Exactly.{Discarded, Drawable}
 
--- when each answer is right, for lists of v, i and f words: a list is asked for room where those before it have it
+-- when each answer is right, for lists of v, i and f words; each refusal for room presumes that the lists before it have room
 abbrev pub FloatsMeans : Settings → Patch → ℕ → ℕ → ℕ → FloatsAnswer → Type 0
 FloatsMeans set p v i f floats.BadTop = Top (set .top) → ⊥
 FloatsMeans set p v i f floats.Discarded = Discarded set p
@@ -25,6 +25,6 @@ FloatsMeans set p v i f floats.NoRoomForFloats = Drawable set p × (3 * pointsOf
 FloatsMeans set p v i f (floats.Drawn m k) =
     Drawable set p × (3 * pointsOf set p ≤ v) × (indicesOf set p ≤ i) × (3 * pointsOf set p ≤ f) × (m ≡ pointsOf set p) × (k ≡ indicesOf set p)
 
--- each number with its words is answered exactly where it means; c′ are the counts at exit
+-- each answer is given, by number and counts, exactly if it is right
 abbrev pub FloatsExactly : List ℕ → List Float → ℕ → ℕ → ℕ → List ℕ → ℕ → Type 0
 FloatsExactly bs xs v i f c′ r = CalledExactly twoWords toldFloats bs (FloatsMeans (settingsIn bs) (patchIn bs xs) v i f) c′ r

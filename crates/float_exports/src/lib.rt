@@ -1,7 +1,7 @@
-// Drawing with floats for programs in C and Rust: include/yoktvarim.h declares it, and the crate in rust/ wraps it. Settings, levels
-// and lists are handed over as in `exports`; counts are two words, always written: points and indices beside the answer 0, the place
-// of the setting and 0 beside 8, and else 0 and 0. The answers are 0 drawn, 1 discarded, 3 no room for vertices, 4 no room for
-// indices, 8 unknown setting, 9 no room for floats, 11 bad top; whatever is not 0 leaves all three lists untouched.
+// Drawing with floats for programs in C and Rust: include/yoktvarim.h declares it, and the crate in rust/ wraps it. Settings,
+// levels and lists are passed as in `exports`. Counts are two words, always written: points and indices for answer 0, the place
+// of the setting and 0 for answer 8, else 0 and 0. The answers are 0 drawn, 1 discarded, 3 no room for vertices, 4 no room for
+// indices, 8 unknown setting, 9 no room for floats, 11 bad top; every answer but 0 leaves all three lists unchanged.
 ghost use Rattle.float_drawing.specs.Answers.{toldFloats};
 ghost use Rattle.replies.specs.Replies.{Tells};
 ghost use Rattle.float_exports.specs.Calls.{FloatsCalled};

@@ -1,5 +1,4 @@
--- The lines around a grid, and the words of its cells.
--- Assumes nothing.
+-- The lines along the border of a grid, and the words of its cells. Assumes nothing.
 use Prim.Native.Nat.{ℕ, zero, suc, _+_, _-_, _*_, _%_, _≤_, _<_}
 use mathlib.Core.Path.{_≡_, refl, sym, ap, _∙_}
 use mathlib.Core.Bool.{Bool, true, false}
@@ -21,7 +20,7 @@ use Rattle.copies.specs.Copies.{shifted}
 use Rattle.copies.proofs.Shifts.{flat-shifted, flat-below}
 
 module _ (g : Grid) (fits : GridFits g) where
-  -- down the first column, by a step that counts down modulo 65536
+  -- the first column downwards: the step counts down modulo 65536
   pub follows-left : Follows (record { first = g .start + g .a * g .width; step = 65536 - g .width; count = g .a; last = g .start })
       (λ k. gridAt (g .start) (g .width) (g .a - k) 0) (g .a)
   unfolding gridAt
@@ -52,7 +51,7 @@ module _ (g : Grid) (fits : GridFits g) where
       follows-line (g .start + g .a * g .width + g .b) 65535 (g .b) (g .start + g .a * g .width) (λ k. gridAt (g .start) (g .width) (g .a) (g .b - k))
       (λ i h. omega arith) (omega arith)
 
--- ---- the words of cells
+-- ---- the index words of cells
 pub cell-length : (positive : Bool) (p q : ℕ) → length (cellWords positive p q) ≡ 6
 cell-length positive p q = indices-length positive (record { a = p; b = p + 1; c = q + 1 } ∷ record { a = p; b = q + 1; c = q } ∷ [])
 
@@ -61,7 +60,7 @@ unfolding rowWords
 row-length positive first width b =
     flat-length (λ c. cellWords positive (first + c) (first + c + width)) 6 0 b (λ c. cell-length positive (first + c) (first + c + width))
 
--- lists of triangles one after the other
+-- joined lists of triangles
 joined-words : (positive : Bool) (L : ℕ → List Triangle) (n : ℕ) → indices positive (joined L n) ≡ flat (λ i. indices positive (L i)) 0 n
 unfolding joined indices flat
 joined-words positive L zero = refl
@@ -70,7 +69,7 @@ joined-words positive L (suc n) =
     ∙ ap (λ (k : ℕ). flat (λ i. indices positive (L i)) 0 n ++ indices positive (L k)) (sym (zero-add n)) ∙ sym (flat-last (λ i. indices positive (L i)) 0 n)
 
 module _ (positive : Bool) (start width b : ℕ) where
-  -- the row r of cells
+  -- row r of the cells
   abbrev pub gridRow : ℕ → List ℕ
   gridRow r = rowWords positive (start + r * width) width b
 
@@ -94,12 +93,12 @@ module _ (positive : Bool) (start width b : ℕ) where
       (λ r. joined-words positive (cell (gridAt start width) r) b
       ∙ flat-same (λ c. indices positive (cell (gridAt start width) r c)) (λ c. cellWords positive (start + r * width + c) (start + r * width + c + width)) 0 b (cell-numbers r))
 
--- where there are cells, there are rows
+-- a grid with cells has rows
 pub some-rows : (a b : ℕ) → 10 ≤ a * b → 1 ≤ a
 some-rows zero b h = absurd (omega (arith, zero-mul b))
 some-rows (suc a) b h = omega arith
 
--- ---- a row further on is the same row, shifted
+-- ---- a later row is the same row, shifted
 cell-shifted : (positive : Bool) (p q p′ q′ d : ℕ) → p + d ≡ p′ → q + d ≡ q′ → p′ < 65535 → q′ < 65535 → shifted d (cellWords positive p q) ≡ cellWords positive p′ q′
 unfolding indices shifted
 cell-shifted true p q p′ q′ d e f h k =

@@ -1,4 +1,4 @@
-// The triangles of a grid's cells.
+// The triangles of the cells of a grid.
 ghost use Prim.Native.Nat.{_+_, _*_, _≤_, _<_};
 ghost use lib.ListN.{length};
 ghost use Rattle.buffer.specs.Over.{Wrote};
@@ -8,7 +8,7 @@ ghost use Rattle.grid_indices.specs.Grids.{GridFits, cellWords, rowWords
 use crate::grid::Grid;
 use strip::triangle::Triangle;
 
-// The two triangles of the cell whose lower corners are vertex p and the one after it, and whose upper are q and the one after.
+// Writes the two triangles of the cell with the corners p, p + 1 on one row and q, q + 1 on the next.
 fn write_cell(out: &mut [u16], at: usize, p: u32, q: u32, positive: bool) -> usize
     requires { ⌜ (p < 65535) × (q < 65535) ⌝ ∗ ⌜ at + 6 ≤ length (now out) ⌝ }
     ensures { λ w. ⌜ Wrote (now (out .entry)) at (cellWords positive p q) (now (out .exit)) w ⌝ }
@@ -27,7 +27,7 @@ fn write_cell(out: &mut [u16], at: usize, p: u32, q: u32, positive: bool) -> usi
     strip::triangle::put_triangle(out, w, upper, positive)
 }
 
-// A row of cells, from vertex `first` on.
+// Writes a row of cells, from vertex `first` on.
 fn write_row(out: &mut [u16], at: usize, first: u32, width: u32, b: u32, positive: bool) -> usize
     requires { ⌜ first + width + b < 65535 ⌝ ∗ ⌜ at + 6 * b ≤ length (now out) ⌝ }
     ensures { λ w. ⌜ Wrote (now (out .entry)) at (rowWords positive first width b) (now (out .exit)) w ⌝ }
@@ -42,7 +42,7 @@ fn write_row(out: &mut [u16], at: usize, first: u32, width: u32, b: u32, positiv
     to
 }
 
-// All cells, row by row.
+// Writes all cells, row by row.
 fn write_each(out: &mut [u16], at: usize, grid: Grid, positive: bool) -> usize
     requires { ⌜ GridFits grid ⌝ ∗ ⌜ at + 6 * (grid .a * grid .b) ≤ length (now out) ⌝ }
     ensures { λ w. ⌜ Wrote (now (out .entry)) at (indices positive (cells (gridAt (grid .start) (grid .width)) (grid .a) (grid .b))) (now (out .exit)) w ⌝ }
@@ -61,8 +61,7 @@ fn write_each(out: &mut [u16], at: usize, grid: Grid, positive: bool) -> usize
     to
 }
 
-// All cells. Every row has the words of the first one, greater by the row's number times the width; fewer than ten cells do
-// not pay for copying.
+// Writes all cells. Each row is the first row, shifted by the row's number times `width`; copying does not pay for fewer than ten cells.
 pub fn write_cells(out: &mut [u16], at: usize, grid: Grid, positive: bool) -> usize
     requires { ⌜ GridFits grid ⌝ ∗ ⌜ at + 6 * (grid .a * grid .b) ≤ length (now out) ⌝ }
     ensures { λ w. ⌜ Wrote (now (out .entry)) at (indices positive (cells (gridAt (grid .start) (grid .width)) (grid .a) (grid .b))) (now (out .exit)) w ⌝ }

@@ -1,11 +1,11 @@
-// A grid of vertices, and the lines around it.
+// A grid of vertices, and the lines along its border.
 ghost use Prim.Native.Nat.{_-_};
 ghost use Rattle.strip.specs.Lines.{Follows};
 ghost use Rattle.cover.specs.Quad.{gridAt};
 ghost use Rattle.grid_indices.specs.Grids.{GridFits};
 use strip::line::Line;
 
-// Rows 0 to a and columns 0 to b of vertices; a row has `width` of them, and the first is numbered start.
+// Rows 0 to a and columns 0 to b of vertices; a row has `width` vertices, and the first vertex is `start`.
 pub struct Grid {
     pub start: u32,
     pub width: u32,
@@ -14,7 +14,7 @@ pub struct Grid {
 }
 
 impl Grid {
-    // Down the first column.
+    // The first column, downwards.
     pub fn left(self) -> Line
         requires { ⌜ GridFits self ⌝ }
         ensures { λ r. ⌜ Follows r (λ k. gridAt (self .start) (self .width) (self .a - k) 0) (self .a) ⌝ }
@@ -28,7 +28,7 @@ impl Grid {
         }
     }
 
-    // Along the first row.
+    // The first row.
     pub fn bottom(self) -> Line
         requires { ⌜ GridFits self ⌝ }
         ensures { λ r. ⌜ Follows r (λ k. gridAt (self .start) (self .width) 0 k) (self .b) ⌝ }
@@ -41,7 +41,7 @@ impl Grid {
         }
     }
 
-    // Up the last column.
+    // The last column, upwards.
     pub fn right(self) -> Line
         requires { ⌜ GridFits self ⌝ }
         ensures { λ r. ⌜ Follows r (λ k. gridAt (self .start) (self .width) k (self .b)) (self .a) ⌝ }
@@ -55,7 +55,7 @@ impl Grid {
         }
     }
 
-    // Back along the last row.
+    // The last row, backwards.
     pub fn top(self) -> Line
         requires { ⌜ GridFits self ⌝ }
         ensures { λ r. ⌜ Follows r (λ k. gridAt (self .start) (self .width) (self .a) (self .b - k)) (self .b) ⌝ }

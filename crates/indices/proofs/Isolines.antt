@@ -1,5 +1,4 @@
--- An isoline by its first vertex.
--- Assumes nothing.
+-- An isoline by its first vertex. Assumes nothing.
 use Prim.Native.Nat.{ℕ, suc, _+_, _*_, _%_, _≤_, _<_}
 use mathlib.Core.Path.{_≡_, refl, ap, _∙_}
 use mathlib.Core.List.{List, [], _∷_}
@@ -18,7 +17,7 @@ pub line-length : (first n : ℕ) → length (lineWords first n) ≡ 2 * n
 unfolding lineWords
 line-length first n = flat-length (λ c. (first + c) ∷ (first + c + 1) ∷ []) 2 0 n (λ c. refl)
 
--- line r of lines of n segments begins at vertex r * (n + 1)
+-- isoline r begins at vertex r * (n + 1), where each has n segments
 abbrev pub line : ℕ → ℕ → List ℕ
 line n r = lineWords (r * suc n) n
 
@@ -30,7 +29,7 @@ isolines-are m n = refl
 pub first-small : (r n : ℕ) → r ≤ 64 → n ≤ 64 → r * suc n ≤ 4160
 first-small r n h k = let l : suc n ≤ 65 = omega arith in mul-le-mul h l
 
--- a line further on is the same line, shifted
+-- a later isoline is the same isoline, shifted
 segment-shifted : (x y d : ℕ) → x + d ≡ y → y < 65535 → shifted d (x ∷ (x + 1) ∷ []) ≡ y ∷ (y + 1) ∷ []
 unfolding shifted
 segment-shifted x y d e h =
@@ -45,7 +44,7 @@ line-shifted first n d h =
     ∙ flat-below (λ c. shifted d ((first + c) ∷ (first + c + 1) ∷ [])) (λ c. (first + d + c) ∷ (first + d + c + 1) ∷ []) 0 n
     (λ c l. segment-shifted (first + c) (first + d + c) d (omega arith) (omega arith))
 
--- line r is a copy of the first one
+-- isoline r is a copy of the first
 pub line-copied : (n r : ℕ) → r ≤ 64 → n ≤ 64 → copy (n + 1) (lineWords 0 n) r ≡ line n r
 unfolding copy
 line-copied n r h k =

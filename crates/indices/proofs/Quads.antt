@@ -1,5 +1,4 @@
--- The words of a quad patch: its frame of four strips, then its cells.
--- Assumes nothing.
+-- The words of a quad patch: a frame of four strips, then the cells. Assumes nothing.
 use Prim.Native.Nat.{ℕ, _+_, _-_, _*_, _≤_}
 use mathlib.Core.Path.{_≡_}
 use mathlib.Core.Bool.{Bool}
@@ -19,7 +18,7 @@ use Rattle.grid_indices.specs.Grids.{GridFits}
 abbrev pub gridOf : ℕ → ℕ → ℕ → Grid
 gridOf total m n = record { start = total; width = n - 1; a = m - 2; b = n - 2 }
 
--- its vertices have numbers of 16 bits
+-- the vertices of the grid have numbers of 16 bits
 pub grid-fits : (total m n : ℕ) → total ≤ 256 → m ≤ 64 → 2 ≤ n → n ≤ 64 → GridFits (gridOf total m n)
 grid-fits total m n t hm ln hn =
     let r : m - 2 ≤ 62 = omega arith in

@@ -1,4 +1,4 @@
-// The dots of point mode: the vertices' numbers in order.
+// The dots of point mode: the vertex numbers in order.
 ghost use Prim.Native.Nat.{_+_, _≤_, _<_};
 ghost use lib.ListN.{length};
 ghost use Rattle.buffer.specs.Over.{Wrote};

@@ -1,11 +1,11 @@
-// The lines of an isoline patch, as pairs of neighbours.
+// The lines of an isoline patch, as pairs of neighbouring vertices.
 ghost use Prim.Native.Nat.{_+_, _*_, _≤_, _<_};
 ghost use lib.ListN.{length};
 ghost use Rattle.buffer.specs.Over.{Wrote};
 ghost use Rattle.cover.specs.Lines.{isolines};
 ghost use Rattle.indices.specs.Isolines.{lineWords};
 
-// One line of n segments, from vertex `first` on.
+// Writes one isoline of n segments, from vertex `first` on.
 fn write_line(out: &mut [u16], at: usize, first: u32, n: u32) -> usize
     requires { ⌜ first + n < 65536 ⌝ ∗ ⌜ at + 2 * n ≤ length (now out) ⌝ }
     ensures { λ w. ⌜ Wrote (now (out .entry)) at (lineWords first n) (now (out .exit)) w ⌝ }
@@ -20,7 +20,7 @@ fn write_line(out: &mut [u16], at: usize, first: u32, n: u32) -> usize
     to
 }
 
-// m lines of n segments each. Every line has the words of the first one, greater by the numbers of the vertices before it.
+// Writes m isolines of n segments each. Each is the first one, shifted by the number of vertices before it.
 pub fn write_isolines(out: &mut [u16], at: usize, m: u32, n: u32) -> usize
     requires { ⌜ (m ≤ 64) × (n ≤ 64) ⌝ ∗ ⌜ at + 2 * (m * n) ≤ length (now out) ⌝ }
     ensures { λ w. ⌜ Wrote (now (out .entry)) at (isolines m n) (now (out .exit)) w ⌝ }

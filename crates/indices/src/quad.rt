@@ -11,7 +11,7 @@ ghost use Rattle.grid_indices.specs.Grids.{GridFits};
 use grid_indices::grid::Grid;
 use ring_indices::ring::Ring;
 
-// The strips from an outline whose edges have c0 to c3 segments to the nearest line of the grid, in walk order.
+// Writes the strips from an outline whose edges have c0 to c3 segments to the nearest lines of the grid, in walk order.
 fn write_frame(
     out: &mut [u16],
     at: usize,
@@ -35,7 +35,7 @@ fn write_frame(
     outline.write_strip(out, w, c0 + c1 + c2, c3, grid.top(), positive)
 }
 
-// The grid has m - 1 rows of n - 1 vertices, numbered after the outline's.
+// Writes all triangles; the grid has m - 1 rows of n - 1 vertices, numbered after the outline.
 pub fn write_quad(
     out: &mut [u16],
     at: usize,

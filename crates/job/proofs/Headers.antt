@@ -1,4 +1,4 @@
--- When each answer to a header is given. Assumes nothing.
+-- When reading a header gives each answer. Assumes nothing.
 use Prim.Native.Nat.{ℕ, _≤_, _<_}
 use native.Mathlib.Decide.{ℕ-discrete, decLe}
 use native.Mathlib.Omega.{arith}
@@ -64,7 +64,7 @@ module _ (bs : List ℕ) where
   means-header UnknownVersion (h, m, p, q) = header-version h (take-starts mark bs m) p q
   means-header (Read v next) (h, m, n, e) = header-right h (take-starts mark bs m) v n ∙ rw e
 
-  -- an answer is given exactly where it is the right one
+  -- each answer is given exactly if it is right
   pub header-exactly : (r : Header) → headerOf bs ≡ r ↔ HeaderMeans bs r
   header-exactly r = (λ e. rw e at header-means, means-header r)
 
@@ -78,7 +78,7 @@ module _ (bs : List ℕ) where
   is-6 UnknownVersion m e = m
   is-6 (Read v next) m e = absurd (apart e refl)
 
-  -- an answer that is the definition's keeps the whole promise
+  -- an answer that equals `headerOf` satisfies the whole contract
   pub header-read : {r : Header} → headerOf bs ≡ r → HeaderRead bs r
   header-read {r} e = record {
     is = sym e;

@@ -15,7 +15,7 @@ both : (s t : Bool) → (s && t) ≡ true → (s ≡ true) × (t ≡ true)
 both true t h = (refl, h)
 both false t h = absurd (false≢true h)
 
--- the comparison is with the first bytes
+-- `startsWith` compares the first bytes
 pub starts-take : (ms bs : List ℕ) → startsWith ms bs ≡ true → take (length ms) bs ≡ ms
 unfolding startsWith
 starts-take [] bs h = refl
@@ -31,13 +31,13 @@ take-starts (m ∷ ms) [] h = absurd (let z : _≡_ {A = ℕ} 0 1 = cc in omega 
 take-starts (m ∷ ms) (b ∷ bs) h = rw (eq-eqb b m (cc), take-starts ms bs (cc))
 
 module _ (ms bs : List ℕ) where
-  -- every byte of the mark is found
+  -- every byte of the mark matches
   pub starts-all : length ms ≤ length bs → ((k : ℕ) → k < length ms → getD bs k 0 ≡ getD ms k 0) → startsWith ms bs ≡ true
   starts-all h same =
       let n = length-take-le (length ms) bs h in
       take-starts ms bs (ext-getD 0 _ _ n (λ k l. let p : k < length ms = omega arith in getD-take (length ms) bs k 0 p ∙ same k p))
 
-  -- a byte that differs is enough
+  -- one different byte is enough
   pub starts-differ : (k : ℕ) → k < length ms → (getD bs k 0 ≡ getD ms k 0 → ⊥) → startsWith ms bs ≡ false
   starts-differ k h d = differ (startsWith ms bs) refl
     where
@@ -45,7 +45,7 @@ module _ (ms bs : List ℕ) where
       differ false e = refl
       differ true e = absurd (d (sym (getD-take (length ms) bs k 0 h) ∙ ap (λ (l : List ℕ). getD l k 0) (starts-take ms bs e)))
 
-  -- a file that does not lack the mark has a header's five bytes, and begins with it
+  -- a file that does not lack the mark has at least five bytes, and begins with the mark
   pub has-mark : lacksMark ms bs ≡ false → (5 ≤ length bs) × (startsWith ms bs ≡ true)
   has-mark h = elim (decLe 5 (length bs)) [
     | yes l ↦ (l, not-false (startsWith ms bs) (rw (le-ltb (length bs) 5 l) at h))

@@ -1,4 +1,4 @@
--- Numbers that tell answers apart. Assumes nothing.
+-- Numbers that distinguish answers. Assumes nothing.
 use Prim.Native.Nat.{ℕ}
 use mathlib.Core.Path.{_≡_, ap}
 use mathlib.Core.Bool.{false}

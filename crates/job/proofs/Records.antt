@@ -1,4 +1,4 @@
--- When each answer to a record is given. Assumes nothing.
+-- When reading a record gives each answer. Assumes nothing.
 use Prim.Native.Nat.{ℕ, _+_, _-_, _≤_, _<_}
 use native.Mathlib.Decide.{decLe}
 use native.Mathlib.Omega.{arith}
@@ -62,7 +62,7 @@ module _ (v : Version) (bs : List ℕ) (at : ℕ) where
       record-unknown h (omega arith) ∙ rw (p .0, e)
   means-record (Read r next) (h, a, p, e) = record-whole h (all-place bs at v a) ∙ rw (p, e)
 
-  -- an answer is given exactly where it is the right one
+  -- each answer is given exactly if it is right
   pub record-exactly : (r : NextRecord) → recordAt v bs at ≡ r ↔ RecordMeans v bs at r
   record-exactly r = (λ e. rw e at record-means, means-record r)
 
@@ -78,7 +78,7 @@ module _ (v : Version) (bs : List ℕ) (at : ℕ) where
   is-8 place (UnknownSetting found next) (h, f, p) e = (h, let q : found ≡ place = cc in rw q at f, refl)
   is-8 place (Read r next) m e = absurd (apart e refl)
 
-  -- an answer that is the definition's keeps the whole promise
+  -- an answer that equals `recordAt` satisfies the whole contract
   pub record-read : {r : NextRecord} → recordAt v bs at ≡ r → RecordRead v bs at r
   record-read {r} e = record {
     is = sym e;
@@ -91,7 +91,7 @@ module _ (v : Version) (bs : List ℕ) (at : ℕ) where
   unfolding recordOf
   levels-are r next e = let p = record-exactly (Read r next) .0 e .2 in rw p
 
-  -- its top level is an allowed one, as 64 is
+  -- the top level of a record is good, as 64 is
   pub top-allowed : isTop 64 ≡ true → (r : Record) (next : Cursor) → recordAt v bs at ≡ Read r next → isTop (r .settings .top) ≡ true
   unfolding recordOf
   top-allowed h r next e = let m = record-exactly (Read r next) .0 e in rw (m .2) (all-top bs at h v (m .1))

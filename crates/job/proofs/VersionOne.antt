@@ -1,4 +1,4 @@
--- Version 1 is read as before there was a version 2. Assumes nothing.
+-- Version 1 is read as before version 2 existed. Assumes nothing.
 use Prim.Native.Nat.{ℕ, _+_, _-_, _≤_}
 use mathlib.Core.Path.{_≡_, refl}
 use mathlib.Core.Bool.{cond}
@@ -18,12 +18,12 @@ use Rattle.job_fields.specs.Levels.{bitsAt, levelsOf}
 use Rattle.job.specs.Records.{recordOf, recordAt}
 use Rattle.job.proofs.Headers.{header-exactly}
 
--- its header
+-- headers of version 1
 pub header-one : (bs : List ℕ) (next : Cursor)
     → headerOf bs ≡ header.Read One next ↔ (5 ≤ length bs) × (take 3 bs ≡ mark) × (word 2 bs 3 ≡ 1) × (next ≡ record { at = 5 })
 header-one bs next = header-exactly bs (header.Read One next)
 
--- its records: 29 bytes, five limits, and the top level 64
+-- records of version 1: 29 bytes, five limits, and the top level 64
 pub version-one : (bs : List ℕ) (at : ℕ)
     → recordAt One bs at
     ≡ cond (leb (length bs) at) End

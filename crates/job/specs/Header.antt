@@ -1,4 +1,4 @@
--- The header of a job file: which bytes are one, and which number refuses the others. Assumes nothing.
+-- The header of a job file: what it says, and the numbers of its refusals. Assumes nothing.
 use Prim.Native.Nat.{ℕ, _≤_, _<_}
 use mathlib.Core.Path.{_≡_}
 use mathlib.Core.Bool.{Bool, true, false, cond, not, _&&_, _||_}
@@ -13,7 +13,7 @@ use Rattle.job.specs.declared.cursor.Cursor.{Cursor}
 use Rattle.job.specs.declared.header.Header.{Header}
 use Rattle.job.specs.declared.header.Header.the-variants.{Read, NotAJob, UnknownVersion}
 
--- the mark: the letters TSJ
+-- the mark: the bytes of "TSJ"
 abbrev pub mark : List ℕ
 mark = 0x54 ∷ 0x53 ∷ 0x4A ∷ []
 
@@ -23,15 +23,15 @@ startsWith [] bs = true
 startsWith (m ∷ ms) [] = false
 startsWith (m ∷ ms) (b ∷ bs) = eqb b m && startsWith ms bs
 
--- a file has under 5 bytes, or another mark than ms
+-- the file has under 5 bytes, or does not begin with the mark ms
 abbrev pub lacksMark : List ℕ → List ℕ → Bool
 lacksMark ms bs = ltb (length bs) 5 || not (startsWith ms bs)
 
--- the number of its version: 16 bits after the mark
+-- the number of the version: the 16 bits after the mark
 abbrev pub versionIn : List ℕ → ℕ
 versionIn bs = word 2 bs 3
 
--- answer 5 applies
+-- answer 5: not a job
 abbrev pub notAJob : List ℕ → Bool
 notAJob bs = lacksMark mark bs
 
@@ -39,27 +39,27 @@ notAJob bs = lacksMark mark bs
 abbrev pub start : Cursor
 start = record { at = 5 }
 
--- what the number of the version says: answer 6 applies where it is neither 1 nor 2
+-- the answer for a version's number: 6 unless it is 1 or 2
 abbrev pub byVersion : ℕ → Header
 byVersion n = cond (eqb n 1) (Read One start) (cond (eqb n 2) (Read Two start) UnknownVersion)
 
--- what the header of a job file says
+-- what reading a header answers
 unfoldable pub headerOf : List ℕ → Header
 headerOf bs = cond (notAJob bs) NotAJob (byVersion (versionIn bs))
 
--- when each answer is the right one
+-- when each answer is right
 abbrev pub HeaderMeans : List ℕ → Header → Type 0
 HeaderMeans bs NotAJob = (length bs < 5) ⊎ (take 3 bs ≡ mark → ⊥)
 HeaderMeans bs UnknownVersion = (5 ≤ length bs) × (take 3 bs ≡ mark) × (versionIn bs ≡ 1 → ⊥) × (versionIn bs ≡ 2 → ⊥)
 HeaderMeans bs (Read v next) = (5 ≤ length bs) × (take 3 bs ≡ mark) × (versionIn bs ≡ versionNumber v) × (next ≡ start)
 
--- the number of each answer that refuses; none, [], where a header is read
+-- the number of a refusal as a list of one element; [] if the header was read
 abbrev pub headerNumber : Header → List ℕ
 headerNumber (Read v next) = []
 headerNumber NotAJob = 5 ∷ []
 headerNumber UnknownVersion = 6 ∷ []
 
--- what reading a header promises: the answer, and exactly when it is a 5 and when a 6
+-- the contract of reading a header: the answer, and exactly when it is 5 and when 6
 pub record HeaderRead (bs : List ℕ) (r : Header) : Type 0 where
   pub is : r ≡ headerOf bs
   pub refused-5 : headerNumber r ≡ 5 ∷ [] ↔ HeaderMeans bs NotAJob

@@ -6,7 +6,7 @@ use Rattle.job_fields.specs.declared.setting.Kind.the-variants as kind
 use Rattle.patch.specs.declared.kinds.Patch.{Patch}
 use Rattle.patch.specs.declared.kinds.Patch.the-variants.{Triangles, Quads, Isolines}
 
--- a patch of a kind with the levels that count for it; the others are ignored
+-- the patch of a kind, with the levels that count for it
 abbrev pub patchWith : Kind → Levels → Patch
 patchWith kind.Triangles x = Triangles (x .outer0) (x .outer1) (x .outer2) (x .inner0)
 patchWith kind.Quads x = Quads (x .outer0) (x .outer1) (x .outer2) (x .outer3) (x .inner0) (x .inner1)

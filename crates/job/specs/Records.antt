@@ -1,4 +1,4 @@
--- The record at a cursor: what is read there, and which number refuses it. Assumes nothing.
+-- The record at a cursor: what is read there, and the numbers of refusals. Assumes nothing.
 use Prim.Native.Nat.{ℕ, _+_, _-_, _≤_, _<_}
 use mathlib.Core.Path.{_≡_}
 use mathlib.Core.Bool.{Bool, cond}
@@ -30,19 +30,19 @@ recordOf v bs at = record {
 abbrev pub after : Version → ℕ → Cursor
 after v at = record { at = at + recordSize v }
 
--- no byte is left at the cursor, or it lies past the end
+-- no byte is left at the cursor
 abbrev pub atEnd : List ℕ → ℕ → Bool
 atEnd bs at = leb (length bs) at
 
--- answer 7 applies where a byte is left: there are too few for a record
+-- answer 7, where a byte is left: the record is incomplete
 abbrev pub cut : Version → List ℕ → ℕ → Bool
 cut v bs at = ltb (length bs - at) (recordSize v)
 
--- answer 8 applies to a whole record: one of the setting bytes is out of range
+-- answer 8, where the record is complete: a setting byte is out of range
 abbrev pub unknown : Version → List ℕ → ℕ → Bool
 unknown v bs at = ltb (unknownPlace v bs at) (settingBytes v)
 
--- what is found at a cursor, in a file of a version
+-- what reading a record answers, at the cursor `at`
 unfoldable pub recordAt : Version → List ℕ → ℕ → NextRecord
 recordAt v bs at =
     cond (atEnd bs at) End
@@ -50,21 +50,21 @@ recordAt v bs at =
     (cond (unknown v bs at) (UnknownSetting (unknownPlace v bs at) (after v at))
     (Read (recordOf v bs at) (after v at))))
 
--- when each answer is the right one
+-- when each answer is right
 abbrev pub RecordMeans : Version → List ℕ → ℕ → NextRecord → Type 0
 RecordMeans v bs at End = length bs ≤ at
 RecordMeans v bs at CutRecord = (at < length bs) × (length bs < at + recordSize v)
 RecordMeans v bs at (UnknownSetting place next) = (at + recordSize v ≤ length bs) × FirstUnknown v bs at place × (next ≡ after v at)
 RecordMeans v bs at (Read r next) = (at + recordSize v ≤ length bs) × AllKnown v bs at × (r ≡ recordOf v bs at) × (next ≡ after v at)
 
--- the number of each answer that refuses, with the place of an 8; none, [], of the others
+-- the number of a refusal and, for 8, the place; [] for the other answers
 abbrev pub recordNumber : NextRecord → List ℕ
 recordNumber (Read r next) = []
 recordNumber End = []
 recordNumber CutRecord = 7 ∷ []
 recordNumber (UnknownSetting place next) = 8 ∷ place ∷ []
 
--- what reading a record promises: the answer, and exactly when it is a 7 and when an 8 with its place
+-- the contract of reading a record: the answer, and exactly when it is 7 and when 8 with its place
 pub record RecordRead (v : Version) (bs : List ℕ) (at : ℕ) (r : NextRecord) : Type 0 where
   pub is : r ≡ recordAt v bs at
   pub refused-7 : recordNumber r ≡ 7 ∷ [] ↔ RecordMeans v bs at CutRecord

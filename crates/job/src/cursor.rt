@@ -1,4 +1,4 @@
-// Where reading goes on.
+// Where reading continues.
 pub struct Cursor {
     pub at: usize,
 }

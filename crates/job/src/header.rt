@@ -7,7 +7,7 @@ use crate::cursor::Cursor;
 use job_fields::version::Version;
 use job_fields::word::read_u16;
 
-// What a job file begins with.
+// The first bytes of a job file.
 pub const MARK: [u8; 3] = *b"TSJ";
 
 pub enum Header {
@@ -31,7 +31,7 @@ fn starts_with(bytes: &[u8], mark: &[u8]) -> bool
     true
 }
 
-// Whether a file is too short for a header of five bytes, or begins with another mark.
+// Whether the file is too short for a header of five bytes, or does not begin with the mark.
 pub fn lacks_mark(bytes: &[u8], mark: &[u8; 3]) -> bool
     ensures { λ r. ⌜ r ≡ lacksMark (now (mark .entry)) (now (bytes .entry)) ⌝ }
 {
@@ -41,7 +41,7 @@ pub fn lacks_mark(bytes: &[u8], mark: &[u8; 3]) -> bool
     !starts_with(bytes, mark)
 }
 
-// The number of the version, after the mark.
+// Returns the number of the version, which follows the mark.
 pub fn read_version(bytes: &[u8]) -> u16
     requires { ⌜ 5 ≤ length (now bytes) ⌝ }
     ensures { λ r. ⌜ r ≡ versionIn (now (bytes .entry)) ⌝ }

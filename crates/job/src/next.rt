@@ -16,7 +16,7 @@ use job_fields::version::Version;
 use job_fields::version::record_size;
 use job_fields::version::setting_bytes;
 
-// What is found at a cursor; `next` is past the record.
+// What is at a cursor; `next` is the cursor after the record.
 pub enum NextRecord {
     Read { record: Record, next: Cursor },
     End,
@@ -25,7 +25,7 @@ pub enum NextRecord {
     UnknownSetting { place: usize, next: Cursor },
 }
 
-// A record whose setting bytes are in range.
+// Reads a record whose setting bytes are in range.
 fn read_whole(bytes: &[u8], version: Version, at: usize) -> Record
     requires { ⌜ at + recordSize version ≤ length (now bytes) ⌝ }
     ensures { λ r. ⌜ r ≡ recordOf version (now (bytes .entry)) at ⌝ }
@@ -43,7 +43,7 @@ fn read_whole(bytes: &[u8], version: Version, at: usize) -> Record
     }
 }
 
-// What stands at a cursor in a file of a version.
+// Reads what is at a cursor, in a file of the given version.
 pub fn read_record(bytes: &[u8], version: Version, cursor: Cursor) -> NextRecord
     ensures { λ r. ⌜ RecordRead version (now (bytes .entry)) (cursor .at) r ⌝ }
 {

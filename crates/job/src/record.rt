@@ -1,4 +1,4 @@
-// A record of a job file, and the patch and the settings that it asks for.
+// A record of a job file: the patch and the settings that it asks for.
 ghost use mathlib.Core.Path.{_≡_};
 ghost use Rattle.job.specs.Patches.{patchOf};
 use job_fields::levels::LevelBits;
@@ -11,11 +11,11 @@ pub struct Record {
     pub kind: Kind,
     pub settings: Settings,
     pub levels: Levels,
-    // What the levels were read from.
+    // The bit patterns that the levels were read from.
     pub bits: LevelBits,
 }
 
-// The patch, with the levels that count for its kind.
+// Returns the patch, with the levels that count for its kind.
 pub fn patch_of(record: Record) -> Patch
     ensures { λ r. ⌜ r ≡ patchOf «record» ⌝ }
 {

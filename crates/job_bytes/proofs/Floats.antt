@@ -1,4 +1,4 @@
--- The bit pattern of an f32, and the f32 of that pattern. Assumes nothing.
+-- The bit pattern of an f32, and the f32 of a bit pattern. Assumes nothing.
 use mathlib.Core.Path.{_≡_, refl, sym, _∙_}
 use mathlib.Core.Bool.{true, false, false≢true}
 use lib.Dec.{T}
@@ -22,7 +22,7 @@ nan-back : ofBits binary32 0x7fc0_0000 ≡ nan
 unfolding ofBits
 nan-back = refl
 
--- a pattern stands for the f32 that it is of
+-- the f32 of a level's bit pattern is the level
 pub pattern-back : (x : Float) → fits binary32 x ≡ true → ofBits binary32 (patternOf x) ≡ x
 unfolding isNan
 pattern-back nan h = nan-back

@@ -1,4 +1,4 @@
--- How long each part of a file is. Assumes nothing.
+-- The length of each part of a file. Assumes nothing.
 use Prim.Native.Nat.{ℕ, _+_, _≤_}
 use native.Mathlib.Omega.{arith}
 use mathlib.Core.Path.{_≡_, refl}
@@ -13,16 +13,16 @@ use Rattle.job_fields.specs.Version.{versionNumber, settingBytes, recordSize}
 use Rattle.job_fields.specs.Bytes.{lowBytes}
 use Rattle.job_bytes.specs.Written.{headerBytes, topBytes, levelBytes, recordBytes}
 
--- a version's number is small
+-- a version's number is at most 2
 pub number-small : (v : Version) → versionNumber v ≤ 2
 number-small One = omega arith
 number-small Two = omega arith
 
--- the top level that version 2 takes is a byte
+-- a top level of version 2 fits into a byte
 pub top-small : (t : ℕ) → isTop t ≡ true → t ≤ 64
 top-small t h = top-of t (rw h tt) .most
 
--- how many bytes each part has
+-- the number of bytes of each part
 pub header-length : (v : Version) → length (headerBytes v) ≡ 5
 unfolding headerBytes lowBytes
 header-length v = refl

@@ -1,4 +1,4 @@
--- The low bytes of a number, as many as are asked. Assumes nothing.
+-- The low bytes of a number. Assumes nothing.
 use Prim.Native.Nat.{ℕ, zero, suc, _/_, _%_, _^_, _<_}
 use native.Mathlib.Omega.{arith}
 use mathlib.Core.Path.{_≡_, refl, ap}
@@ -6,13 +6,13 @@ use mathlib.Core.List.{[], _∷_}
 use lib.ListN.{length}
 use Rattle.job_fields.specs.Bytes.{lowBytes}
 
--- so many low bytes are so many
+-- `lowBytes k` has k bytes
 pub low-length : (k x : ℕ) → length (lowBytes k x) ≡ k
 unfolding lowBytes
 low-length zero x = refl
 low-length (suc k) x = ap suc (low-length k (x / 256))
 
--- four bytes by one division each
+-- four bytes, by one division each
 pub low-four : (x : ℕ) → x < 256 ^ 4 → x % 256 ∷ x / 256 % 256 ∷ x / 65536 % 256 ∷ x / 16777216 ∷ [] ≡ lowBytes 4 x
 unfolding lowBytes
 low-four x h =

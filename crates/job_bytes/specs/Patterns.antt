@@ -10,7 +10,7 @@ use Rattle.job_fields.specs.declared.levels.Levels.{Levels}
 use Rattle.job.specs.declared.record.Record.{Record}
 use Rattle.job_fields.specs.Levels.{levelsOf}
 
--- the pattern of a level: its own, and 0x7fc00000 for a NaN
+-- the bit pattern of a level; 0x7fc00000 for a NaN
 abbrev pub patternOf : Float → ℕ
 patternOf x = cond (isNan x) 0x7fc0_0000 (toBits binary32 x)
 
@@ -25,7 +25,7 @@ bitsOf x = record {
   inner1 = patternOf (x .inner1);
 }
 
--- the six patterns are of 32 bits
+-- the six patterns have at most 32 bits
 pub record Patterns (b : LevelBits) : Type 0 where
   pub outer0 : b .outer0 < 256 ^ 4
   pub outer1 : b .outer1 < 256 ^ 4
@@ -34,15 +34,15 @@ pub record Patterns (b : LevelBits) : Type 0 where
   pub inner0 : b .inner0 < 256 ^ 4
   pub inner1 : b .inner1 < 256 ^ 4
 
--- a record's levels are those of its bit patterns
+-- the levels of a record are those of its bit patterns
 abbrev pub Agrees : Record → Type 0
 Agrees r = r .levels ≡ levelsOf (r .bits)
 
--- a record of f32 levels: the patterns are theirs, and stand for them
+-- r is the record made of f32 levels: its bit patterns are those of the levels, and its levels those of the patterns
 pub record MadeRecord (k : Kind) (s : Settings) (x : Levels) (r : Record) : Type 0 where
   pub is : r ≡ record { kind = k; settings = s; levels = x; bits = bitsOf x }
   pub agrees : Agrees r
 
--- a record of bit patterns: the levels are those that they stand for
+-- the record made of bit patterns: its levels are those of the patterns
 abbrev pub recordOfBits : Kind → Settings → LevelBits → Record
 recordOfBits k s b = record { kind = k; settings = s; levels = levelsOf b; bits = b }

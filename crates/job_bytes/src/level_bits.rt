@@ -1,4 +1,4 @@
-// Records whose bit patterns and f32 levels agree, made from either.
+// Records made of bit patterns or of f32 levels.
 ghost use mathlib.Core.Path.{_≡_};
 ghost use Rattle.job_bytes.specs.Patterns.{patternOf, bitsOf, MadeRecord, recordOfBits};
 use job::record::Record;
@@ -8,7 +8,7 @@ use job_fields::levels::levels_of;
 use job_fields::setting::Kind;
 use patch::settings::Settings;
 
-// The pattern of a level; `to_bits` itself takes no NaN, which gets the pattern 0x7fc00000.
+// Returns the bit pattern of a level. `f32::to_bits` accepts no NaN; a NaN gets the pattern 0x7fc00000.
 fn bits_of_level(level: f32) -> u32
     ensures { λ r. ⌜ r ≡ patternOf level ⌝ }
 {
@@ -32,7 +32,7 @@ pub fn bits_of(levels: Levels) -> LevelBits
     }
 }
 
-// A record of f32 levels.
+// Returns the record of f32 levels.
 pub fn record_of(kind: Kind, settings: Settings, levels: Levels) -> Record
     ensures { λ r. ⌜ MadeRecord kind settings levels r ⌝ }
 {
@@ -45,7 +45,7 @@ pub fn record_of(kind: Kind, settings: Settings, levels: Levels) -> Record
     }
 }
 
-// A record of bit patterns, as a file or a caller has them; a NaN keeps its own.
+// Returns the record of bit patterns, as a file or a caller has them; a NaN keeps its own pattern.
 pub fn record_of_bits(kind: Kind, settings: Settings, bits: LevelBits) -> Record
     ensures { λ r. ⌜ r ≡ recordOfBits kind settings bits ⌝ }
 {

@@ -1,4 +1,4 @@
-// The bytes of a job: those of numbers, settings, top levels and levels, and of a whole record.
+// The bytes of a job file: numbers, settings, top levels, levels and whole records.
 pub mod level_bits;
 pub mod put;
 pub mod record_bytes;

@@ -1,4 +1,4 @@
-// Numbers as bytes, low byte first. Each returns the place after what it wrote.
+// Writes numbers as bytes, low byte first. Each function returns the place after what it wrote.
 ghost use Prim.Native.Nat.{_+_, _≤_};
 ghost use lib.ListN.{length};
 ghost use Rattle.buffer.specs.Over.{Wrote};

@@ -1,4 +1,4 @@
-// The bytes of a record of a job file: setting bytes, then the bit patterns of its six levels.
+// The bytes of a record of a job file: the setting bytes, then the bit patterns of its six levels.
 ghost use mathlib.Core.Path.{_≡_};
 ghost use mathlib.Core.Bool.{true};
 ghost use Prim.Native.Nat.{_+_, _≤_};
@@ -25,7 +25,7 @@ fn put_levels(out: &mut [u8], at: usize, bits: LevelBits) -> usize
     put_u32(out, inner1, bits.inner1)
 }
 
-// A record whose top level the version takes, into a list that has room.
+// Writes a record whose top level the version can hold, into a list with room for it.
 pub fn put_record(out: &mut [u8], version: Version, record: Record) -> usize
     requires { ⌜ takesTop version («record» .settings .top) ≡ true ⌝ }
     requires { ⌜ recordSize version ≤ length (now out) ⌝ }

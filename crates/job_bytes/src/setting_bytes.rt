@@ -1,4 +1,4 @@
-// The byte that stands for each value of a setting, and the first five setting bytes of a record.
+// The byte for each value of a setting, and the first five setting bytes of a record.
 ghost use mathlib.Core.Path.{_≡_};
 ghost use Prim.Native.Nat.{_+_, _≤_};
 ghost use lib.ListN.{length};

@@ -1,4 +1,4 @@
-// The top level of a record: which a version can hold, and the byte that holds it.
+// The top level of a record: which versions can hold it, and its byte.
 ghost use mathlib.Core.Path.{_≡_};
 ghost use mathlib.Core.Bool.{true};
 ghost use Prim.Native.Nat.{_+_, _≤_};
@@ -9,7 +9,7 @@ use job_fields::version::Version;
 use level::is_top;
 use text::put_bytes;
 
-// Version 1 has no byte for the top level, which is 64 there.
+// Whether the version can hold the top level; version 1 has no byte for it and means 64.
 pub fn takes_top(version: Version, top: u32) -> bool
     ensures { λ r. ⌜ r ≡ takesTop version top ⌝ }
 {

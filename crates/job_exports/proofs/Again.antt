@@ -1,4 +1,4 @@
--- A record that one call read, handed as it is to the call that writes: the same bytes. Assumes nothing.
+-- A record that one call read and another writes again gives the same bytes. Assumes nothing.
 use Prim.Native.Nat.{ℕ, _≤_, _<_}
 use native.Mathlib.Decide.{decLe}
 use native.Mathlib.Omega.{arith}
@@ -35,7 +35,7 @@ use Rattle.job_exports.specs.Calls.{RecordAsked, RecordCalled}
 use Rattle.job_exports.proofs.Calls.{record-known}
 use Rattle.job_words.proofs.Places.{found-end, found-other, found-here}
 
--- 0 was answered: a record stands there, and its settings and patterns were given
+-- the answer was 0: a record is there, and its settings and patterns were returned
 pub record WasRead (n : ℕ) (bs : List ℕ) (at : ℕ) : Type 0 where
   pub x : Record
   pub next : Cursor
@@ -68,7 +68,7 @@ module _ (n : ℕ) (bs : List ℕ) (at : ℕ) where
     | no h ↦ by-version (isVersion n) refl (omega arith) z
   ]
 
--- the settings and the patterns of a record stand for it
+-- the settings and the patterns of a record determine it
 module _ (x : Record) where
   five : Has (settingsOut x) 0 (fiveBytes (x .kind) (x .settings))
   five = record { is = refl }
@@ -91,7 +91,7 @@ module _ (x : Record) where
       let z : r ≡ 0 = called .says .number ∙ ap (λ (t : Told). t .number) right in
       (z, rw (rw (z, same-record a) at (called .list)) (over-front k (recordBytes v x) (recordSize v) (sym (record-length v x))))
 
--- what was read, written in its version into a list with room: the answer 0, and the bytes that it was read from
+-- what was read, written in its version into a list with room: the answer 0, and the bytes it was read from
 pub record-copied : (n : ℕ) (l : List ℕ) (at : ℕ) {bs ps next place k k′ c′ : List ℕ} {r : ℕ} → Bytes l → RecordAsked n l at bs ps next place 0
     → recordSize (versionIn n) ≤ length k → RecordCalled n bs ps k k′ c′ r
     → (r ≡ 0) × (take (recordSize (versionIn n)) k′ ≡ take (recordSize (versionIn n)) (drop at l))

@@ -1,4 +1,4 @@
--- What the calls wrote is read back by the calls, and a header that was read is written as the same bytes. Assumes nothing.
+-- What the calls wrote, the calls read back; and a header that was read is written as the same bytes. Assumes nothing.
 use Prim.Native.Nat.{ℕ, _≤_, _<_}
 use mathlib.Core.Path.{_≡_, refl, sym, ap, _∙_}
 use mathlib.Core.Bool.{Bool, true, false, cond, _||_}
@@ -54,7 +54,7 @@ version-number One = (refl, refl)
 version-number Two = (refl, refl)
 
 -- ---- writing that was answered with 0
--- there was room, and that many bytes are told
+-- there was room, and the answer is that many bytes
 record Roomy (size have : ℕ) : Type 0 where
   room : size ≤ have
   is : roomVerdict size have ≡ wrote size
@@ -96,7 +96,7 @@ record-went n bs have e = go (isVersion n) (takesTop (versionIn n) (topIn bs)) (
     go false b c f g h e = absurd (omega arith)
 
 -- ---- headers
--- what was written as a header is read as the same version, whatever follows it
+-- a written header is read as the same version, whatever follows it
 pub header-read-back : (n : ℕ) {l l′ c′ : List ℕ} → HeaderCalled n l l′ c′ 0 → (file : List ℕ) → take 5 file ≡ take (getD c′ 0 0) l′
     → {k′ : List ℕ} {r : ℕ} → HeaderAsked file k′ r → (r ≡ 0) × (k′ ≡ n ∷ [])
 header-read-back n {l} {l′} {c′} c file e a =
@@ -107,7 +107,7 @@ header-read-back n {l} {l′} {c′} c file e a =
     let read : toldRead (headerOf file) ≡ drew n = ap toldRead (header-back v file front) ∙ ap drew (number-version n (w .known)) in
     (a .number ∙ ap (λ (t : Told). t .number) read, a .counts ∙ ap (λ (t : Told). oneWord (t .values)) read)
 
--- what was read as a header, written in the version that was told into a list with room: the answer 0, and the same bytes
+-- a header that was read, written in the version that was returned into a list with room: the answer 0, and the same bytes
 pub header-copied : (l : List ℕ) {c′ : List ℕ} → Bytes l → HeaderAsked l c′ 0 → {k k′ d′ : List ℕ} {r : ℕ} → 5 ≤ length k
     → HeaderCalled (getD c′ 0 0) k k′ d′ r → (r ≡ 0) × (take 5 k′ ≡ take 5 l)
 header-copied l {c′} b a {k} {k′} {d′} {r} room c = go (headerOf l) refl (sym (a .number)) (a .counts)
@@ -126,7 +126,7 @@ header-copied l {c′} b a {k} {k′} {d′} {r} room c = go (headerOf l) refl (
     go UnknownVersion e z w = let f = ap (λ (h : Header). toldRead h .number) e in absurd (omega arith)
 
 -- ---- records
--- six bytes or six words, as a caller in C hands them over
+-- six bytes or six words, as a C caller passes them
 six : (l : List ℕ) → length l ≡ 6 → l ≡ getD l 0 0 ∷ getD l 1 0 ∷ getD l 2 0 ∷ getD l 3 0 ∷ getD l 4 0 ∷ getD l 5 0 ∷ []
 six (a ∷ b ∷ c ∷ d ∷ e ∷ f ∷ []) h = refl
 six [] h = absurd (omega arith)
@@ -151,11 +151,11 @@ settings-back bs ps n known =
 patterns-small : (ps : List ℕ) → SixPatterns ps → Patterns (bitsIn ps)
 patterns-small ps h = record { outer0 = h .small 0; outer1 = h .small 1; outer2 = h .small 2; outer3 = h .small 3; inner0 = h .small 4; inner1 = h .small 5 }
 
--- a file has bytes at a place, and so a byte is left there
+-- if a file has bytes at a place, a byte is left there
 left-there : (file : List ℕ) (at size : ℕ) (ys : List ℕ) → 1 ≤ size → length ys ≡ size → take size (drop at file) ≡ ys → at < length file
 left-there file at size ys one n e = omega (arith, n, ap length e, length-take size (drop at file), length-drop at file)
 
--- the bytes that were written as a record are read, wherever they stand in a file, as the same
+-- the bytes of a written record, anywhere in a file, are read as the same record
 pub record-read-back : (n : ℕ) (bs ps : List ℕ) → length bs ≡ 6 → SixPatterns ps → {l l′ c′ : List ℕ} → RecordCalled n bs ps l l′ c′ 0
     → (file : List ℕ) (at : ℕ) → take (getD c′ 0 0) (drop at file) ≡ take (getD c′ 0 0) l′ → {bs′ ps′ next′ place′ : List ℕ} {r : ℕ}
     → RecordAsked n file at bs′ ps′ next′ place′ r → ReadBack n bs ps at bs′ ps′ next′ place′ r

@@ -1,4 +1,4 @@
--- The promise of a call that writes, answer by answer. Assumes nothing.
+-- The contract of a call that writes, answer by answer. Assumes nothing.
 use Prim.Native.Nat.{ℕ, suc, _<_, _≤_}
 use mathlib.Core.Path.{_≡_, sym, _∙_}
 use mathlib.Core.Bool.{true, false}
@@ -18,11 +18,11 @@ use Rattle.job_words.specs.Inputs.{isVersion, versionIn, recordIn}
 use Rattle.job_exports.specs.Calls.{headerSays, recordSays}
 
 module _ {t s : Told} {words l c′ : List ℕ} {r : ℕ} (is : t ≡ s) where
-  -- a refusal leaves the list as it was
+  -- a refusal leaves the list unchanged
   pub kept : (k : ℕ) → s .number ≡ suc k → Says oneWord s c′ r → Called t words l l c′ r
   kept k e said = let z : r ≡ suc k = said .number ∙ e in record { says = says-as is said; list = rw z }
 
-  -- what an operation did is what its call did
+  -- what the operation did is what its call did
   pub done : {told : Told} {l′ : List ℕ} → Drew told s words l l′ → Says oneWord told c′ r → Called t words l l′ c′ r
   done d said = record { says = says-as (is ∙ sym (d .answer)) said; list = rw (said .number) (d .list) }
 

@@ -1,4 +1,4 @@
--- A call that reads a job file answers each number exactly where it means. Assumes nothing.
+-- A call that reads a job file gives each number exactly if it is right. Assumes nothing.
 use Prim.Native.Nat.{ℕ, _≤_, _<_}
 use mathlib.Core.Path.{_≡_, refl, sym, ap, _∙_}
 use mathlib.Core.Bool.{Bool, true, false, cond, true≢false}
@@ -61,7 +61,7 @@ header-call-exactly l a =
     }
 
 -- ---- records
--- what is found: the end, another version, or what stands there
+-- what is found: the end, an unknown version, or what is there
 data Stands : Type 0 where
   ended : Stands
   other : Stands
@@ -93,7 +93,7 @@ module _ (n : ℕ) (l : List ℕ) (at : ℕ) where
   Means other = (at < length l) × (isVersion n ≡ false)
   Means (here x) = ReadThere n l at x
 
-  -- what is found, and that it is that exactly
+  -- what is found, and that it is exactly that
   record Right (a : Stands) : Type 0 where
     exactly : (b : Stands) → a ≡ b ↔ Means b
     same : standsIn (foundFor a) (placesFor a) ≡ a

@@ -1,4 +1,4 @@
--- What is read where a record was written. Assumes nothing.
+-- What reading returns where a record was written. Assumes nothing.
 use Prim.Native.Nat.{ℕ, _+_, _^_, _<_}
 use mathlib.Core.Path.{_≡_}
 use mathlib.Core.List.{List, [], _∷_}
@@ -6,17 +6,17 @@ use lib.ListN.{length, getD}
 use Rattle.job_fields.specs.Version.{recordSize}
 use Rattle.job_words.specs.Inputs.{versionIn}
 
--- six patterns of 32 bits
+-- six patterns of at most 32 bits
 pub record SixPatterns (ps : List ℕ) : Type 0 where
   pub six : length ps ≡ 6
   pub small : (i : ℕ) → getD ps i 0 < 256 ^ 4
 
--- what is read where a record was written
+-- reading at place `at` returns the record of the setting bytes bs and the patterns ps
 pub record ReadBack (n : ℕ) (bs ps : List ℕ) (at : ℕ) (bs′ ps′ next′ place′ : List ℕ) (r : ℕ) : Type 0 where
   pub number : r ≡ 0
-  -- the same six setting bytes and the same six patterns, NaN or not
+  -- the same setting bytes and the same patterns, also for NaN levels
   pub settings : bs′ ≡ bs
   pub patterns : ps′ ≡ ps
-  -- reading goes on after it
+  -- reading continues after the record
   pub next : next′ ≡ (at + recordSize (versionIn n)) ∷ []
   pub place : place′ ≡ 0 ∷ []

@@ -1,5 +1,5 @@
--- What a call answers and leaves behind, for every input: n is the number of the version, bs the setting bytes, ps the bit patterns, l and
--- l′ the bytes of the list at entry and at exit, c′ the count at exit. Assumes nothing.
+-- What a call answers and leaves, for every input: n is the version's number, bs are the setting bytes, ps the bit patterns, l
+-- and l′ the list of bytes at entry and at exit, c′ the count at exit. Assumes nothing.
 use Prim.Native.Nat.{ℕ}
 use mathlib.Core.Path.{_≡_}
 use mathlib.Core.Bool.{cond}
@@ -20,39 +20,39 @@ use Rattle.job_writer.specs.Answers.{roomVerdict}
 use Rattle.job_words.specs.Inputs.{isVersion, versionIn, recordIn}
 use Rattle.job_words.specs.Found.{foundAt}
 
--- what an operation says is for known versions only
+-- the answer t if n is the number of a version, else 6
 abbrev pub inVersion : ℕ → Told → Told
 inVersion n t = cond (isVersion n) t (refused 6)
 
--- what writing a header into a list of `have` bytes has to say: 6, or 10
+-- the answer to writing a header into a list of `have` bytes: 6 or 10 if refused
 unfoldable pub headerSays : ℕ → ℕ → Told
 headerSays n have = inVersion n (roomVerdict 5 have)
 
--- what writing a record has to say: 6, then 11, then 8 with its place, then 10
+-- the answer to writing a record; refusals in the order 6, 11, 8 with its place, 10
 unfoldable pub recordSays : ℕ → List ℕ → ℕ → Told
 recordSays n bs have =
     inVersion n
     (cond (takesTop (versionIn n) (topIn bs))
     (cond (ltb (firstUnknown bs 0) 5) (unknownSetting (firstUnknown bs 0)) (roomVerdict (recordSize (versionIn n)) have)) badTop)
 
--- calls that write
+-- the contracts of the calls that write
 abbrev pub HeaderCalled : ℕ → List ℕ → List ℕ → List ℕ → ℕ → Type 0
 HeaderCalled n l l′ c′ r = Called (headerSays n (length l)) (headerBytes (versionIn n)) l l′ c′ r
 
 abbrev pub RecordCalled : ℕ → List ℕ → List ℕ → List ℕ → List ℕ → List ℕ → ℕ → Type 0
 RecordCalled n bs ps l l′ c′ r = Called (recordSays n bs (length l)) (recordBytes (versionIn n) (recordIn bs ps)) l l′ c′ r
 
--- what reading a header says: 0 with the version's number, 5 or 6
+-- the answer to reading a header: 0 with the version's number, 5 or 6
 abbrev pub toldRead : Header → Told
 toldRead (Read v next) = drew (versionNumber v)
 toldRead NotAJob = refused 5
 toldRead UnknownVersion = refused 6
 
--- a call that reads the header of the bytes l
+-- the contract of reading a header from the bytes l
 abbrev pub HeaderAsked : List ℕ → List ℕ → ℕ → Type 0
 HeaderAsked l c′ r = Says oneWord (toldRead (headerOf l)) c′ r
 
--- a call that reads the record at a place of the bytes l; bs′, ps′, next′ and place′ are what it leaves with the caller
+-- the contract of reading a record at a place of the bytes l; the call leaves bs′, ps′, next′ and place′ in memory
 pub record RecordAsked (n : ℕ) (l : List ℕ) (at : ℕ) (bs′ ps′ next′ place′ : List ℕ) (r : ℕ) : Type 0 where
   pub number : r ≡ foundAt n l at .number
   pub settings : bs′ ≡ foundAt n l at .settings

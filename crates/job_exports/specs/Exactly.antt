@@ -1,4 +1,4 @@
--- When a call that reads answers what. Assumes nothing.
+-- When a call that reads gives which answer. Assumes nothing.
 use Prim.Native.Nat.{ℕ, _≤_, _<_}
 use mathlib.Core.Path.{_≡_}
 use mathlib.Core.Bool.{true, false}
@@ -14,23 +14,23 @@ use Rattle.job.specs.Header.{start, HeaderMeans}
 use Rattle.job.specs.Records.{recordOf, after, RecordMeans}
 use Rattle.job_words.specs.Inputs.{isVersion, versionIn}
 
--- reading the header of the bytes l: each number, beside 0 with the version's number in memory
+-- when reading a header from the bytes l gives each number; for 0 memory holds the version's number
 pub record HeaderExactly (l c′ : List ℕ) (r : ℕ) : Type 0 where
   pub read : (v : Version) → ((r ≡ 0) × (c′ ≡ versionNumber v ∷ [])) ↔ HeaderMeans l (Read v start)
   pub not-a-job : (r ≡ 5) ↔ HeaderMeans l NotAJob
   pub unknown-version : (r ≡ 6) ↔ HeaderMeans l UnknownVersion
 
--- what is read at a place where a byte is left, in a file of a known version
+-- in a file of a known version, x is what is read at a place where a byte is left
 pub record ReadThere (n : ℕ) (l : List ℕ) (at : ℕ) (x : NextRecord) : Type 0 where
   pub left : at < length l
   pub known : isVersion n ≡ true
   pub means : RecordMeans (versionIn n) l at x
 
--- reading the record at a place: each number, beside 8 with the place of the first unknown setting in memory
+-- when reading a record gives each number; for 8 memory holds the place of the first unknown setting
 pub record RecordExactly (n : ℕ) (l : List ℕ) (at : ℕ) (place′ : List ℕ) (r : ℕ) : Type 0 where
   pub read : (r ≡ 0) ↔ ReadThere n l at (next-record.Read (recordOf (versionIn n) l at) (after (versionIn n) at))
   pub unknown-version : (r ≡ 6) ↔ ((at < length l) × (isVersion n ≡ false))
   pub cut-record : (r ≡ 7) ↔ ReadThere n l at next-record.CutRecord
   pub unknown-setting : (place : ℕ) → ((r ≡ 8) × (place′ ≡ place ∷ [])) ↔ ReadThere n l at (next-record.UnknownSetting place (after (versionIn n) at))
-  -- which is no refusal
+  -- the end, which is no refusal
   pub end : (r ≡ 255) ↔ (length l ≤ at)

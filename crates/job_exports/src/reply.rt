@@ -1,4 +1,4 @@
-// What the writers and the reader of a header answer, as numbers with the value that is told beside them.
+// The answers to writing, and to reading a header, as numbers with a value.
 ghost use Rattle.job_writer.specs.Answers.{toldHeader, toldRecord};
 ghost use Rattle.replies.specs.Replies.{Tells};
 ghost use Rattle.job_exports.specs.Calls.{toldRead};
@@ -30,7 +30,7 @@ pub fn of_written_record(answer: RecordWritten) -> Reply
     }
 }
 
-// The version beside 0.
+// The value for 0 is the version's number.
 pub fn of_header(header: Header) -> Reply
     ensures { λ r. ⌜ Tells (toldRead header) r ⌝ }
 {

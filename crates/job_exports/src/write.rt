@@ -1,4 +1,4 @@
-// Writing a job file: a header and a record, each to the front of a list of the caller's.
+// Writing a job file: a header and a record, each to the front of the caller's list.
 ghost use Rattle.job_exports.specs.Calls.{HeaderCalled, RecordCalled};
 use crate::reply::of_written_header;
 use crate::reply::of_written_record;

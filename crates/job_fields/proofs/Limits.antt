@@ -11,7 +11,7 @@ use lib.ListN.{length, getD}
 use Rattle.job_fields.specs.Bytes.{byteAt}
 use Rattle.job_fields.specs.Settings.{firstOver, FirstOver, AllBelow}
 
--- from one limit to the next: the first byte is passed, or it is the one
+-- one limit: the first byte is below it, or the first byte is the one that is found
 module _ (limit : ℕ) (limits bs : List ℕ) (at : ℕ) where
   step-in : byteAt bs at < limit → firstOver (limit ∷ limits) bs at ≡ suc (firstOver limits bs (at + 1))
   unfolding firstOver
@@ -58,7 +58,7 @@ first-over (limit ∷ limits) bs at (suc place) e h = elim (decLt (byteAt bs at)
 ]
 
 module _ (limits bs : List ℕ) (at : ℕ) where
-  -- a place below the number of limits is that of the first byte that is not below its limit
+  -- a place below the number of limits is that of the first byte not below its limit
   pub first-is : (place : ℕ) → (firstOver limits bs at ≡ place) × (place < length limits) ↔ FirstOver limits bs at place
   first-is place = (to, from)
     where
@@ -77,7 +77,7 @@ module _ (limits bs : List ℕ) (at : ℕ) where
         f .within,
       )
 
-  -- there is none exactly where every byte is below its limit
+  -- no such byte exists exactly if every byte is below its limit
   pub first-none : length limits ≤ firstOver limits bs at ↔ AllBelow limits bs at
   first-none = (
     λ h k l. first-below limits bs at k (omega arith),

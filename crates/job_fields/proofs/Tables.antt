@@ -1,4 +1,4 @@
--- A table over numbers whose last row stands for every number from it on. Assumes nothing.
+-- Functions on numbers that are constant from 1 or 2 on, as the tables of setting values are. Assumes nothing.
 use Prim.Native.Nat.{ℕ, zero, suc}
 use mathlib.Core.Path.{_≡_, refl}
 use mathlib.Core.Bool.{not}
@@ -15,7 +15,7 @@ module _ {A : Type 0} (f : ℕ → A) (x : A) where
   from-two h (suc zero) p q = absurd (q refl)
   from-two h (suc (suc n)) p q = rw h
 
--- the test of the point switch
+-- the test of the point mode
 pub switch-on : (b : ℕ) → not (eqb b 0) ≡ pointModeOf b
 switch-on zero = refl
 switch-on (suc b) = rw eqb·suc-zero

@@ -16,7 +16,7 @@ use Rattle.job_fields.specs.Tops.{topAt, unknownPlace, FirstUnknown, All
 use Rattle.job_fields.proofs.Limits.{first-is, first-none}
 
 module _ (bs : List ℕ) (at : ℕ) where
-  -- version 2: the place of one of the five, and after five in range what the top level decides
+  -- version 2: the place is one of the first five, or, if these are in range, the top level decides
   pub place-setting : firstUnknown bs at < 5 → unknownPlace Two bs at ≡ firstUnknown bs at
   unfolding unknownPlace
   place-setting h = rw (lt-ltb _ _ h)
@@ -25,12 +25,12 @@ module _ (bs : List ℕ) (at : ℕ) where
   unfolding unknownPlace
   place-top h t e = rw (le-ltb _ _ h, e)
 
-  -- the place is that of a setting byte, which is the first out of range, or it is past them, and all are in range
+  -- either the place is that of the first setting byte out of range, or it is past all setting bytes and all are in range
   abbrev PlaceMeans : Version → Type 0
   PlaceMeans v =
       ((unknownPlace v bs at < settingBytes v) × FirstUnknown v bs at (unknownPlace v bs at)) ⊎ ((settingBytes v ≤ unknownPlace v bs at) × AllKnown v bs at)
 
-  -- version 2 after five bytes in range
+  -- version 2, if the first five bytes are in range
   by-top : 5 ≤ firstUnknown bs at → (t : Bool) → isTop (topAt Two bs at) ≡ t → PlaceMeans Two
   by-top h false e = rw (place-top h false e) (inl (omega arith, inr (first-none choices bs at .0 h, e, refl)))
   by-top h true e = rw (place-top h true e) (inr (omega arith, (first-none choices bs at .0 h, e)))
@@ -47,20 +47,20 @@ module _ (bs : List ℕ) (at : ℕ) where
     | no h ↦ by-top (omega arith) (isTop (topAt Two bs at)) refl
   ]
 
-  -- the first setting byte out of range is found
+  -- `unknownPlace` finds the first setting byte out of range
   pub first-place : (v : Version) (place : ℕ) → FirstUnknown v bs at place → (unknownPlace v bs at ≡ place) × (place < settingBytes v)
   unfolding unknownPlace
   first-place One place f = first-is choices bs at place .1 f
   first-place Two place (inl f) = let p = first-is choices bs at place .1 f in (place-setting (omega arith) ∙ p .0, omega arith)
   first-place Two place (inr (a, t, e)) = (place-top (first-none choices bs at .1 a) false t ∙ sym e, omega arith)
 
-  -- none is found where all are in range
+  -- it finds none if all are in range
   pub all-place : (v : Version) → AllKnown v bs at → settingBytes v ≤ unknownPlace v bs at
   unfolding unknownPlace
   all-place One a = first-none choices bs at .1 a
   all-place Two (a, t) = omega (arith, place-top (first-none choices bs at .1 a) true t)
 
-  -- settings that are all in range have an allowed top level, as 64 is one
+  -- if all settings are in range, the top level is good, as 64 is
   pub all-top : isTop 64 ≡ true → (v : Version) → AllKnown v bs at → isTop (topAt v bs at) ≡ true
   all-top h One a = h
   all-top h Two (a, t) = t

@@ -1,4 +1,4 @@
--- Numbers written low byte first are read back, and bytes that were read are written back. Assumes nothing.
+-- Numbers written low byte first read back, and bytes that were read are written back. Assumes nothing.
 use Prim.Native.Nat.{ℕ, zero, suc, _+_, _/_, _%_, _^_, _≤_, _<_}
 use native.Mathlib.Nat.{pow-suc}
 use native.Mathlib.Numerals.{add-one}
@@ -9,7 +9,7 @@ use lib.ListN.{length, length-append, take, drop}
 use lib.Seq.{getD-append-seam, append-snoc, drop-cons}
 use Rattle.job_fields.specs.Bytes.{byteAt, word, lowBytes}
 
--- the k low bytes of a number below 256 ^ k, wherever they stand, are read as that number
+-- the k low bytes of a number below 256 ^ k, at any place, read back as that number
 pub word-back : (k x : ℕ) (xs ys : List ℕ) → x < 256 ^ k → word k (xs ++ (lowBytes k x ++ ys)) (length xs) ≡ x
 unfolding word lowBytes
 word-back zero x xs ys h = omega arith
@@ -17,7 +17,7 @@ word-back (suc k) x xs ys h =
     let rest = word-back k (x / 256) (xs ++ (x % 256 ∷ [])) ys (omega (arith, rw (pow-suc 256 k) at h)) in
     rw getD-append-seam (omega (arith, simp (length-append, append-snoc) at rest))
 
--- the k bytes from a place on are the low bytes of the number that is read there
+-- the k bytes from a place on are the low bytes of the number read there
 pub bytes-back : (k : ℕ) (bs : List ℕ) (at : ℕ) → at + k ≤ length bs → ((i : ℕ) → byteAt bs i < 256)
     → lowBytes k (word k bs at) ≡ take k (drop at bs)
 unfolding word lowBytes

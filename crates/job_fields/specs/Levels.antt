@@ -1,4 +1,4 @@
--- The six levels of a record: outer one to four, inner one and two. Assumes nothing.
+-- The six levels of a record: four outer, two inner. Assumes nothing.
 use Prim.Native.Nat.{ℕ, _+_}
 use mathlib.Core.List.{List}
 use lib.Ieee.{binary32, ofBits}
@@ -6,7 +6,7 @@ use Rattle.job_fields.specs.Bytes.{word}
 use Rattle.job_fields.specs.declared.levels.LevelBits.{LevelBits}
 use Rattle.job_fields.specs.declared.levels.Levels.{Levels}
 
--- the bit patterns of the levels from `at` on, four bytes each
+-- the bit patterns of the six levels from place `at` on, four bytes each
 abbrev pub bitsAt : List ℕ → ℕ → LevelBits
 bitsAt bs at = record {
   outer0 = word 4 bs at;
@@ -17,7 +17,7 @@ bitsAt bs at = record {
   inner1 = word 4 bs (at + 20);
 }
 
--- the f32 levels that the patterns stand for
+-- the f32 levels with these bit patterns
 abbrev pub levelsOf : LevelBits → Levels
 levelsOf bits = record {
   outer0 = ofBits binary32 (bits .outer0);

@@ -15,16 +15,16 @@ use Rattle.patch.specs.declared.settings.DomainOrigin.{DomainOrigin}
 use Rattle.patch.specs.declared.settings.DomainOrigin.the-variants.{UpperLeft, LowerLeft}
 use Rattle.patch.specs.declared.settings.Settings.{Settings}
 
--- how many values each of the first five setting bytes has, in their order: kind, spacing, winding, origin, point switch
+-- how many values each of the first five setting bytes has: kind, spacing, vertex order, domain origin, point mode
 abbrev pub choices : List ℕ
 choices = 3 ∷ 3 ∷ 2 ∷ 2 ∷ 2 ∷ []
 
--- the place of the first byte from `at` on that is not below its limit, counted from 0; the number of limits where there is none
+-- the place, from 0, of the first byte from `at` on that is not below its limit; the number of limits if every byte is below its own
 unfoldable pub firstOver : List ℕ → List ℕ → ℕ → ℕ
 firstOver [] bs at = 0
 firstOver (limit ∷ limits) bs at = cond (ltb (byteAt bs at) limit) (suc (firstOver limits bs (at + 1))) 0
 
--- a place is that of the first byte that is not below its limit
+-- `place` is that of the first byte that is not below its limit
 pub record FirstOver (limits bs : List ℕ) (at place : ℕ) : Type 0 where
   pub within : place < length limits
   pub over : getD limits place 0 ≤ byteAt bs (at + place)
@@ -34,7 +34,7 @@ pub record FirstOver (limits bs : List ℕ) (at place : ℕ) : Type 0 where
 abbrev pub AllBelow : List ℕ → List ℕ → ℕ → Type 0
 AllBelow limits bs at = (k : ℕ) → k < length limits → byteAt bs (at + k) < getD limits k 0
 
--- the place of the first of these five bytes that is out of range; 5 where there is none
+-- the place of the first of the five setting bytes that is out of range, or 5
 abbrev pub firstUnknown : List ℕ → ℕ → ℕ
 firstUnknown bs at = firstOver choices bs at
 
@@ -50,22 +50,22 @@ spacingOf zero = Equal
 spacingOf (suc zero) = FractionalEven
 spacingOf (suc (suc b)) = FractionalOdd
 
--- winding: 0 clockwise, 1 counter-clockwise
+-- vertex order: 0 clockwise, 1 counter-clockwise
 abbrev pub orderOf : ℕ → VertexOrder
 orderOf zero = Clockwise
 orderOf (suc b) = CounterClockwise
 
--- origin: 0 upper-left, 1 lower-left
+-- domain origin: 0 upper-left, 1 lower-left
 abbrev pub originOf : ℕ → DomainOrigin
 originOf zero = UpperLeft
 originOf (suc b) = LowerLeft
 
--- point switch: 0 off, 1 on
+-- point mode: 0 off, 1 on
 abbrev pub pointModeOf : ℕ → Bool
 pointModeOf zero = false
 pointModeOf (suc b) = true
 
--- the settings of a record that starts at `at`, after its kind; the top level is given
+-- the settings of the record at `at`, with a given top level
 abbrev pub settingsAt : List ℕ → ℕ → ℕ → Settings
 settingsAt bs at top = record {
   spacing = spacingOf (byteAt bs (at + 1));

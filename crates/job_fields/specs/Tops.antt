@@ -1,4 +1,4 @@
--- The top level of a record, and the setting bytes with it: which of them is out of range. Assumes nothing.
+-- The top level of a record, and the first setting byte that is out of range, the top level included. Assumes nothing.
 use Prim.Native.Nat.{ℕ, _+_}
 use mathlib.Core.Path.{_≡_}
 use mathlib.Core.Bool.{true, false, cond}
@@ -11,17 +11,17 @@ use Rattle.job_fields.specs.Settings.{choices, firstUnknown, FirstOver, 
 use Rattle.job_fields.specs.declared.version.Version.{Version}
 use Rattle.job_fields.specs.declared.version.Version.the-variants.{One, Two}
 
--- the top level: 64 in version 1, and in version 2 the setting byte at place 5
+-- the top level: 64 in version 1, setting byte 5 in version 2
 abbrev pub topAt : Version → List ℕ → ℕ → ℕ
 topAt One bs at = 64
 topAt Two bs at = byteAt bs (at + 5)
 
--- the place of the first setting byte that is out of range; the number of setting bytes where there is none
+-- the place of the first setting byte that is out of range; the number of setting bytes if all are in range
 unfoldable pub unknownPlace : Version → List ℕ → ℕ → ℕ
 unknownPlace One bs at = firstUnknown bs at
 unknownPlace Two bs at = cond (ltb (firstUnknown bs at) 5) (firstUnknown bs at) (cond (isTop (topAt Two bs at)) 6 5)
 
--- a place is that of the first setting byte that is out of range: one of the five, or after five in range the top level
+-- `place` is that of the first setting byte out of range: one of the five, or, if these are in range, the top level
 abbrev pub FirstUnknown : Version → List ℕ → ℕ → ℕ → Type 0
 FirstUnknown One bs at place = FirstOver choices bs at place
 FirstUnknown Two bs at place = FirstOver choices bs at place ⊎ (AllBelow choices bs at × (isTop (topAt Two bs at) ≡ false) × (place ≡ 5))

@@ -6,7 +6,7 @@ ghost use Rattle.job_fields.specs.Levels.{bitsAt, levelsOf};
 use crate::word::read_u32;
 use level::level_of_bits;
 
-// The bit patterns; a NaN's says more than the number.
+// The bit patterns; they keep the payload of a NaN.
 pub struct LevelBits {
     pub outer0: u32,
     pub outer1: u32,
@@ -39,7 +39,7 @@ pub fn read_bits(bytes: &[u8], at: usize) -> LevelBits
     }
 }
 
-// The f32 levels that the patterns stand for.
+// Returns the f32 levels with these bit patterns.
 pub fn levels_of(bits: LevelBits) -> Levels
     ensures { λ r. ⌜ r ≡ levelsOf bits ⌝ }
 {

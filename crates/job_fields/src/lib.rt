@@ -1,5 +1,4 @@
-// The fields of a record of a job file: numbers out of bytes, the setting bytes, the top level and the six levels, and how many
-// bytes they take in each version.
+// The fields of a record of a job file: numbers as bytes, the setting bytes, the top level, the six levels, and how many bytes each version has.
 pub mod levels;
 pub mod setting;
 pub mod top;

@@ -14,10 +14,10 @@ pub enum Kind {
     Isolines,
 }
 
-// How many values each of them has.
+// How many values each setting has.
 const CHOICES: [u8; 5] = [3, 3, 2, 2, 2];
 
-// The place, from 0 on, of the first of the five that is out of range, and 5 where there is none.
+// Returns the place, from 0, of the first of the five bytes that is out of range, or 5.
 pub fn first_unknown(bytes: &[u8], at: usize) -> usize
     requires { ⌜ at + 5 ≤ length (now bytes) ⌝ }
     ensures { λ r. ⌜ r ≡ firstUnknown (now (bytes .entry)) at ⌝ }
@@ -70,7 +70,7 @@ fn origin_of(byte: u8) -> DomainOrigin
     }
 }
 
-// The four setting bytes after the kind, and a top level that is given.
+// Reads the four setting bytes after the kind; the top level is given.
 pub fn read_settings(bytes: &[u8], at: usize, top: u32) -> Settings
     requires { ⌜ at + 5 ≤ length (now bytes) ⌝ }
     ensures { λ r. ⌜ r ≡ settingsAt (now (bytes .entry)) at top ⌝ }

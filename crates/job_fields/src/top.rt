@@ -1,4 +1,4 @@
-// The top level of a record, which version 2 carries as a sixth setting byte.
+// The top level of a record; version 2 has a sixth setting byte for it.
 ghost use mathlib.Core.Path.{_≡_};
 ghost use Prim.Native.Nat.{_+_, _≤_};
 ghost use lib.ListN.{length};
@@ -8,7 +8,7 @@ use crate::setting::first_unknown;
 use crate::version::Version;
 use level::is_top;
 
-// 64 in version 1, and in version 2 the setting byte at place 5.
+// Returns 64 in version 1, and setting byte 5 in version 2.
 pub fn read_top(bytes: &[u8], version: Version, at: usize) -> u32
     requires { ⌜ at + recordSize version ≤ length (now bytes) ⌝ }
     ensures { λ r. ⌜ r ≡ topAt version (now (bytes .entry)) at ⌝ }
@@ -19,7 +19,7 @@ pub fn read_top(bytes: &[u8], version: Version, at: usize) -> u32
     }
 }
 
-// The place of the first setting byte that is out of range, and the number of setting bytes where there is none.
+// Returns the place of the first setting byte that is out of range, or the number of setting bytes.
 pub fn unknown_place(bytes: &[u8], version: Version, at: usize) -> usize
     requires { ⌜ at + recordSize version ≤ length (now bytes) ⌝ }
     ensures { λ r. ⌜ r ≡ unknownPlace version (now (bytes .entry)) at ⌝ }

@@ -1,4 +1,4 @@
-// The version of a job file: its number, and how long a record is.
+// The version of a job file: its number in the header, and the length of its records.
 ghost use mathlib.Core.Path.{_≡_};
 ghost use Rattle.job_fields.specs.Version.{versionNumber, settingBytes, recordSize};
 
@@ -8,7 +8,7 @@ pub enum Version {
     Two,
 }
 
-// The number that stands for the version in a header.
+// Returns the number of the version in a header.
 pub fn version_number(version: Version) -> u32
     ensures { λ r. ⌜ r ≡ versionNumber version ⌝ }
 {
@@ -18,7 +18,7 @@ pub fn version_number(version: Version) -> u32
     }
 }
 
-// How many setting bytes stand before a record's levels.
+// Returns how many setting bytes come before the levels of a record.
 pub fn setting_bytes(version: Version) -> usize
     ensures { λ r. ⌜ r ≡ settingBytes version ⌝ }
 {
@@ -28,7 +28,7 @@ pub fn setting_bytes(version: Version) -> usize
     }
 }
 
-// How many bytes a record has.
+// Returns how many bytes a record has.
 pub fn record_size(version: Version) -> usize
     ensures { λ r. ⌜ r ≡ recordSize version ⌝ }
 {

@@ -1,4 +1,4 @@
-// Numbers out of bytes, low byte first.
+// Reads numbers from bytes, low byte first.
 ghost use mathlib.Core.Path.{_≡_};
 ghost use Prim.Native.Nat.{_+_, _≤_};
 ghost use lib.ListN.{length};

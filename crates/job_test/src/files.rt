@@ -8,7 +8,7 @@ fn header(name: &[u8], bytes: &[u8]) {
     write_header(read_header(bytes));
 }
 
-// Whole and cut ones, and marks that are not a job's.
+// Whole and cut headers, and marks of other files.
 pub fn marks() {
     header(b"header alone", b"TSJ\x01\x00");
     header(b"header and a byte", b"TSJ\x01\x00\x07");
@@ -18,7 +18,7 @@ pub fn marks() {
     header(b"third letter", b"TSR\x01\x00");
 }
 
-// Versions, and a mark and a version that are both wrong.
+// Versions, and a wrong mark together with a wrong version.
 pub fn versions() {
     header(b"version 2", b"TSJ\x02\x00");
     header(b"version 0", b"TSJ\x00\x00");

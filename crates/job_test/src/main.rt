@@ -1,4 +1,4 @@
-// Reads job files that are good or damaged, and writes what was answered.
+// Reads good and damaged job files, and writes the answers.
 mod files;
 mod read;
 mod records;

@@ -1,4 +1,4 @@
-// Reads records and writes what was answered.
+// Reads records and writes the answers.
 use crate::show::write_answer;
 use job::cursor::Cursor;
 use job::next::NextRecord;

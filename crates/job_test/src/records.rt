@@ -1,4 +1,4 @@
-// Records of version 1: refused, whole, and one after the other.
+// Records of version 1: refused, whole, and several in a file.
 use crate::read::sample;
 use crate::read::walk;
 use job_fields::version::Version;
@@ -7,7 +7,7 @@ fn record(name: &[u8], bytes: &[u8], at: usize) {
     sample(name, bytes, Version::One, at);
 }
 
-// A record of five setting bytes and six levels of 0.
+// A record of five given setting bytes and six levels of 0.
 fn zeros(kind: u8, spacing: u8, order: u8, origin: u8, points: u8) -> [u8; 29] {
     let mut bytes = [0; 29];
     bytes[0] = kind;
@@ -29,7 +29,7 @@ pub fn unknown() {
     record(b"all five", &zeros(255, 255, 255, 255, 255), 0);
 }
 
-// Under 29 bytes left, with setting bytes in range and out of it.
+// Under 29 bytes left, with setting bytes in range and out of range.
 pub fn cut() {
     record(b"28 bytes", &zeros(0, 0, 0, 0, 0), 1);
     record(b"28 bytes and kind 3", &zeros(0, 3, 0, 0, 0), 1);
@@ -37,7 +37,7 @@ pub fn cut() {
     record(b"no byte", &zeros(0, 0, 0, 0, 0), 29);
 }
 
-// One triangle record: equal, counter-clockwise, lower-left, no points, outer 1 1 1, inner 2.
+// One triangle record: equal spacing, counter-clockwise, lower-left, no point mode, outer levels 1 1 1, inner level 2.
 pub fn whole() {
     let bytes =
         b"TSJ\x01\x00\x00\x00\x01\x01\x00\x00\x00\x80\x3f\x00\x00\x80\x3f\x00\x00\x80\x3f\x00\x00\x00\x00\x00\x00\x00\x40\x00\x00\x00\x00";
@@ -49,7 +49,7 @@ pub fn whole() {
     record(b"the last byte", bytes, 33);
 }
 
-// Quads with NaNs that carry bits of their own, kind 9, isolines with points, and three bytes more.
+// Quads with NaNs that have payloads, kind 9, isolines in point mode, and three further bytes.
 pub fn in_turn() {
     let bytes =
         b"TSJ\x01\x00\x01\x01\x00\x01\x00\x01\x00\x80\x7f\x02\x00\xc0\xff\x00\x00\x80\x7f\x00\x00\x80\xff\x00\x00\x80\x42\x01\x00\x80\x3f\x09\x00\x00\x00\x00------------------------\x02\x02\x01\x00\x01\x00\x00\x40\x40\x00\x00\x00\x40\x01\x02\x03\x04\x05\x06\x07\x08\x00\x00\x00\x80\xff\xff\xff\xff\x00\x01\x02";

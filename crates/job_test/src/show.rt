@@ -1,4 +1,4 @@
-// Answers in words.
+// Writes answers as text.
 use job::header::Header;
 use job::next::NextRecord;
 use job::record::Record;
@@ -64,7 +64,7 @@ fn write_record(record: Record) {
     write_bits(bits);
 }
 
-// The kind, and the segments of each level that counts.
+// Writes the kind, and the segments of each level that counts.
 fn write_patch(patch: Patch, spacing: Spacing) {
     match patch {
         Patch::Triangles {
@@ -109,7 +109,7 @@ fn write_outer(outer0: f32, outer1: f32, spacing: Spacing) {
     write_level(outer1, spacing);
 }
 
-// The segments of a level under the greatest top.
+// Writes the segments of a level, with the top level 64.
 fn write_level(level: f32, spacing: Spacing) {
     let clamped = segments_of(level, spacing, 64);
     let segments = clamped.segments;

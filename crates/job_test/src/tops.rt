@@ -1,4 +1,4 @@
-// Records of version 2, which carry a top level.
+// Records of version 2, which have a top level.
 use crate::read::sample;
 use crate::read::walk;
 use job_fields::version::Version;
@@ -7,7 +7,7 @@ fn record(name: &[u8], bytes: &[u8], at: usize) {
     sample(name, bytes, Version::Two, at);
 }
 
-// A record with two of its six setting bytes and zeros.
+// A record with three given setting bytes, all else 0.
 fn zeros(kind: u8, points: u8, top: u8) -> [u8; 30] {
     let mut bytes = [0; 30];
     bytes[0] = kind;
@@ -16,14 +16,14 @@ fn zeros(kind: u8, points: u8, top: u8) -> [u8; 30] {
     bytes
 }
 
-// A record with all but the top level in range.
+// A record in which all settings but the top level are in range.
 fn with_top(top: u8) {
     io::write_all(1, b"top ");
     io::print_decimal(1, top as u64);
     record(b"", &zeros(2, 1, top), 0);
 }
 
-// Top levels out of range, alone and after another setting byte.
+// Top levels out of range, alone and after another setting byte out of range.
 pub fn unknown() {
     with_top(0);
     with_top(1);
@@ -38,7 +38,7 @@ pub fn unknown() {
     record(b"point switch 2 and top 16", &zeros(2, 2, 16), 0);
 }
 
-// Under 30 bytes left, with a top level in range and out of it.
+// Under 30 bytes left, with a top level in range and out of range.
 pub fn cut() {
     record(
         b"29 bytes",
@@ -54,7 +54,7 @@ pub fn cut() {
     record(b"no byte of 30", &zeros(0, 0, 64), 30);
 }
 
-// One triangle record with the top level 16, read as the version that it has, and as the other.
+// One triangle record with the top level 16, read as its own version and as the other.
 pub fn by_version() {
     let bytes =
         b"TSJ\x02\x00\x00\x00\x01\x01\x00\x10\x00\x00\x80\x3f\x00\x00\x80\x3f\x00\x00\x80\x3f\x00\x00\x00\x00\x00\x00\x00\x40\x00\x00\x00\x00";
@@ -64,7 +64,7 @@ pub fn by_version() {
     sample(b"after version 2 as 1", bytes, Version::One, 34);
 }
 
-// The least and the greatest top level, with one out of range between them, and three bytes more.
+// The least and the greatest top level, with one out of range between them, and three further bytes.
 pub fn in_turn() {
     let bytes =
         b"TSJ\x02\x00\x01\x02\x00\x01\x00\x02\x00\x00\x80\x3f\x00\x00\x00\x40\x00\x00\x00\x00\x00\x00\x80\x42\x01\x00\x80\x3f\x01\x00\x80\x7f\x00\x00\x00\x00\x00\x07------------------------\x02\x01\x01\x00\x01\x40\x00\x00\x40\x40\x00\x00\x80\x42\x01\x02\x03\x04\x05\x06\x07\x08\x09\x0a\x0b\x0c\x0d\x0e\x0f\x10\x00\x01\x02";

@@ -1,4 +1,4 @@
--- The invariant of the loop that answers record after record, and its laws: where it begins, a turn and the end. Assumes nothing.
+-- The invariant of the loop that answers record after record: its start, a pass and its end. Assumes nothing.
 use Prim.Native.Nat.{ℕ, _≤_, _<_}
 use mathlib.Core.Path.{_≡_, refl, sym, ap, _∙_}
 use mathlib.Core.List.{List, _++_, append-assoc}
@@ -13,12 +13,12 @@ use Rattle.job_text.specs.Jobs.{answersFrom}
 use Rattle.job_text.proofs.Steps.{goes-on, answers-step}
 use Rattle.buffer.proofs.Laws.{wrote-within, wrote-front}
 
--- the front of out, w bytes, answers the records from `from` up to `at`
+-- the first w bytes of `out` are the text for the records from `from` up to `at`
 pub record Answering (v : Version) (bs : List ℕ) (from : ℕ) (out : List ℕ) (w at : ℕ) : Type 0 where
   pub text : answersFrom v bs from ≡ take w out ++ answersFrom v bs at
   pub fits : w ≤ length out
   pub past : from ≤ at
-  -- where something was written, it answers a record
+  -- if text was written, it answers a record
   pub on : 1 ≤ w → from < at
 
 module _ (v : Version) (bs : List ℕ) where

@@ -1,4 +1,4 @@
--- A job that is read in pieces is answered as one that is read whole. Assumes nothing.
+-- A job that is read in pieces has the same text as one that is read whole. Assumes nothing.
 use Prim.Native.Nat.{ℕ, zero, suc, _+_, _-_, _*_, _≤_, _<_}
 use mathlib.Core.Path.{_≡_, refl, sym, ap, _∙_}
 use mathlib.Core.Bool.{Bool, _&&_}
@@ -53,7 +53,7 @@ module _ (v : Version) (hs bs : List ℕ) where
       let k = length (hs ++ bs) in
       ap (answers v k (hs ++ bs)) (sym (add-zero (length hs))) ∙ answers-after k 0 ∙ answers-same v bs k (length bs) 0 (omega (arith, length-both)) (omega arith)
 
--- ---- whole records before others
+-- ---- whole records, then others
 
 module _ (v : Version) (bs cs : List ℕ) where
   before-reply : (at : ℕ) → at + recordSize v ≤ length bs → reply (recordAt v (bs ++ cs) at) ≡ reply (recordAt v bs at)
@@ -101,7 +101,7 @@ header-same hs bs h =
       word-agrees (hs ++ bs) hs 2 3 3 (agree-before 2 hs bs 3 (omega arith)),
     )
 
--- what a header of five bytes says, and the pieces after it
+-- the text after a header of five bytes, in pieces
 rest-in-pieces : (hs : List ℕ) (cs : List (List ℕ)) → length hs ≡ 5 → (r : Header) → HeaderMeans hs r → WholeAfter (restOf r) cs
     → restText (hs ++ joined cs) r ≡ saidAfter (restOf r) cs
 rest-in-pieces hs cs h NotAJob m w = refl
@@ -110,7 +110,7 @@ rest-in-pieces hs cs h (Read v next) m w =
     let first : next .at ≡ length hs = ap (λ (x : Cursor). x .at) (m .3) ∙ sym h in
     rw first (answers-past v hs (joined cs) ∙ in-pieces w)
 
--- a header of five bytes, and the pieces after it
+-- a header of five bytes, then pieces
 pub job-in-pieces : (hs : List ℕ) (cs : List (List ℕ)) → length hs ≡ 5 → WholeAfter (restOf (headerOf hs)) cs → jobText (hs ++ joined cs) ≡ saidOf hs cs
 unfolding jobText
 job-in-pieces hs cs h w =

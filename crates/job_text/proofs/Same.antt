@@ -1,4 +1,4 @@
--- Bytes that agree are read as the same record. Assumes nothing.
+-- Equal bytes are read as the same record. Assumes nothing.
 use Prim.Native.Nat.{ℕ, zero, suc, _+_, _≤_, _<_}
 use mathlib.Core.Path.{_≡_, refl, ap, _∙_}
 use mathlib.Core.Bool.{Bool, true, false, cond}
@@ -22,20 +22,20 @@ use Rattle.patch.specs.declared.settings.Settings.{Settings}
 use Rattle.record_text.specs.Replies.{reply}
 use Rattle.job_text.proofs.Sizes.{settings-least}
 
--- k bytes from a on and k bytes from b on are the same
+-- k bytes from a on and k bytes from b on are equal
 abbrev pub Agree : ℕ → List ℕ → ℕ → List ℕ → ℕ → Type 0
 Agree k bs a cs b = (j : ℕ) → j < k → byteAt bs (a + j) ≡ byteAt cs (b + j)
 
--- a list after another
+-- with bytes before
 pub agree-after : (k : ℕ) (hs bs : List ℕ) (at : ℕ) → Agree k (hs ++ bs) (length hs + at) bs at
 agree-after k hs bs at j l = rw (add-assoc (length hs) at j) (getD-append-add hs bs (at + j) 0)
 
--- a list before another
+-- with bytes after
 pub agree-before : (k : ℕ) (bs cs : List ℕ) (at : ℕ) → at + k ≤ length bs → Agree k (bs ++ cs) at bs at
 agree-before k bs cs at h j l = List·getD-append bs cs 0 (at + j) (omega arith)
 
 module _ (bs cs : List ℕ) where
-  -- of m + n bytes, the n after the first m
+  -- of m + n bytes, the last n
   later : (m n a b : ℕ) → Agree (m + n) bs a cs b → Agree n bs (a + m) cs (b + m)
   later m n a b h j l = rw (add-assoc a m j, add-assoc b m j) (h (m + j) (omega arith))
 
@@ -64,7 +64,7 @@ module _ (bs cs : List ℕ) where
       w : (m : ℕ) → m + 4 ≤ 24 → word 4 bs (a + m) ≡ word 4 cs (b + m)
       w m l = word-agrees 4 (a + m) (b + m) (later m 4 a b (fewer (m + 4) 24 a b l h))
 
-  -- the top level, where the setting bytes agree
+  -- the top level, if the setting bytes are equal
   top-agrees : (v : Version) (a b : ℕ) → Agree (settingBytes v) bs a cs b → topAt v bs a ≡ topAt v cs b
   top-agrees One a b h = refl
   top-agrees Two a b h = h 5 (omega arith)
@@ -75,15 +75,15 @@ module _ (bs cs : List ℕ) where
   place-agrees One a b h = over-agrees choices a b h
   place-agrees Two a b h = rw (over-agrees choices a b (fewer 5 6 a b (omega arith) h), top-agrees Two a b h)
 
-  -- the settings, with a top level that is given
+  -- the settings, with a given top level
   settings-agree : (a b t : ℕ) → Agree 5 bs a cs b → settingsAt bs a t ≡ settingsAt cs b t
   settings-agree a b t h = rw (h 1 (omega arith), h 2 (omega arith), h 3 (omega arith), h 4 (omega arith))
 
-  -- a record's parts: the byte of its kind, its settings and the bits of its levels
+  -- the parts of a record: the byte of its kind, its settings and the bits of its levels
   ofParts : ℕ → Settings → LevelBits → Record
   ofParts kind settings bits = record { kind = kindOf kind; settings = settings; levels = levelsOf bits; bits = bits }
 
-  -- the record, by its parts one after the other
+  -- the record, part by part
   record-agrees : (v : Version) (a b : ℕ) → Agree (recordSize v) bs a cs b → recordOf v bs a ≡ recordOf v cs b
   unfolding recordOf ofParts
   record-agrees v a b h =
@@ -95,7 +95,7 @@ module _ (bs cs : List ℕ) where
       ∙ ap (λ (x : Settings). ofParts (byteAt cs b) x (bitsAt bs (a + s))) (settings-agree a b (topAt v cs b) five)
       ∙ ap (ofParts (byteAt cs b) (settingsAt cs b (topAt v cs b))) (bits-agree (a + s) (b + s) (later s 24 a b h))
 
-  -- the same is said of it
+  -- the text is the same
   pub reply-agrees : (v : Version) (a b : ℕ) → Agree (recordSize v) bs a cs b → atEnd bs a ≡ atEnd cs b → cut v bs a ≡ cut v cs b → reply (recordAt v bs a) ≡ reply (recordAt v cs b)
   unfolding recordAt
   reply-agrees v a b h e c =

@@ -16,7 +16,7 @@ use Rattle.record_text.specs.Replies.{reply, goesOn}
 use Rattle.job_text.specs.Jobs.{answers, answersFrom}
 
 module _ (v : Version) (bs : List ℕ) where
-  -- reading goes on past the record, or at the end
+  -- reading continues after the record, or at the end
   pub goes-on : (at : ℕ) → at < length bs → goesOn (length bs) (recordAt v bs at) ≡ min (at + recordSize v) (length bs)
   unfolding recordAt
   goes-on at h = rw (lt-leb (length bs) at h) (go (cut v bs at) (unknown v bs at) refl)
@@ -27,13 +27,13 @@ module _ (v : Version) (bs : List ℕ) where
       go false true e = omega (arith, ltb-false (length bs - at) (recordSize v) e)
       go false false e = omega (arith, ltb-false (length bs - at) (recordSize v) e)
 
-  -- there is nothing to answer at the end
+  -- there is no text at the end
   pub answers-end : (k at : ℕ) → length bs ≤ at → answers v k bs at ≡ []
   unfolding answers recordAt
   answers-end zero at h = refl
   answers-end (suc k) at h = rw (le-leb (length bs) at h) (answers-end k (length bs) (omega arith))
 
-  -- more turns than there are records change nothing
+  -- more passes than records change nothing
   pub answers-same : (k m at : ℕ) → length bs ≤ at + k → length bs ≤ at + m → answers v k bs at ≡ answers v m bs at
   unfolding answers
   answers-same zero m at h l = rw (answers-end m at (omega arith))
@@ -46,7 +46,7 @@ module _ (v : Version) (bs : List ℕ) where
             ap (λ (l : List ℕ). reply (recordAt v bs at) ++ l) (answers-same k m (goesOn (length bs) (recordAt v bs at)) (omega arith) (omega arith))
       ]
 
-  -- a record, and the records after it
+  -- one record, then the records after it
   pub answers-step : (at : ℕ) → answersFrom v bs at ≡ reply (recordAt v bs at) ++ answersFrom v bs (goesOn (length bs) (recordAt v bs at))
   unfolding answers
   answers-step at = answers-same (length bs) (suc (length bs)) at (omega arith) (omega arith)

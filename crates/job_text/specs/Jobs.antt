@@ -1,4 +1,4 @@
--- The text that answers a whole job. Assumes nothing.
+-- The text for a whole job. Assumes nothing.
 use Prim.Native.Nat.{ℕ, zero, suc}
 use mathlib.Core.List.{List, [], _++_}
 use lib.ListN.{length}
@@ -13,32 +13,32 @@ use Rattle.job_text.specs.declared.header.Rest.{Rest}
 use Rattle.job_text.specs.declared.header.Rest.the-variants.{Records, Nothing}
 use Rattle.record_text.specs.Replies.{reply, goesOn}
 
--- the answers to the first k records from a place on, in a file of a version
+-- the text for the first k records from place `at` on
 unfoldable pub answers : Version → ℕ → List ℕ → ℕ → List ℕ
 answers v zero bs at = []
 answers v (suc k) bs at = reply (recordAt v bs at) ++ answers v k bs (goesOn (length bs) (recordAt v bs at))
 
--- the answers to all records from a place on: there are no more of them than bytes
+-- the text for all records from place `at` on; a file has no more records than bytes
 abbrev pub answersFrom : Version → List ℕ → ℕ → List ℕ
 answersFrom v bs at = answers v (length bs) bs at
 
--- what is said of a header
+-- the text for a header
 abbrev pub startText : Header → List ℕ
 startText (Read v next) = titleLine (versionNumber v)
 startText NotAJob = refusedLine 5
 startText UnknownVersion = refusedLine 6
 
--- what is said of the records after it
+-- the text for the records after a header
 abbrev pub restText : List ℕ → Header → List ℕ
 restText bs (Read v next) = answersFrom v bs (next .at)
 restText bs NotAJob = []
 restText bs UnknownVersion = []
 
--- the text that answers the bytes of a job
+-- the text for the bytes of a job
 unfoldable pub jobText : List ℕ → List ℕ
 jobText bs = startText (headerOf bs) ++ restText bs (headerOf bs)
 
--- what follows a header: records of its version where it was read
+-- what follows a header: records of its version, or nothing if it is refused
 abbrev pub restOf : Header → Rest
 restOf (Read v next) = Records v
 restOf NotAJob = Nothing

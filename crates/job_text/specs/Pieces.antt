@@ -1,4 +1,4 @@
--- A job that is read in pieces: what is said of each piece by itself. Assumes nothing.
+-- A job that is read in pieces: the text for each piece. Assumes nothing.
 use Prim.Native.Nat.{ℕ, _*_}
 use mathlib.Core.Path.{_≡_}
 use mathlib.Core.List.{List, [], _∷_, _++_}
@@ -10,32 +10,32 @@ use Rattle.job_text.specs.declared.header.Rest.{Rest}
 use Rattle.job_text.specs.declared.header.Rest.the-variants.{Records, Nothing}
 use Rattle.job_text.specs.Jobs.{answersFrom, startText, restOf}
 
--- pieces one after the other
+-- the pieces, joined
 unfoldable pub joined : List (List ℕ) → List ℕ
 joined [] = []
 joined (c ∷ cs) = c ++ joined cs
 
--- every piece but the last is of whole records of a version
+-- every piece but the last consists of whole records of the version
 pub data Whole (v : Version) : List (List ℕ) → Type 0 where
   none : Whole v []
   last : (c : List ℕ) → Whole v (c ∷ [])
   more : {c : List ℕ} {cs : List (List ℕ)} (n : ℕ) → length c ≡ recordSize v * n → Whole v cs → Whole v (c ∷ cs)
 
--- the answers to the records of each piece
+-- the text for the records of each piece, joined
 unfoldable pub said : Version → List (List ℕ) → List ℕ
 said v [] = []
 said v (c ∷ cs) = answersFrom v c 0 ++ said v cs
 
--- every piece but the last is of whole records, where records follow
+-- every piece but the last consists of whole records, if records follow
 abbrev pub WholeAfter : Rest → List (List ℕ) → Type 0
 WholeAfter (Records v) cs = Whole v cs
 WholeAfter Nothing cs = Unit {0}
 
--- the answers to the pieces, where records follow
+-- the text for the pieces, if records follow
 abbrev pub saidAfter : Rest → List (List ℕ) → List ℕ
 saidAfter (Records v) cs = said v cs
 saidAfter Nothing cs = []
 
--- what is said of a header, and of the pieces after it
+-- the text for a header and for the pieces after it
 abbrev pub saidOf : List ℕ → List (List ℕ) → List ℕ
 saidOf header cs = startText (headerOf header) ++ saidAfter (restOf (headerOf header)) cs

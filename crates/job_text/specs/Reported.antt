@@ -1,4 +1,4 @@
--- What is promised of answers to records that stand one after the other. Assumes nothing.
+-- What holds after some records of a job are answered. Assumes nothing.
 use Prim.Native.Nat.{ℕ, _≤_, _<_}
 use mathlib.Core.Path.{_≡_}
 use mathlib.Core.List.{List, _++_}
@@ -7,10 +7,10 @@ use Rattle.job_fields.specs.declared.version.Version.{Version}
 use Rattle.job_text.specs.declared.records.Progress.{Progress}
 use Rattle.job_text.specs.Jobs.{answersFrom}
 
--- out is the output after the call
+-- `out` is the output list after the call
 pub record Reported (v : Version) (bs : List ℕ) (from : ℕ) (out : List ℕ) (r : Progress) : Type 0 where
-  -- what was written, and the answers from the next place on, are the answers from the first place on
+  -- the text that was written, followed by that for the records left, is the text for all records
   pub text : answersFrom v bs from ≡ take (r .written) out ++ answersFrom v bs (r .next)
   pub fits : r .written ≤ length out
-  -- where there is a record, at least one is answered
+  -- if a record is left, at least one is answered
   pub on : from < length bs → from < r .next

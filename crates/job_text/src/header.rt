@@ -1,4 +1,4 @@
-// The answer to the header of a job.
+// The text for the header of a job.
 ghost use mathlib.Core.Path.{_≡_};
 ghost use Prim.Native.Nat.{_≤_};
 ghost use lib.ListN.{length};
@@ -8,13 +8,13 @@ use job::header::Header;
 use job_fields::version::Version;
 use job_fields::version::version_number;
 
-// What follows a header: records of a version, or nothing that is read.
+// What follows a header: records of its version, or nothing if it is refused.
 pub enum Rest {
     Records(Version),
     Nothing,
 }
 
-// The first line of all, or the number of a refusal.
+// Writes the title, or the line of a refusal.
 pub fn put_header(out: &mut [u8], header: Header) -> usize
     requires { ⌜ 19 ≤ length (now out) ⌝ }
     ensures { λ r. ⌜ Wrote (now (out .entry)) 0 (startText header) (now (out .exit)) r ⌝ }
@@ -26,7 +26,7 @@ pub fn put_header(out: &mut [u8], header: Header) -> usize
     }
 }
 
-// What follows it.
+// Returns what follows the header.
 pub fn rest_of(header: Header) -> Rest
     ensures { λ r. ⌜ r ≡ restOf header ⌝ }
 {

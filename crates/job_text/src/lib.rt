@@ -1,3 +1,3 @@
-// The text that answers a job: its first line, and the answers to its records.
+// The text for a job: its title, and the answers to its records.
 pub mod header;
 pub mod records;

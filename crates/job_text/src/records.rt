@@ -1,4 +1,4 @@
-// The answers to records that stand one after the other.
+// The text for the records of a job.
 ghost use Prim.Native.Nat.{_≤_};
 ghost use lib.ListN.{length};
 ghost use Rattle.job_text.specs.Reported.{Reported};
@@ -9,16 +9,16 @@ use job_fields::version::Version;
 use record_text::reply::next_place;
 use record_text::reply::put_reply;
 
-// No record is answered by more bytes than this.
+// The most bytes of one record's text.
 const ROOM: usize = 286909;
 
-// How many bytes of text were written, and where the first record is that they do not answer.
+// How many bytes of text were written, and where the next record is.
 pub struct Progress {
     pub written: usize,
     pub next: usize,
 }
 
-// The answers from a place on in a file of a version, from the front of `out`, as long as the next one is sure to fit.
+// Writes the text for the records from a place on, to the front of `out`, as long as the next one is sure to fit.
 pub fn put_records(
     out: &mut [u8],
     bytes: &[u8],

@@ -1,4 +1,4 @@
--- What stands at a place, answer by answer: the end exactly where no byte is left, and any other answer moves on. Assumes nothing.
+-- What is at a place, answer by answer: the end exactly if no byte is left, and every other answer moves on. Assumes nothing.
 use Prim.Native.Nat.{ℕ, _≤_, _<_}
 use native.Mathlib.Omega.{arith}
 use mathlib.Core.Path.{_≡_, refl, ap}
@@ -26,7 +26,7 @@ settings-few : (v : Version) → settingBytes v ≤ 6
 settings-few One = omega arith
 settings-few Two = omega arith
 
--- a record's top is a byte, and so is a place
+-- the top level of a record fits into a byte, and so does a place
 pub number-small : (v : Version) (bs : List ℕ) (at : ℕ) (r : NextRecord) → recordAt v bs at ≡ r → numberIn r < 256
 number-small v bs at (Read x next) e = omega (arith, top-small (x .settings .top) (top-allowed v bs at refl x next e))
 number-small v bs at End e = omega arith
@@ -56,7 +56,7 @@ module _ (n : ℕ) (bs : List ℕ) (at : ℕ) where
     on v (UnknownSetting place next) e =
         (λ i. absurd (omega arith), omega (arith, ap (λ (k : Cursor). k .at) (record-exactly v bs at (UnknownSetting place next) .0 e .2)))
 
-    -- where a byte is left the answer is not the end, and reading goes on further down
+    -- if a byte is left, the answer is not the end, and reading continues further on
     pub moves-on : (foundAt n bs at .number ≡ endNumber → ⊥) × (at < foundAt n bs at .next)
     moves-on = go (isVersion n) refl
       where
@@ -64,7 +64,7 @@ module _ (n : ℕ) (bs : List ℕ) (at : ℕ) where
         go false e = rw (found-other e) (λ i. absurd (omega arith), h)
         go true e = rw (found-here e) (on (versionIn n) (recordAt (versionIn n) bs at) refl)
 
-  -- the end is told exactly where no byte is left
+  -- the end is answered exactly if no byte is left
   pub end-exactly : foundAt n bs at .number ≡ endNumber ↔ length bs ≤ at
   end-exactly = (
     λ e. elim (decLe (length bs) at) [ yes h ↦ h | no h ↦ absurd (moves-on (omega arith) .0 e) ],

@@ -1,4 +1,4 @@
--- What a caller hands over: a version's number, six setting bytes and six bit patterns. Assumes nothing.
+-- What a caller passes: a version's number, six setting bytes and six bit patterns. Assumes nothing.
 use Prim.Native.Nat.{ℕ}
 use mathlib.Core.Bool.{Bool, cond, _||_}
 use mathlib.Core.List.{List}
@@ -13,15 +13,15 @@ use Rattle.job.specs.declared.record.Record.{Record}
 use Rattle.job_bytes.specs.Patterns.{recordOfBits}
 use Rattle.requests.specs.Inputs.{settingsIn}
 
--- 6 applies to every other number
+-- whether n is the number of a version; answer 6 if not
 unfoldable pub isVersion : ℕ → Bool
 isVersion n = eqb n 1 || eqb n 2
 
--- the version of a number that is one
+-- the version with the number n; version 2 for every number but 1
 unfoldable pub versionIn : ℕ → Version
 versionIn n = cond (eqb n 1) One Two
 
--- the bit patterns in the order of a record: outer one to four, inner one and two
+-- the bit patterns in the order of a record: four outer levels, two inner levels
 abbrev pub bitsIn : List ℕ → LevelBits
 bitsIn ps = record {
   outer0 = getD ps 0 0;
@@ -32,6 +32,6 @@ bitsIn ps = record {
   inner1 = getD ps 5 0;
 }
 
--- the record that setting bytes bs and patterns ps stand for
+-- the record with the setting bytes bs and the bit patterns ps
 abbrev pub recordIn : List ℕ → List ℕ → Record
 recordIn bs ps = recordOfBits (kindOf (byteAt bs 0)) (settingsIn bs) (bitsIn ps)

@@ -1,4 +1,4 @@
-// What stands at a place of a job file, as a caller gets it.
+// What is at a place of a job file, as a caller gets it.
 ghost use mathlib.Core.Path.{_≡_};
 ghost use Prim.Native.Nat.{_<_};
 ghost use Rattle.job_words.specs.Found.{settingsOut, patternsOut, nothing, foundOf, foundAt, numberIn};
@@ -14,7 +14,7 @@ use job_bytes::setting_bytes::origin_byte;
 use job_bytes::setting_bytes::spacing_byte;
 use job_fields::levels::LevelBits;
 
-// All is 0 but the number and where to read on, unless a record was read or a setting is unknown.
+// All but `number` and `next` is 0, unless a record was read or a setting is unknown.
 pub struct Found {
     pub number: u32,
     pub place: u32,
@@ -97,7 +97,7 @@ fn found_of(end: usize, found: NextRecord) -> Found
     }
 }
 
-// The end is told first, so that a caller who reads on after every other answer gets there.
+// Reads at a place. The end comes first, so that a caller who reads on after every other answer reaches it.
 pub fn found_at(bytes: &[u8], version: u32, at: usize) -> Found
     ensures { λ r. ⌜ r ≡ foundAt version (now (bytes .entry)) at ⌝ }
 {

@@ -1,4 +1,4 @@
-// The record that a caller's settings and patterns stand for.
+// The record of a caller's setting bytes and bit patterns.
 ghost use mathlib.Core.Path.{_≡_};
 ghost use Rattle.job_words.specs.Inputs.{bitsIn, recordIn};
 use job::record::Record;

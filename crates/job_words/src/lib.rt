@@ -1,4 +1,4 @@
-// Versions, records and what a reader found, as numbers in a caller's memory: what the calls for job files take, and what reading leaves.
+// What the calls for job files take and leave in the caller's memory, as numbers: versions, records, and what reading finds.
 pub mod found;
 pub mod input;
 pub mod version;

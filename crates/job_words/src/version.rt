@@ -9,7 +9,7 @@ pub fn is_version(number: u32) -> bool
     (number == 1) | (number == 2)
 }
 
-// The version of a number that is one.
+// Returns the version with the number 1 or 2; any other number gives version 2.
 pub fn version_in(number: u32) -> Version
     ensures { λ r. ⌜ r ≡ versionIn number ⌝ }
 {

@@ -1,4 +1,4 @@
--- What a writer says keeps its whole promise. Assumes nothing.
+-- The answer of a writer satisfies its whole contract. Assumes nothing.
 use Prim.Native.Nat.{ℕ, _≤_, _<_}
 use native.Mathlib.Omega.{arith}
 use mathlib.Core.Path.{_≡_, refl, sym}
@@ -20,7 +20,7 @@ use Rattle.job_bytes.proofs.Lengths.{header-length, record-length}
 use Rattle.job_writer.proofs.Headers.{header-back}
 use Rattle.job_writer.proofs.RoundTrip.{record-back}
 
--- bytes written at the front stand there
+-- bytes written at the front are there
 front : {bytes xs xs′ : List ℕ} {r size : ℕ} → length bytes ≡ size → buffer.Wrote xs 0 bytes xs′ r → take size xs′ ≡ bytes
 front {bytes} {xs} {size = size} n w = rw (w .is) (over-front xs bytes size (sym n))
 

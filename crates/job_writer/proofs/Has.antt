@@ -1,4 +1,4 @@
--- Bytes that stand in a list at a place, and the numbers in them. Assumes nothing.
+-- Bytes at a place of a list, and the numbers in them. Assumes nothing.
 use Prim.Native.Nat.{ℕ, zero, suc, _+_, _^_, _≤_, _<_}
 use native.Mathlib.Omega.{arith}
 use mathlib.Core.Path.{_≡_, sym, ap, _∙_}
@@ -10,11 +10,11 @@ use Rattle.job_fields.proofs.Words.{word-back, bytes-back}
 use Rattle.job_writer.specs.Whole.{Bytes}
 use Rattle.job_bytes.proofs.LowBytes.{low-length}
 
--- the bytes ys stand in bs from `at` on
+-- bs has the bytes ys from place `at` on
 pub record Has (bs : List ℕ) (at : ℕ) (ys : List ℕ) : Type 0 where
   pub is : take (length ys) (drop at bs) ≡ ys
 
--- two lists, one right after the other
+-- joined bytes
 pub has-front : {bs : List ℕ} {at : ℕ} (xs ys : List ℕ) → Has bs at (xs ++ ys) → Has bs at xs
 has-front {bs} {at} xs ys h =
     let n : length xs ≤ length (xs ++ ys) = omega (arith, length-append xs ys) in
@@ -38,7 +38,7 @@ pub has-byte : {bs : List ℕ} {at : ℕ} {ys : List ℕ} → Has bs at ys → (
 has-byte {bs} {at} {ys} h i l =
     sym (getD-drop at bs i 0) ∙ sym (getD-take (length ys) (drop at bs) i 0 l) ∙ ap (λ (zs : List ℕ). getD zs i 0) (h .is)
 
--- all of them
+-- all bytes
 pub has-all : (bs : List ℕ) (at : ℕ) (ys : List ℕ) → at + length ys ≤ length bs → ((i : ℕ) → i < length ys → byteAt bs (at + i) ≡ getD ys i 0) → Has bs at ys
 has-all bs at ys h same =
     let n : length (take (length ys) (drop at bs)) ≡ length ys = omega (arith, length-take (length ys) (drop at bs), length-drop at bs) in
@@ -46,13 +46,13 @@ has-all bs at ys h same =
       is = ext-getD 0 _ _ n (λ i l. let k : i < length ys = omega arith in getD-take (length ys) (drop at bs) i 0 k ∙ getD-drop at bs i 0 ∙ same i k);
     }
 
--- they end within the list
+-- the bytes end within the list
 pub has-within : {bs : List ℕ} {at : ℕ} {ys : List ℕ} → 1 ≤ length ys → Has bs at ys → at + length ys ≤ length bs
 has-within {bs} {at} {ys} l h = omega (arith, ap length (h .is), length-take (length ys) (drop at bs), length-drop at bs)
 
--- ---- lowBytes k and word k are inverse
+-- ---- lowBytes k and word k are inverse to each other
 
--- the low bytes of a number are read as that number
+-- the low bytes of a number read back as the number
 pub word-has : {bs : List ℕ} {at : ℕ} (k x : ℕ) → x < 256 ^ k → Has bs at (lowBytes k x) → word k bs at ≡ x
 unfolding word
 word-has zero x h p = omega arith

@@ -1,4 +1,4 @@
--- A header that was written is read, and one that was read is written again. Assumes nothing.
+-- A written header reads back, and a header that was read is written as the same bytes. Assumes nothing.
 use Prim.Native.Nat.{ℕ, _≤_}
 use native.Mathlib.Omega.{arith}
 use mathlib.Core.Path.{_≡_, refl}
@@ -16,7 +16,7 @@ use Rattle.job_writer.specs.Whole.{Bytes}
 use Rattle.job_bytes.proofs.Lengths.{number-small, header-length}
 use Rattle.job_writer.proofs.Has.{Has, has-front, has-back, has-both, has-within, word-has, has-word}
 
--- bytes that begin with a header are read as it
+-- bytes that begin with a header are read as that header
 pub header-back : (v : Version) (bs : List ℕ) → take 5 bs ≡ headerBytes v → headerOf bs ≡ Read v start
 unfolding headerBytes
 header-back v bs e =
@@ -26,7 +26,7 @@ header-back v bs e =
     header-exactly bs (Read v start) .1
     (n, has-front mark number h .is, word-has 2 (versionNumber v) (omega (arith, number-small v)) (has-back mark number h), refl)
 
--- bytes that are read as a header begin with it
+-- bytes that are read as a header begin with its bytes
 pub header-again : (v : Version) (bs : List ℕ) (next : Cursor) → Bytes bs → headerOf bs ≡ Read v next → take 5 bs ≡ headerBytes v
 unfolding headerBytes
 header-again v bs next b e =

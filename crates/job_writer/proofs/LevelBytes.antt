@@ -1,4 +1,4 @@
--- The bit patterns of a record's levels and their bytes: one gives the other back. Assumes nothing.
+-- The bit patterns of a record's levels and their bytes determine each other. Assumes nothing.
 use Prim.Native.Nat.{ℕ, zero, suc, _+_, _^_, _≤_, _<_}
 use native.Mathlib.Nat.{pow-suc}
 use native.Mathlib.Omega.{arith}
@@ -15,14 +15,14 @@ use Rattle.job_bytes.proofs.LowBytes.{low-length}
 use Rattle.job_writer.proofs.Has.{Has, has-front, has-back, has-both, word-has, has-word}
 
 module _ {bs : List ℕ} {at : ℕ} (next : ℕ) (e : at + 4 ≡ next) where
-  -- a pattern, and what stands after it
+  -- a pattern, and the bytes after it
   first : (x : ℕ) (ys : List ℕ) → x < 256 ^ 4 → Has bs at (lowBytes 4 x ++ ys) → (word 4 bs at ≡ x) × Has bs next ys
   first x ys h p = (word-has 4 x h (has-front (lowBytes 4 x) ys p), rw e at (rw (low-length 4 x) at (has-back (lowBytes 4 x) ys p)))
 
   again : (ys : List ℕ) → next ≤ length bs → Bytes bs → Has bs next ys → Has bs at (lowBytes 4 (word 4 bs at) ++ ys)
   again ys h b p = has-both (lowBytes 4 (word 4 bs at)) ys (has-word bs at 4 (omega arith) b) (rw (low-length 4 (word 4 bs at), e) p)
 
--- the patterns that were written are read
+-- written patterns read back
 pub bits-back : {bs : List ℕ} {at : ℕ} (b : LevelBits) → Patterns b → Has bs at (levelBytes b) → bitsAt bs at ≡ b
 unfolding levelBytes
 bits-back {bs} {at} b p h =
@@ -40,7 +40,7 @@ word-small bs at zero b = omega arith
 word-small bs at (suc k) b = omega (arith, b at, word-small bs (at + 1) k b, pow-suc 256 k)
 
 module _ (bs : List ℕ) (at : ℕ) where
-  -- the patterns that were read are of 32 bits
+  -- patterns that were read have at most 32 bits
   pub bits-small : Bytes bs → Patterns (bitsAt bs at)
   bits-small b = record {
     outer0 = word-small bs at 4 b;
@@ -51,7 +51,7 @@ module _ (bs : List ℕ) (at : ℕ) where
     inner1 = word-small bs (at + 20) 4 b;
   }
 
-  -- and stand there
+  -- their bytes are where they were read
   pub bits-again : at + 24 ≤ length bs → Bytes bs → Has bs at (levelBytes (bitsAt bs at))
   unfolding levelBytes
   bits-again h b =

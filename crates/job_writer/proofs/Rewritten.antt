@@ -1,4 +1,4 @@
--- What the writers do to what was read: the same bytes are written again. Assumes nothing.
+-- The writers write what was read as the same bytes. Assumes nothing.
 use Prim.Native.Nat.{ℕ, _≤_}
 use native.Mathlib.Omega.{arith}
 use mathlib.Core.Path.{_≡_, refl, sym, ap, _∙_}
@@ -29,20 +29,20 @@ use Rattle.job_writer.proofs.Headers.{header-again}
 use Rattle.job_writer.proofs.RoundTrip.{record-again}
 use Rattle.job_writer.proofs.WholeFiles.{file-again}
 
--- a writer that said it wrote `size` bytes wrote its own at the front
+-- a writer that answered `size` bytes wrote its bytes at the front
 front : {t right : Told} {bytes xs xs′ : List ℕ} {size : ℕ} → length bytes ≡ size → Drew t right bytes xs xs′ → right ≡ wrote size → take size xs′ ≡ bytes
 front {bytes = bytes} {xs = xs} {size = size} n w e =
     let zero = ap (λ (x : Told). x .number) (w .answer ∙ e) in
     rw (rw zero at (w .list)) (over-front xs bytes size (sym n))
 
--- a header that was read, written into a list with room: the answer, and the same first 5 bytes
+-- a header that was read, written into a list with room: the answer, and the same 5 bytes
 pub header-rewritten : (v : Version) (bs : List ℕ) (next : Cursor) {xs xs′ : List ℕ} {r : HeaderWritten} → Bytes bs → headerOf bs ≡ read-header.Read v next
     → 5 ≤ length xs → WroteHeader v xs xs′ r → (toldHeader r ≡ wrote 5) × (take 5 xs′ ≡ take 5 bs)
 header-rewritten v bs next {xs} b e h w =
     let right : roomVerdict 5 (length xs) ≡ wrote 5 = rw (le-ltb _ _ h) in
     (w .wrote .answer ∙ right, front (header-length v) (w .wrote) right ∙ sym (header-again v bs next b e))
 
--- a record that was read, written in its version into a list with room: the answer, and the same first 29 or 30 bytes
+-- a record that was read, written in its version into a list with room: the answer, and the same 29 or 30 bytes
 pub record-rewritten : (v : Version) (bs : List ℕ) (at : ℕ) (x : Record) (next : Cursor) {xs xs′ : List ℕ} {r : RecordWritten} → Bytes bs
     → recordAt v bs at ≡ Read x next → recordSize v ≤ length xs → WroteRecord v x xs xs′ r
     → (toldRecord r ≡ wrote (recordSize v)) × (take (recordSize v) xs′ ≡ take (recordSize v) (drop at bs))
@@ -51,7 +51,7 @@ record-rewritten v bs at x next {xs} b e h w =
     let right : recordVerdict v x (length xs) ≡ wrote (recordSize v) = rw (again .0 .top, le-ltb _ _ h) in
     (w .wrote .answer ∙ right, front (record-length v x) (w .wrote) right ∙ sym (again .2))
 
--- ---- one call after the other
+-- ---- several calls
 
 -- a writer that wrote n bytes wrote its whole record
 room-wrote : (size have n : ℕ) → wrote n ≡ roomVerdict size have → n ≡ size
@@ -75,13 +75,13 @@ records-in-turn v (x ∷ xs) (more {n = n} w rest) =
     let size = record-wrote v x _ n (w .wrote .answer) in
     rw (size, front (record-length v x) (w .wrote) (sym (w .wrote .answer) ∙ ap wrote size), records-in-turn v xs rest)
 
--- what the calls wrote, one after the other, is the file
+-- the bytes that the calls wrote, joined, are the file
 pub file-in-turn : (v : Version) (xs : List Record) {bs : List ℕ} → FileInTurn v xs bs → bs ≡ fileBytes v xs
 file-in-turn v xs w =
     let size = room-wrote 5 (length (w .l)) (w .n) (w .header .wrote .answer) in
     let head : take (w .n) (w .l′) ≡ headerBytes v = rw size (front (header-length v) (w .header .wrote) (sym (w .header .wrote .answer) ∙ ap wrote size)) in
     w .is ∙ rw (head, records-in-turn v xs (w .records))
 
--- a whole file that is read as records only, written again record by record, is the same bytes
+-- a file in which every record was read, written again record by record, is the same bytes
 pub file-rewritten : (v : Version) (bs : List ℕ) (xs : List Record) {bs′ : List ℕ} → Bytes bs → Reads v bs xs → FileInTurn v xs bs′ → bs′ ≡ bs
 file-rewritten v bs xs b r w = file-in-turn v xs w ∙ sym (file-again v bs xs b r .0)

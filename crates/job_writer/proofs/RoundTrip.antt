@@ -1,4 +1,4 @@
--- A record that was written is read, and one that was read is written again. Assumes nothing.
+-- A written record reads back, and a record that was read is written as the same bytes. Assumes nothing.
 use Prim.Native.Nat.{ℕ, _+_, _≤_}
 use native.Mathlib.Omega.{arith}
 use mathlib.Core.Path.{_≡_, refl, ap}
@@ -23,7 +23,7 @@ use Rattle.job_writer.proofs.Tops.{top-back, top-known, top-taken, top-
 use Rattle.job_writer.proofs.LevelBytes.{bits-back, bits-again, bits-small}
 
 module _ (v : Version) (bs : List ℕ) (at : ℕ) where
-  -- the place of the levels
+  -- where the levels are
   place : (t : ℕ) → at + 5 + length (topBytes v t) ≡ at + settingBytes v
   place t = omega (arith, top-length v t)
 
@@ -45,11 +45,11 @@ module _ (v : Version) (bs : List ℕ) (at : ℕ) where
         refl,
       )
 
-  -- bytes that have a record at a place are read there as the same kind, settings and bit patterns
+  -- the bytes of a record are read as the same kind, settings and bit patterns
   pub record-back : (r : Record) → Writable v r → take (recordSize v) (drop at bs) ≡ recordBytes v r → recordAt v bs at ≡ Read (reread r) (after v at)
   record-back r w e = has-record r w (record { is = rw (record-length v r) e })
 
-  -- and where its levels are those of its patterns, as the same record
+  -- if its levels are those of its bit patterns, as the same record
   pub record-same : (r : Record) → Writable v r → Agrees r → take (recordSize v) (drop at bs) ≡ recordBytes v r → recordAt v bs at ≡ Read r (after v at)
   record-same r w a e = rw a (record-back r w e)
 
@@ -65,7 +65,7 @@ module _ (v : Version) (bs : List ℕ) (at : ℕ) where
   unfolding recordOf
   can-write a b = record { top = top-taken bs at v a .1; patterns = bits-small bs (at + settingBytes v) b }
 
-  -- a record that was read is one that can be written, and its bytes are those that it was read from
+  -- a record that was read can be written, and its bytes are those it was read from
   pub record-again : (r : Record) (next : Cursor) → Bytes bs → recordAt v bs at ≡ Read r next
       → Writable v r × Agrees r × (take (recordSize v) (drop at bs) ≡ recordBytes v r)
   record-again r next b e =

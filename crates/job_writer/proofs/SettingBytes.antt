@@ -1,4 +1,4 @@
--- Each setting and its byte: one gives the other back. Assumes nothing.
+-- Each setting and its byte determine each other. Assumes nothing.
 use Prim.Native.Nat.{ℕ, zero, suc, _+_, _≤_, _<_}
 use native.Mathlib.Nat.{add-zero}
 use native.Mathlib.Omega.{arith}
@@ -20,7 +20,7 @@ use Rattle.job_fields.specs.Settings.{choices, kindOf, spacingOf, orderOf, orig
 use Rattle.job_bytes.specs.Written.{kindByte, spacingByte, orderByte, originByte, switchByte, fiveBytes}
 use Rattle.job_writer.proofs.Has.{Has, has-byte, has-all}
 
--- ---- a byte in range is the byte of what it means
+-- ---- a byte in range is the byte of its meaning
 module _ {A : Type 0} (f : ℕ → A) (g : A → ℕ) where
   two : g (f 0) ≡ 0 → g (f 1) ≡ 1 → (b : ℕ) → b < 2 → g (f b) ≡ b
   two p q zero h = p
@@ -33,7 +33,7 @@ module _ {A : Type 0} (f : ℕ → A) (g : A → ℕ) where
   three p q r (suc (suc zero)) h = r
   three p q r (suc (suc (suc b))) h = absurd (omega arith)
 
--- ---- a setting's byte is in range, and means the setting
+-- ---- the byte of a setting is in range, and means the setting
 kind-back : (k : Kind) → (kindByte k < 3) × (kindOf (kindByte k) ≡ k)
 kind-back Triangles = (omega arith, refl)
 kind-back Quads = (omega arith, refl)
@@ -66,15 +66,15 @@ module _ (k : Kind) (s : Settings) where
   five-below (suc (suc (suc (suc (suc i))))) h = absurd (omega arith)
 
   module _ {bs : List ℕ} {at : ℕ} (has : Has bs at (fiveBytes k s)) where
-    -- the five bytes of a record that was written are in range
+    -- the five bytes of a written record are in range
     pub five-known : AllBelow choices bs at
     five-known i h = rw (has-byte has i h) (five-below i h)
 
-    -- they are read as its kind
+    -- the bytes are read as the kind
     pub five-kind : kindOf (byteAt bs at) ≡ k
     five-kind = rw (rw (add-zero at) at (has-byte has 0 (omega arith)), kind-back k .1)
 
-    -- and as its settings, beside the top level
+    -- the bytes are read as the settings, except the top level
     pub five-settings : settingsAt bs at (s .top) ≡ s
     five-settings = rw (
       has-byte has 1 (omega arith),
@@ -99,6 +99,6 @@ module _ (bs : List ℕ) (at top : ℕ) (known : AllBelow choices bs at) where
   five-same (suc (suc (suc (suc zero)))) h = sym (two pointModeOf switchByte refl refl (byteAt bs (at + 4)) (known 4 h))
   five-same (suc (suc (suc (suc (suc i))))) h = absurd (omega arith)
 
-  -- five bytes in range are those of the kind and the settings that they mean
+  -- five bytes in range are those of the kind and the settings they mean
   pub five-again : at + 5 ≤ length bs → Has bs at again
   five-again h = has-all bs at again h five-same

@@ -17,22 +17,22 @@ use Rattle.job_bytes.specs.Written.{takesTop, topBytes}
 use Rattle.job_writer.proofs.Has.{Has, has-byte, has-all}
 
 module _ (bs : List ℕ) (at : ℕ) where
-  -- the top level that was written is read
+  -- a written top level reads back
   pub top-back : (v : Version) (t : ℕ) → takesTop v t ≡ true → Has bs (at + 5) (topBytes v t) → topAt v bs at ≡ t
   top-back One t h p = sym (eqb-true t 64 h)
   top-back Two t h p = rw (add-zero (at + 5)) at (has-byte p 0 (omega arith))
 
-  -- it is in range with the other setting bytes
+  -- the top level is in range, if the other setting bytes are
   pub top-known : (v : Version) (t : ℕ) → takesTop v t ≡ true → topAt v bs at ≡ t → AllBelow choices bs at → AllKnown v bs at
   top-known One t h e a = a
   top-known Two t h e a = (a, rw e h)
 
-  -- where all are in range the version takes the top level that is read
+  -- if all setting bytes are in range, the version can hold the top level that is read
   pub top-taken : (v : Version) → AllKnown v bs at → (AllBelow choices bs at) × (takesTop v (topAt v bs at) ≡ true)
   top-taken One a = (a, refl)
   top-taken Two a = a
 
-  -- and it stands where it was read
+  -- the byte of the top level is where it was read
   pub top-again : (v : Version) → at + recordSize v ≤ length bs → Has bs (at + 5) (topBytes v (topAt v bs at))
   top-again One h = record { is = refl }
   top-again Two h = has-all bs (at + 5) (byteAt bs (at + 5) ∷ []) (omega arith) same

@@ -1,4 +1,4 @@
--- What a writer has to say, and the list that it leaves. Assumes nothing.
+-- The answers of the two writers, and the list at exit. Assumes nothing.
 use Prim.Native.Nat.{ℕ}
 use mathlib.Core.Path.{_≡_}
 use mathlib.Core.Bool.{cond}
@@ -21,11 +21,11 @@ use Rattle.job_writer.specs.declared.answer.RecordWritten.the-variants a
 use Rattle.job_bytes.specs.Written.{headerBytes, takesTop, recordBytes}
 use Rattle.job_writer.specs.Whole.{reread}
 
--- n bytes were written: 0, as where something was drawn
+-- answer 0, written, with the number of bytes
 abbrev pub wrote : ℕ → Told
 wrote n = drew n
 
--- what each answer says
+-- the numbers and values of the answers
 abbrev pub toldHeader : HeaderWritten → Told
 toldHeader (header.Written n) = wrote n
 toldHeader header.NoRoom = refused 10
@@ -35,22 +35,23 @@ toldRecord («record».Written n) = wrote n
 toldRecord «record».NoRoom = refused 10
 toldRecord «record».BadTop = refused 11
 
--- what is to be said where `size` bytes are to go into a list of `have`
+-- the answer for `size` bytes and a list of `have`
 abbrev pub roomVerdict : ℕ → ℕ → Told
 roomVerdict size have = cond (ltb have size) (refused 10) (wrote size)
 
--- a record's: a bad top level first
+-- the answer to writing a record: a bad top level first
 abbrev pub recordVerdict : Version → Record → ℕ → Told
 recordVerdict v r have = cond (takesTop v (r .settings .top)) (roomVerdict (recordSize v) have) (refused 11)
 
--- writing a header: xs and xs′ are the list at entry and at exit; 5 bytes at the front and not one more, or the list as it was
+-- the contract of writing a header, where xs and xs′ are the list at entry and at exit: 5 bytes are written to the front, or
+-- the list is unchanged
 pub record WroteHeader (v : Version) (xs xs′ : List ℕ) (r : HeaderWritten) : Type 0 where
   pub wrote : Drew (toldHeader r) (roomVerdict 5 (length xs)) (headerBytes v) xs xs′
-  -- what was written is read as the version
+  -- the written bytes read back as the version
   pub back : toldHeader r .number ≡ 0 → headerOf xs′ ≡ read-header.Read v start
 
--- writing a record: 29 or 30 bytes, which hold the record's bit patterns, whatever its f32 levels are
+-- the contract of writing a record: 29 or 30 bytes, with the record's bit patterns; its f32 levels do not matter
 pub record WroteRecord (v : Version) (x : Record) (xs xs′ : List ℕ) (r : RecordWritten) : Type 0 where
   pub wrote : Drew (toldRecord r) (recordVerdict v x (length xs)) (recordBytes v x) xs xs′
-  -- what was written is read as the same kind, settings and bit patterns
+  -- the written bytes read back as the same kind, settings and bit patterns
   pub back : toldRecord r .number ≡ 0 → recordAt v xs′ 0 ≡ Read (reread x) (after v 0)

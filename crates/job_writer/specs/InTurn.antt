@@ -1,4 +1,4 @@
--- A whole file written by one call after the other: the bytes that each said it wrote, in their order. Assumes nothing.
+-- A whole file written by several calls: the bytes that each call wrote, joined. Assumes nothing.
 use Prim.Native.Nat.{ℕ}
 use mathlib.Core.Path.{_≡_}
 use mathlib.Core.List.{List, [], _∷_, _++_}
@@ -9,13 +9,13 @@ use Rattle.job_writer.specs.declared.answer.HeaderWritten.the-variants a
 use Rattle.job_writer.specs.declared.answer.RecordWritten.the-variants.{Written}
 use Rattle.job_writer.specs.Answers.{WroteHeader, WroteRecord}
 
--- the bytes ys were written by a call for each record, each into a list of its own or a part of one
+-- ys are the bytes that one call per record wrote, each into any list
 pub data RecordsInTurn (v : Version) : List Record → List ℕ → Type 0 where
   none : RecordsInTurn v [] []
   more : {x : Record} {xs : List Record} {l l′ ys : List ℕ} {n : ℕ} → WroteRecord v x l l′ (Written n) → RecordsInTurn v xs ys
       → RecordsInTurn v (x ∷ xs) (take n l′ ++ ys)
 
--- the bytes bs were written by a call for the header and then one for each record
+-- bs are the bytes that a call for the header and then one call per record wrote
 pub record FileInTurn (v : Version) (xs : List Record) (bs : List ℕ) : Type 0 where
   pub l : List ℕ
   pub l′ : List ℕ

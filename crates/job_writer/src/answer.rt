@@ -1,14 +1,14 @@
-// What a writer says. Unless it has written, the list is untouched.
+// The answers of the writers. Unless the answer is `Written`, the list is unchanged.
 pub enum HeaderWritten {
-    // So many bytes, at the front.
+    // The number of bytes at the front.
     Written { count: u32 },
     NoRoom,
 }
 
 pub enum RecordWritten {
-    // So many bytes, at the front.
+    // The number of bytes at the front.
     Written { count: u32 },
     NoRoom,
-    // The top level is none that the version can hold.
+    // The version cannot hold the top level.
     BadTop,
 }

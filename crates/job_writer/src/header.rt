@@ -7,7 +7,7 @@ use job_fields::version::Version;
 use job_fields::version::version_number;
 use text::put_bytes;
 
-// The mark that reading compares with, and the version's number.
+// Writes the mark that reading looks for, and the version's number.
 pub fn write_header(out: &mut [u8], version: Version) -> HeaderWritten
     ensures { λ r. ⌜ WroteHeader version (now (out .entry)) (now (out .exit)) r ⌝ }
 {

@@ -1,4 +1,4 @@
-// Writes a record of a job file, or says why it is not written.
+// Writes a record of a job file, or refuses.
 ghost use Rattle.job_writer.specs.Answers.{WroteRecord};
 use crate::answer::RecordWritten;
 use job::record::Record;
@@ -7,7 +7,7 @@ use job_bytes::top_byte::takes_top;
 use job_fields::version::Version;
 use job_fields::version::record_size;
 
-// A bad top level is told before a list that is too short.
+// Writes a record; a bad top level comes before a list that is too short.
 pub fn write_record(out: &mut [u8], version: Version, record: Record) -> RecordWritten
     ensures { λ r. ⌜ WroteRecord version «record» (now (out .entry)) (now (out .exit)) r ⌝ }
 {

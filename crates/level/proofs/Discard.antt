@@ -1,4 +1,4 @@
--- A level discards its patch exactly where it is not above 0, a NaN included. Assumes nothing.
+-- A level discards its patch exactly if it is not above 0; a NaN does too. Assumes nothing.
 use mathlib.Core.Path.{_≡_, refl, sym, ap, _∙_}
 use mathlib.Core.Bool.{true, false, not}
 use Prim.Native.Nat.{ℕ, zero, suc, _*_}
@@ -13,14 +13,14 @@ use lib.Ieee.Positive.{above}
 use Rattle.level.specs.Discard.{discarded}
 use Rattle.level.proofs.Order.{not-below}
 
--- the test of `discards`
+-- the test in `discards`
 pub not-above : (x : Float) → not (lt (fin false 0 (pos 0)) x) ≡ discarded x
 unfolding lt isNan
 not-above nan = refl
 not-above (inf s) = not-below (inf s) (fin false 0 (pos 0)) tt tt
 not-above (fin s m e) = not-below (fin s m e) (fin false 0 (pos 0)) tt tt
 
--- `above`: infinity, and every finite number but 0 that has no minus sign, however small
+-- infinity, and every finite number without a minus sign but 0, however small, is `above`
 scaled-zero : (m : ℕ) (e : ℤ) → ltb (0 * down e) (m * up e * 1) ≡ ltb 0 m
 scaled-zero zero e = rw (zero-mul (down e), zero-mul (up e))
 scaled-zero (suc m) e =

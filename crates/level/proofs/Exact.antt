@@ -1,4 +1,4 @@
--- An `f32` from 1 to 64 is a whole number of parts of 2 ^ -23, which an `f64` counts exactly. Assumes nothing.
+-- An `f32` from 1 to 64 is a whole number of units of 2 ^ -23, and an `f64` holds that number exactly. Assumes nothing.
 use mathlib.Core.Path.{_≡_, refl, sym, ap, _∙_}
 use mathlib.Core.Bool.{false, _&&_}
 use Prim.Native.Nat.{ℕ, zero, suc, _+_, _-_, _*_, _/_, _%_, _^_, _≤_, _<_}
@@ -16,7 +16,7 @@ use lib.Ieee.Positive.{num, den, positive, den-pos, value→cross, le→cross, b
 use Rattle.level.specs.Clamp.{From1To64}
 use Rattle.level.specs.Scale.{ceil, parts}
 
--- ---- the number of parts is whole
+-- ---- the number of units is whole
 whole : (m : ℕ) (e : ℤ) → m < 2 ^ 24 → down e ≤ m * up e → m * up e * 8388608 / down e * down e ≡ m * up e * 8388608
 whole m (pos k) h l = mul-one (m * 2 ^ k * 8388608 / 1) ∙ div-one (m * 2 ^ k * 8388608)
 whole m (negsuc k) h l =
@@ -36,14 +36,14 @@ narrow (suc m) e t =
     let c = leb (down e) (2 ^ 149) in
     ltb→lt (suc m) (2 ^ 24) (and-r a b (and-l (a && b) c (and-l (a && b && c) (ltb (suc m * up e) (2 ^ 128 * down e)) t)))
 
--- N of x: how many parts of 2 ^ -23 it has
+-- N of x: how many units of 2 ^ -23 it has
 abbrev pub fineParts : Float → ℕ
 fineParts x = num x * 8388608 / den x
 
 counts : (x : Float) → T (positive x) → T (fits binary32 x) → den x ≤ num x → HasValue x false (fineParts x) 8388608
 counts (fin false m e) p f h = (refl, sym (whole m e (narrow m e f) h))
 
--- ---- rounded up in parts 128 times as large
+-- ---- rounded up to units 128 times as large
 coarser : (A D N : ℕ) → 0 < D → A * 8388608 ≡ N * D → (N + 127) / 128 ≡ ceil (A * 65536) D
 coarser A D N d h =
     let q = (N + 127) / 128 in
@@ -56,7 +56,7 @@ coarser A D N d h =
     let s : (q + 1) * D ≡ q * D + 1 * D = add-mul q 1 D in
     sym (div-eq-of-lt-le D (omega arith) (omega arith))
 
--- ---- an `f32` from 1 to 64 has N parts, no fraction over, and its L is N / 128 rounded up
+-- ---- an `f32` from 1 to 64 has N units with no remainder, and its L is N / 128 rounded up
 pub record FineParts (x : Float) (N : ℕ) : Type 0 where
   pub value : HasValue x false N 8388608
   pub rounded : ceil N 128 ≡ parts x
@@ -81,7 +81,7 @@ fine-parts x f w =
       small = omega (arith, div-lt-iff-lt-mul {k = den x} {x = num x * 8388608} {y = 536870913} (den-pos x) .1 (omega (arith, den-pos x, high)));
     }
 
--- ---- what `parts_of` asks of the `f64` y, which is x * 2 ^ 23: it is N
+-- ---- what `parts_of` needs of the `f64` y, which is x * 2 ^ 23: its value is N
 pub record Counted (x y : Float) : Type 0 where
   pub is-whole : T (inUnsigned binary64 32 y)
   pub small : toUnsigned 32 y ≤ 536870912

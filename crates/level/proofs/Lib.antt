@@ -1,4 +1,4 @@
--- Laws of levels, beyond the contracts.
+-- The laws of `level`, beyond the contracts.
 pub mod Order
 pub mod Top
 pub mod Within

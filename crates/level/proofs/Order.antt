@@ -1,4 +1,4 @@
--- The order of floats: between two that are no NaN, x ≤ y is that y < x fails. Assumes nothing.
+-- The order of floats: if neither is a NaN, x ≤ y holds exactly if y < x fails. Assumes nothing.
 use mathlib.Core.Path.{_≡_, refl, sym}
 use mathlib.Core.Bool.{Bool, true, false, not, _||_, _&&_, and-false}
 use Prim.Native.Nat.{ℕ, zero, suc, _+_, _*_, _<_}
@@ -8,7 +8,7 @@ use lib.Dec.{T, ltb, eqb}
 use borrow.Author.Tests.{lt-ltb, le-ltb, eq-eqb, ne-eqb}
 use lib.Ieee.{Float, nan, inf, fin, up, down, below, level, lt, le, eq, isNan}
 
--- two numbers with one sign, of the sizes a and b; e says whether the sizes are equal
+-- two numbers with the same sign and the sizes a and b; e says whether the sizes are equal
 like-signs : (a b : ℕ) (e : Bool) → (a ≡ b → e ≡ true) → (b < a → e ≡ false) → not (ltb b a) ≡ (ltb a b || (e && true))
 like-signs a b e same differ = elim (decLe a b) [
   | no h ↦ rw (lt-ltb b a (omega arith), le-ltb a b (omega arith), differ (omega arith))
@@ -18,7 +18,7 @@ like-signs a b e same differ = elim (decLe a b) [
   ]
 ]
 
--- two numbers of the sizes a and b of which only the first is negative, or only the second
+-- two numbers of the sizes a and b; only the first is negative, or only the second
 negative-first : (a b : ℕ) → true ≡ (ltb 0 (a + b) || (eqb a b && eqb a 0))
 negative-first zero zero = refl
 negative-first zero (suc b) = rw (lt-ltb 0 (0 + suc b) (omega arith))
@@ -35,7 +35,7 @@ signed true true a b = like-signs b a (eqb a b) (λ e. eq-eqb a b (sym e)) (λ h
 signed true false a b = negative-first a b
 signed false true a b = negative-second a b
 
--- of any two floats that are no NaN
+-- for any two floats that are not NaN
 pub not-below : (x y : Float) → T (not (isNan x)) → T (not (isNan y)) → not (lt y x) ≡ le x y
 unfolding lt le eq isNan
 not-below (inf true) (inf true) p q = refl
@@ -48,7 +48,7 @@ not-below (fin s m e) (inf true) p q = refl
 not-below (fin s m e) (inf false) p q = refl
 not-below (fin s m e) (fin t n d) p q = signed s t (m * up e * down d) (n * up d * down e)
 
--- ---- what a comparison that holds says
+-- ---- what follows if a comparison holds
 or-left : (a b : Bool) → T a → T (a || b)
 or-left true b t = tt
 
@@ -64,7 +64,7 @@ numbers (inf s) (fin t n d) h = (tt, tt)
 numbers (fin s m e) (inf t) h = (tt, tt)
 numbers (fin s m e) (fin t n d) h = (tt, tt)
 
--- ---- a float and itself
+-- ---- comparing a float with itself
 size-itself : (s : Bool) (a : ℕ) → below s a s a ≡ false
 size-itself false a = le-ltb a a (omega arith)
 size-itself true a = le-ltb a a (omega arith)

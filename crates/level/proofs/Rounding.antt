@@ -1,4 +1,4 @@
--- n and L of a scaled level, and of every level, are exactly those that 01's sentences single out. Assumes nothing.
+-- n and L of a scaled level, and of every level, are exactly those that document 01's sentences determine. Assumes nothing.
 use Prim.Native.Nat.{ℕ}
 use mathlib.Core.Path.{_≡_, refl, sym, ap, _∙_}
 use mathlib.Core.Logic.{_↔_}
@@ -14,7 +14,7 @@ use Rattle.level.specs.declared.Spacing.the-variants.{Equal, FractionalE
 use Rattle.level.specs.declared.Segments.{Segments}
 use Rattle.level.proofs.Scale.{level-least-parts}
 
--- ---- of a scaled level
+-- ---- for a scaled level
 pub least-count : (s : Spacing) (L : ℕ) → LeastCount s L (segmentsAt s L .count)
 least-count Equal L = record { kind = tt; enough = omega arith; least = λ k _ h. omega arith }
 least-count FractionalEven L = record { kind = omega arith; enough = omega arith; least = λ k e h. omega arith }
@@ -28,7 +28,7 @@ scaled-after FractionalOdd L = refl
 rounded : (s : Spacing) (L : ℕ) → Rounded s L (segmentsAt s L)
 rounded s L = record { count = least-count s L; scaled = scaled-after s L }
 
--- two least counts are the same
+-- two least counts are equal
 count-only : {s : Spacing} {L m n : ℕ} → LeastCount s L m → LeastCount s L n → m ≡ n
 count-only {s} {L} {m} {n} h k = omega (arith, h .least n (k .kind) (k .enough), k .least m (h .kind) (h .enough))
 
@@ -43,7 +43,7 @@ rounded-only s L g h =
 pub rounded-exactly : (s : Spacing) (L : ℕ) (g : Segments) → (g ≡ segmentsAt s L) ↔ Rounded s L g
 rounded-exactly s L g = (λ e. rw e (rounded s L), rounded-only s L g)
 
--- ---- of every level
+-- ---- for every level
 parts-only : {x : Float} {L M : ℕ} → LeastParts x L → LeastParts x M → L ≡ M
 parts-only {x} {L} {M} h k = omega (arith, h .least M (k .enough), k .least L (h .enough))
 

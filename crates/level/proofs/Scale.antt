@@ -14,7 +14,7 @@ use Rattle.level.specs.declared.Spacing.{Spacing}
 use Rattle.level.specs.declared.Spacing.the-variants.{Equal, FractionalEven, FractionalOdd}
 use Rattle.level.proofs.Within.{highest-value, ends, level-within, level-positive}
 
--- ---- the two halves, with x as a fraction
+-- ---- both bounds, with x as a fraction
 parts-enough : (x : Float) → num x * 65536 ≤ parts x * den x
 unfolding parts
 parts-enough x =
@@ -31,7 +31,7 @@ parts-least x k h =
     let X = num x * 65536 in
     omega (arith, div-lt-iff-lt-mul {k = D} {x = X + (D - 1)} {y = k + 1} (den-pos x) .1 (omega (arith, den-pos x, add-mul k 1 D)))
 
--- ---- the least whole number not below x * 65536, so a greater level has no smaller one
+-- ---- L is the least whole number not below x * 65536, so it does not fall as the level rises
 pub least-parts : (x : Float) → T (positive x) → LeastParts x (parts x)
 least-parts x p =
     let L = parts x in
@@ -50,7 +50,7 @@ whole-parts : (x : Float) (n : ℕ) → HasValue x false n 1 → parts x ≤ 655
 whole-parts x n v = parts-least x (65536 * n) (omega (arith, value→cross x n 1 v, mul-assoc 65536 n (den x)))
 
 -- ---- L of every level
--- what lies between the L of a range's ends is in range
+-- a number between L of the range's low end and of its high end is in range
 in-range : (s : Spacing) (t L : ℕ) → Top t → (parts (lowest s) ≤ L) × (L ≤ 65536 * mostSegments s t) → InRange L
 unfolding parts
 in-range Equal t L top h = omega arith
@@ -61,7 +61,7 @@ module _ (s : Spacing) (t : ℕ) (top : Top t) (x : Float) where
   pub level-least-parts : LeastParts (clampedLevel s t x) (parts (clampedLevel s t x))
   level-least-parts = least-parts (clampedLevel s t x) (level-positive s t top x)
 
-  -- from the L of the low end to that of the most segments
+  -- L lies between that of the low end and that of the most segments
   pub level-parts : (parts (lowest s) ≤ parts (clampedLevel s t x)) × (parts (clampedLevel s t x) ≤ 65536 * mostSegments s t)
   level-parts =
       let e = ends s t top in

@@ -1,4 +1,4 @@
--- Which levels are told as below, inside or above their range: inside are those that the clamp leaves as they are. Assumes nothing.
+-- Which levels lie below, inside or above their range: those inside are exactly those that clamping leaves unchanged. Assumes nothing.
 use Prim.Native.Nat.{ℕ}
 use mathlib.Core.Path.{_≡_, refl, _∙_}
 use mathlib.Core.Bool.{Bool, true, false, cond}
@@ -14,7 +14,7 @@ use Rattle.level.specs.declared.Clamp.the-variants.{Below, Inside, Above
 use Rattle.level.proofs.Order.{not-below, lt-le, numbers, le-itself}
 use Rattle.level.proofs.Within.{ends, clamped-within, not-above, under-infinity}
 
--- ---- any range, where each of three says the next: x lies inside, the clamp leaves x as it is, x is a number from lo to hi
+-- ---- any range; each of these gives the next: x lies inside, clamping leaves x unchanged, x is a number from lo to hi
 module _ (lo hi x : Float) where
   inside-kept : sideOf lo hi x ≡ Inside → clamped lo hi x ≡ x
   inside-kept e = go (le lo x) (lt hi x) e
@@ -32,7 +32,7 @@ module _ (lo hi x : Float) where
       let up : lt hi x ≡ false = not-true (lt hi x) (not-below x hi (numbers lo x (w .least) .1) (numbers x hi (w .most) .1) ∙ is-true (le x hi) (w .most)) in
       rw (is-true (le lo x) (w .least), up)
 
--- what is not below the high end, infinity included, is not below the low end
+-- a float that is not below the high end, infinity included, is not below the low end
 from-high : (lo hi x : Float) → T (positive lo) → T (positive hi) → T (le lo hi) → T (le hi x) → T (le lo x)
 from-high lo hi x p q r h = go x (above-of-le hi x q h) h
   where
@@ -42,7 +42,7 @@ from-high lo hi x p q r h = go x (above-of-le hi x q h) h
 
 -- ---- the range of a spacing
 module _ (s : Spacing) (t : ℕ) (top : Top t) where
-  -- both ends are inside
+  -- both ends lie inside
   pub lowest-inside : clampOf s t (lowest s) ≡ Inside
   unfolding clampOf
   lowest-inside = within-inside (lowest s) (highest s t) (lowest s) (record { least = le-itself (lowest s) (numbers _ _ (ends s t top .ordered) .0); most = ends s t top .ordered })
@@ -51,7 +51,7 @@ module _ (s : Spacing) (t : ℕ) (top : Top t) where
   unfolding clampOf
   highest-inside = within-inside (lowest s) (highest s t) (highest s t) (record { least = ends s t top .ordered; most = le-itself (highest s t) (numbers _ _ (ends s t top .ordered) .1) })
 
-  -- a NaN and negative infinity are below, infinity is above
+  -- a NaN and negative infinity lie below, infinity lies above
   pub nan-below : clampOf s t nan ≡ Below
   unfolding clampOf
   nan-below = rw (not-above (lowest s) (ends s t top .low) .0)
@@ -64,7 +64,7 @@ module _ (s : Spacing) (t : ℕ) (top : Top t) where
   unfolding clampOf
   infinity-above = rw (under-infinity (lowest s) (ends s t top .low) .1, under-infinity (highest s t) (ends s t top .high) .0)
 
-  -- a level is inside exactly when the clamp leaves it as it is
+  -- a level lies inside exactly if clamping leaves it unchanged
   pub inside-as-it-is : (x : Float) → clampOf s t x ≡ Inside → clampedLevel s t x ≡ x
   unfolding clampOf
   inside-as-it-is x e = inside-kept (lowest s) (highest s t) x e
@@ -73,7 +73,7 @@ module _ (s : Spacing) (t : ℕ) (top : Top t) where
   unfolding clampOf
   as-it-is-inside x e = within-inside (lowest s) (highest s t) x (kept-within (lowest s) (highest s t) x (ends s t top .ordered) e)
 
-  -- a number under the low end is below, one over the high end is above
+  -- a number less than the low end lies below, one greater than the high end above
   pub under-below : (x : Float) → T (lt x (lowest s)) → clampOf s t x ≡ Below
   unfolding clampOf
   under-below x h =

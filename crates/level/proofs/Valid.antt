@@ -1,4 +1,4 @@
--- The segments of every level, outer or inner, are what an edge needs, and no more than the top level lets. Assumes nothing.
+-- The segments of every level, outer or inner, are valid for an edge, and at most as many as the top level allows. Assumes nothing.
 use mathlib.Core.Path.{_≡_, refl}
 use mathlib.Core.Bool.{Bool, true, false, cond}
 use Prim.Native.Nat.{ℕ, _*_, _≤_}
@@ -16,7 +16,7 @@ use Rattle.level.specs.declared.Segments.{Segments}
 use Rattle.level.proofs.Top.{top-two}
 use Rattle.level.proofs.Scale.{level-parts}
 
--- of a scaled level in its range
+-- for a scaled level in its range
 valid-at : (s : Spacing) (t L : ℕ) → Top t → (parts (lowest s) ≤ L) × (L ≤ 65536 * mostSegments s t) → Valid (segmentsAt s L .count) (segmentsAt s L .scaled) × (segmentsAt s L .count ≤ mostSegments s t)
 unfolding parts
 valid-at Equal t L top h = omega arith
@@ -24,7 +24,7 @@ valid-at FractionalEven t L top h = omega arith
 valid-at FractionalOdd t L top h = omega arith
 
 module _ (s : Spacing) (t : ℕ) (top : Top t) (x : Float) where
-  -- the segments are what an edge needs, and at most the top, for odd spacing one less
+  -- the segments are valid, and at most t, or t - 1 for odd spacing
   pub segments-valid : Valid (segmentsOf s t x .count) (segmentsOf s t x .scaled)
   unfolding segmentsOf
   segments-valid = valid-at s t (parts (clampedLevel s t x)) top (level-parts s t top x) .0
@@ -49,14 +49,14 @@ raised-valid Equal = omega arith
 raised-valid FractionalEven = omega arith
 raised-valid FractionalOdd = omega arith
 
--- where two segments are let, the raised ones are
+-- the raised segments are allowed if two segments are
 raised-at-most : (s : Spacing) (t : ℕ) → Top t → 2 ≤ mostSegments s t → raised s .count ≤ mostSegments s t
 raised-at-most Equal t top h = omega arith
 raised-at-most FractionalEven t top h = omega arith
 raised-at-most FractionalOdd t top h = omega arith
 
 module _ (s : Spacing) (t : ℕ) (top : Top t) (x : Float) where
-  -- what holds of the raised segments, and of a level's own where their count is not 1, holds of an inner level's
+  -- a property of the raised segments, and of the level's own segments if their count is not 1, holds for an inner level
   inner : (P : Segments → Type 0) → P (raised s) → ((segmentsOf s t x .count ≡ 1 → ⊥) → P (segmentsOf s t x)) → P (innerSegments s t x)
   unfolding asInner
   inner P r o = go (eqb (segmentsOf s t x .count) 1) refl
@@ -71,6 +71,6 @@ module _ (s : Spacing) (t : ℕ) (top : Top t) (x : Float) where
   pub inner-two : 2 ≤ innerSegments s t x .count
   inner-two = inner (λ g. 2 ≤ g .count) (raised-valid s .1) (λ n. omega (arith, segments-valid s t top x .some))
 
-  -- an inner level too stays under the top, unless that leaves one segment only
+  -- an inner level also gives at most as many segments as the top level allows, unless that is one segment
   pub inner-at-most : 2 ≤ mostSegments s t → innerSegments s t x .count ≤ mostSegments s t
   inner-at-most h = inner (λ g. g .count ≤ mostSegments s t) (raised-at-most s t top h) (λ _. segments-at-most s t top x)

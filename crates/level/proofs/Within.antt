@@ -1,4 +1,4 @@
--- A clamped level lies within its range, whatever the level; NaN and the infinities take an end. Assumes nothing.
+-- A clamped level lies within its range, whatever the level; a NaN and the infinities give an end. Assumes nothing.
 use Prim.Native.Nat.{ℕ, _-_, _≤_}
 use mathlib.Core.Path.{_≡_, refl}
 use mathlib.Core.Bool.{Bool, true, false, cond}
@@ -17,7 +17,7 @@ use Rattle.level.specs.declared.Spacing.the-variants.{Equal, FractionalE
 use Rattle.level.proofs.Order.{not-below, numbers, le-itself}
 
 -- ---- any range
--- what is clamped is a number from the low end to the high end
+-- the clamped level is a number from the low end to the high end
 pub clamped-within : (lo hi x : Float) → T (le lo hi) → Within lo hi (clamped lo hi x)
 clamped-within lo hi x r = go (le lo x) (lt hi x) refl refl
   where
@@ -29,7 +29,7 @@ clamped-within lo hi x r = go (le lo x) (lt hi x) refl refl
         record { least = low; most = rw (← not-below x hi (numbers lo x low .1) (numbers lo hi r .1), q) tt }
 
 -- ---- the range of a spacing
--- two ends above 0, in their order, from 1 and up to 64
+-- two ends above 0, in order, from 1 to 64
 pub record Ends (lo hi : Float) : Type 0 where
   pub low : T (positive lo)
   pub high : T (positive hi)
@@ -49,7 +49,7 @@ whole-ends lo hi m n v w a b c =
       to-64 = le-of-values hi (fin false 1 (pos 6)) n 1 64 1 one one w (refl, refl) (omega arith);
     }
 
--- the high end is the whole number of the most segments
+-- the high end is the greatest number of segments
 pub highest-value : (s : Spacing) (t : ℕ) → Top t → HasValue (highest s t) false (mostSegments s t) 1
 unfolding ofInt
 highest-value Equal t top = round-whole binary32 false t (omega arith)
@@ -75,19 +75,19 @@ pub highest-odd-64 : highest FractionalOdd 64 ≡ fin false 63 (pos 0)
 unfolding ofInt
 highest-odd-64 = refl
 
--- a NaN and negative infinity are not above an end
+-- a NaN and negative infinity are not above the low end
 pub not-above : (lo : Float) → T (positive lo) → (le lo nan ≡ false) × (le lo (inf true) ≡ false)
 unfolding le
 not-above (fin false m e) p = (refl, refl)
 
--- infinity is above each
+-- infinity is above every finite positive number
 pub under-infinity : (x : Float) → T (positive x) → (lt x (inf false) ≡ true) × (le x (inf false) ≡ true)
 unfolding lt le
 under-infinity (fin false m e) p = (refl, refl)
 
 -- ---- every level
 module _ (s : Spacing) (t : ℕ) (top : Top t) where
-  -- a clamped level lies within its range, so it is above 0, and from 1 to 64
+  -- a clamped level lies within its range, so it is above 0 and from 1 to 64
   pub level-within : (x : Float) → Within (lowest s) (highest s t) (clampedLevel s t x)
   level-within x = clamped-within (lowest s) (highest s t) x (ends s t top .ordered)
 
@@ -106,7 +106,7 @@ module _ (s : Spacing) (t : ℕ) (top : Top t) where
         most = le-trans-positive y (highest s t) (fin false 1 (pos 6)) p (e .high) tt (level-within x .most) (e .to-64);
       }
 
-  -- a NaN takes the low end, and so does negative infinity; infinity takes the high end
+  -- a NaN and negative infinity give the low end, infinity the high end
   pub level-nan : clampedLevel s t nan ≡ lowest s
   level-nan = rw (not-above (lowest s) (ends s t top .low) .0)
 

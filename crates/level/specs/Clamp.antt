@@ -1,4 +1,4 @@
--- The range of each spacing's levels, a level clamped to it, and where the level lay. Assumes nothing.
+-- The range of levels of each spacing, clamping a level to it, and where a level lies. Assumes nothing.
 use Prim.Native.Nat.{ℕ}
 use mathlib.Core.Bool.{false, cond}
 use lib.IntN.{pos}
@@ -10,21 +10,21 @@ use Rattle.level.specs.declared.Clamp.{Clamp}
 use Rattle.level.specs.declared.Clamp.the-variants.{Below, Inside, Above}
 use Rattle.level.specs.Top.{mostSegments}
 
--- the low end of a spacing's range: 1, 2 or 1
+-- the least level of a spacing: 1, 2 or 1
 abbrev pub lowest : Spacing → Float
 lowest Equal = fin false 1 (pos 0)
 lowest FractionalEven = fin false 1 (pos 1)
 lowest FractionalOdd = fin false 1 (pos 0)
 
--- the high end for the top level t: t, t or t - 1 as an `f32`
+-- the greatest level of a spacing under the top level t: t, t or t - 1, as an `f32`
 abbrev pub highest : Spacing → ℕ → Float
 highest s t = ofInt binary32 (pos (mostSegments s t))
 
--- x brought into lo .. hi; a NaN, which compares with nothing, takes the low end
+-- x clamped to lo .. hi; a NaN fails both comparisons and gives lo
 abbrev pub clamped : Float → Float → Float → Float
 clamped lo hi x = cond (le lo x) (cond (lt hi x) hi x) lo
 
--- where x lies: below lo .. hi, inside it (on an end too) or above it; a NaN, which compares with nothing, lies below
+-- where x lies: below lo .. hi, inside it (ends included) or above it; a NaN fails both comparisons and lies below
 abbrev pub sideOf : Float → Float → Float → Clamp
 sideOf lo hi x = cond (le lo x) (cond (lt hi x) Above Inside) Below
 
@@ -32,7 +32,7 @@ sideOf lo hi x = cond (le lo x) (cond (lt hi x) Above Inside) Below
 abbrev pub clampedLevel : Spacing → ℕ → Float → Float
 clampedLevel s t x = clamped (lowest s) (highest s t) x
 
--- where a level lies, by its spacing's range: the level was clamped where it is not inside
+-- where a level lies relative to the range of its spacing; the level is clamped unless it lies inside
 unfoldable pub clampOf : Spacing → ℕ → Float → Clamp
 clampOf s t x = sideOf (lowest s) (highest s t) x
 
@@ -41,6 +41,6 @@ pub record Within (lo hi x : Float) : Type 0 where
   pub least : T (le lo x)
   pub most : T (le x hi)
 
--- x is a number from 1 to 64, which every range lies in
+-- x is a number from 1 to 64; every spacing's range lies in there
 abbrev pub From1To64 : Float → Type 0
 From1To64 x = Within (fin false 1 (pos 0)) (fin false 1 (pos 6)) x

@@ -3,6 +3,6 @@ use mathlib.Core.Bool.{Bool, false, _||_}
 use lib.IntN.{pos}
 use lib.Ieee.{Float, fin, le, isNan}
 
--- a level that is NaN or <= 0; negative zero equals 0
+-- the level is NaN or <= 0; negative zero equals 0
 abbrev pub discarded : Float → Bool
 discarded x = isNan x || le x (fin false 0 (pos 0))

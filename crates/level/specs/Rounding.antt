@@ -1,4 +1,4 @@
--- Document 01's sentences on n and L, as properties: what they are the least of. Assumes nothing.
+-- Document 01's sentences on n and L as properties: n and L are the least numbers that satisfy them. Assumes nothing.
 use Prim.Native.Nat.{ℕ, _*_, _%_, _≤_}
 use mathlib.Core.Path.{_≡_}
 use lib.Ieee.{Float}
@@ -20,18 +20,19 @@ pub record LeastCount (s : Spacing) (L n : ℕ) : Type 0 where
   pub enough : L ≤ 65536 * n
   pub least : (k : ℕ) → Kind s k → L ≤ 65536 * k → n ≤ k
 
--- L after the rounding: 65536 * n for equal spacing, and as it was for the others
+-- L after rounding: 65536 * n for equal spacing, unchanged for the other two
 abbrev pub scaledAfter : Spacing → ℕ → ℕ → ℕ
 scaledAfter Equal L n = 65536 * n
 scaledAfter FractionalEven L n = L
 scaledAfter FractionalOdd L n = L
 
--- n and L of g are those that L before the rounding gives
+-- g has the n and L that rounding gives for the scaled level L
 pub record Rounded (s : Spacing) (L : ℕ) (g : Segments) : Type 0 where
   pub count : LeastCount s L (g .count)
   pub scaled : g .scaled ≡ scaledAfter s L (g .count)
 
--- the same from the level x on, clamped for the top level t: L is the least whole number not below it times 65536
+-- g has the n and L that the level x gives under the top level t: before rounding, L is the least whole number not below 65536
+-- times the clamped x
 pub record FromLevel (s : Spacing) (t : ℕ) (x : Float) (L : ℕ) (g : Segments) : Type 0 where
   pub parts : LeastParts (clampedLevel s t x) L
   pub rounded : Rounded s L g

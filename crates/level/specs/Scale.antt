@@ -6,11 +6,11 @@ use lib.Dec.{T}
 use lib.Ieee.{Float, fin, le}
 use lib.Ieee.Positive.{num, den}
 
--- a / b rounded up
+-- a / b, rounded up
 abbrev pub ceil : ℕ → ℕ → ℕ
 ceil a b = (a + (b - 1)) / b
 
--- L of a clamped level x, the fraction num x / den x: x * 65536 rounded up
+-- L of a clamped level x: x * 65536 rounded up, where x is the fraction num x / den x
 unfoldable pub parts : Float → ℕ
 parts x = ceil (num x * 65536) (den x)
 
@@ -23,7 +23,7 @@ pub record LeastParts (x : Float) (L : ℕ) : Type 0 where
   pub enough : T (le x (ofParts L))
   pub least : (k : ℕ) → T (le x (ofParts k)) → L ≤ k
 
--- L of some level from 1 to 64
+-- L can come from a level from 1 to 64
 pub record InRange (L : ℕ) : Type 0 where
   pub least : 65536 ≤ L
   pub most : L ≤ 4194304

@@ -1,5 +1,4 @@
-// Tessellation levels: which level discards its patch, how many segments a level gives, and whether it is
-// clamped for that.
+// Tessellation levels: which level discards its patch, how many segments a level gives, and whether it is clamped.
 ghost use mathlib.Core.Path.{_≡_};
 ghost use lib.Ieee.{binary32, ofBits};
 ghost use Rattle.level.specs.Discard.{discarded};
@@ -14,20 +13,20 @@ pub enum Spacing {
     FractionalOdd,
 }
 
-// An edge's number of segments n, and its level in parts of 1 / 65536, L.
+// An edge's number of segments, n, and its level in units of 1 / 65536, L.
 pub struct Segments {
     pub count: u32,
     pub scaled: u32,
 }
 
-// Where a level lies: below its spacing's range, inside it (on an end too) or above it. A NaN lies below.
+// Where a level lies: below the range of its spacing, inside it (ends included) or above it. A NaN lies below.
 pub enum Clamp {
     Below,
     Inside,
     Above,
 }
 
-// A level's segments, and whether it was clamped to have them.
+// The segments of a level, and where the level lies.
 pub struct Clamped {
     pub segments: Segments,
     pub clamp: Clamp,
@@ -40,7 +39,7 @@ pub fn discards(level: f32) -> bool
     !(level > 0.0)
 }
 
-// The level that a bit pattern stands for; `from_bits` itself takes no NaN.
+// Returns the level with a bit pattern. `f32::from_bits` accepts no NaN pattern.
 pub fn level_of_bits(bits: u32) -> f32
     ensures { λ r. ⌜ r ≡ ofBits binary32 bits ⌝ }
 {
@@ -51,7 +50,7 @@ pub fn level_of_bits(bits: u32) -> f32
     }
 }
 
-// Whether a number can be the top level, which levels are clamped to: an even one from 2 to 64.
+// Whether a number can be the top level, to which levels are clamped: an even number from 2 to 64.
 pub fn is_top(top: u32) -> bool
     ensures { λ r. ⌜ r ≡ isTop top ⌝ }
 {
@@ -84,13 +83,13 @@ pub fn range_of(spacing: Spacing, top: u32) -> Range
     }
 }
 
-// A level clamped to its spacing's range, and where it lay.
+// A level clamped to its spacing's range, and where it lies.
 struct LevelInRange {
     value: f32,
     clamp: Clamp,
 }
 
-// The level clamped; a NaN takes the low end.
+// Clamps a level; a NaN gives the low end.
 fn clamp_level(level: f32, range: Range) -> LevelInRange
     ensures { λ r. ⌜ r ≡ record { value = clamped (range .lowest) (range .highest) level; clamp = sideOf (range .lowest) (range .highest) level } ⌝ }
 {
@@ -114,7 +113,7 @@ fn clamp_level(level: f32, range: Range) -> LevelInRange
     }
 }
 
-// L of a clamped level. An f32 from 1 to 64 is a whole number of parts of 2^-23, which an f64 holds.
+// Returns L of a clamped level. An f32 from 1 to 64 is a whole number of units of 2^-23, and an f64 holds that number exactly.
 fn parts_of(x: f32) -> u32
     requires { ⌜ From1To64 x ⌝ }
     ensures { λ r. ⌜ r ≡ parts x ⌝ }
@@ -124,7 +123,7 @@ fn parts_of(x: f32) -> u32
     (fine_parts + 127) / 128
 }
 
-// The segments of a scaled level.
+// Returns n and L of a scaled level.
 fn segments_at(scaled: u32, spacing: Spacing) -> Segments
     requires { ⌜ InRange scaled ⌝ }
     ensures { λ r. ⌜ r ≡ segmentsAt spacing scaled ⌝ }
@@ -148,7 +147,7 @@ fn segments_at(scaled: u32, spacing: Spacing) -> Segments
     }
 }
 
-// The segments of a level, and whether it was clamped. The range is the spacing's, which need not be made for each level anew.
+// Returns the segments of a level, and where it lies. The caller passes the spacing's range, so that it is computed once for several levels.
 pub fn segments_in(level: f32, spacing: Spacing, top: u32, range: Range) -> Clamped
     requires { ⌜ Top top ⌝ ∗ ⌜ range ≡ record { lowest = lowest spacing; highest = highest spacing top } ⌝ }
     ensures segments { λ r. ⌜ r .segments ≡ segmentsOf spacing top level ⌝ }
@@ -160,7 +159,7 @@ pub fn segments_in(level: f32, spacing: Spacing, top: u32, range: Range) -> Clam
     Clamped { segments, clamp }
 }
 
-// The same for one level. The range goes up to `top`, for odd spacing one less.
+// The same for a single level.
 pub fn segments_of(level: f32, spacing: Spacing, top: u32) -> Clamped
     requires { ⌜ Top top ⌝ }
     ensures segments { λ r. ⌜ r .segments ≡ segmentsOf spacing top level ⌝ }
@@ -170,14 +169,14 @@ pub fn segments_of(level: f32, spacing: Spacing, top: u32) -> Clamped
     segments_in(level, spacing, top, range)
 }
 
-// The segments of an inner level that would have one segment only.
+// Returns the segments of an inner level whose own n is 1.
 fn raised(spacing: Spacing) -> Segments
     ensures { λ r. ⌜ r ≡ raised spacing ⌝ }
 {
     segments_at(65537, spacing)
 }
 
-// An inner level's own segments, or the raised ones where it would have one only.
+// Returns the segments of an inner level: its own, or the raised ones if its own n is 1.
 pub fn as_inner(own: Segments, spacing: Spacing) -> Segments
     ensures { λ r. ⌜ r ≡ asInner spacing own ⌝ }
 {

@@ -14,7 +14,7 @@ use Rattle.level_clamps.specs.Numbers.{clampNumber, clampNumbers}
 abbrev clampAt : List ℕ → ℕ → Clamp
 clampAt ns k = cond (eqb (getD ns k 0) 1) Below (cond (eqb (getD ns k 0) 2) Inside Above)
 
--- the third number is 0 for isolines alone, and else the fourth for triangles alone
+-- the third number is 0 for isolines only, and otherwise the fourth is 0 for triangles only
 abbrev pub clampsIn : List ℕ → Clamps
 clampsIn ns =
     cond (eqb (getD ns 2 0) 0) (Isolines (clampAt ns 0) (clampAt ns 1))

@@ -1,4 +1,4 @@
-// Which of a patch's levels lie outside their spacing's range.
+// Where the levels of a patch lie relative to the range of their spacing.
 ghost use mathlib.Core.Path.{_≡_};
 ghost use Rattle.level.specs.Top.{Top};
 ghost use Rattle.level.specs.Clamp.{clampOf};
@@ -7,7 +7,7 @@ use level::Clamp;
 use level::Spacing;
 use patch::kinds::Patch;
 
-// Where each level that counts lies, by the patch's kind and the levels' names in `Patch`.
+// Where each level that counts lies; the fields are named as in `Patch`.
 pub enum Clamps {
     Triangles {
         outer0: Clamp,
@@ -29,7 +29,7 @@ pub enum Clamps {
     },
 }
 
-// Where a level lies.
+// Returns where a level lies.
 fn clamp_of(level: f32, spacing: Spacing, top: u32) -> Clamp
     requires { ⌜ Top top ⌝ }
     ensures { λ r. ⌜ r ≡ clampOf spacing top level ⌝ }
@@ -38,8 +38,7 @@ fn clamp_of(level: f32, spacing: Spacing, top: u32) -> Clamp
     clamped.clamp
 }
 
-// Where each level lies, whether or not the patch is discarded. The number of isolines has equal spacing
-// whatever is asked.
+// Returns where each level lies, whether or not the patch is discarded. The number of isolines always has equal spacing.
 pub fn clamps_of(patch: Patch, spacing: Spacing, top: u32) -> Clamps
     requires { ⌜ Top top ⌝ }
     ensures { λ r. ⌜ r ≡ clampsOf spacing top patch ⌝ }

@@ -1,7 +1,6 @@
-// Writes what levels at both sides of a limit give, a line each: the level's bits, the spacing, the
-// top level, whether it discards (or is an inner level, which never does), where it lies in the
-// spacing's range, the number of segments n and the level in parts of 1 / 65536, L. Then which
-// numbers can be the top level.
+// Writes a line for each of several levels on both sides of the limits: the level's bits, the spacing, the top level, whether
+// it discards (or is an inner level, which never does), where it lies in the spacing's range, the number of segments n and the
+// scaled level L. Then writes which numbers can be the top level.
 ghost use Rattle.level.specs.Top.{Top};
 use level::Clamp;
 use level::Segments;
@@ -20,8 +19,7 @@ fn main() {
     each_top();
 }
 
-// Equal at 1 and just above, odd at 63 and 64, even at 0.5, equal at 64 and 1000; then odd just
-// above 1 and even just above 2.
+// Equal at 1 and just above, odd at 63 and 64, even at 0.5, equal at 64 and 1000; then odd just above 1 and even just above 2.
 fn limits() {
     outer(0x3f80_0000, Spacing::Equal, 64);
     outer(0x3f80_0001, Spacing::Equal, 64);
@@ -34,7 +32,7 @@ fn limits() {
     outer(0x4000_0001, Spacing::FractionalEven, 64);
 }
 
-// The ends of each range, and the next f32 outside of each.
+// The ends of each range, and the next f32 outside each end.
 fn ends() {
     outer(0x3f7f_ffff, Spacing::Equal, 64);
     outer(0x3f80_0000, Spacing::Equal, 64);
@@ -50,7 +48,7 @@ fn ends() {
     outer(0x427c_0001, Spacing::FractionalOdd, 64);
 }
 
-// The high end and the next f32 above it, for the tops 2, 4 and 62.
+// The high end and the next f32 above it, for the top levels 2, 4 and 62.
 fn lower_tops() {
     outer(0x4000_0000, Spacing::Equal, 2);
     outer(0x4000_0001, Spacing::Equal, 2);
@@ -159,7 +157,7 @@ fn write_segments(segments: Segments) {
     io::write_all(1, b"\n");
 }
 
-// The numbers next to the least and the greatest top, two between them, and the largest u32.
+// The numbers next to the least and the greatest top level, two between them, and the largest u32.
 fn each_top() {
     write_top(0);
     write_top(1);

@@ -1,5 +1,4 @@
--- The invariant of a loop that writes rows of a list, a line for each.
--- Assumes nothing.
+-- The invariant of a loop that writes the rows of a list, one line each. Assumes nothing.
 use Prim.Native.Nat.{ℕ, suc, _+_, _*_, _^_, _≤_, _<_}
 use mathlib.Core.List.{List}
 use native.Mathlib.Omega.{arith}
@@ -10,7 +9,7 @@ use Rattle.buffer.proofs.Laws.{Counting, count-start, count-fits, count-step, c
 use Rattle.text.specs.Lines.{row, rows}
 use Rattle.text.proofs.Rows.{rows-length}
 
--- the rows from row `from` on, of which i are written, and the bytes that all `count` of them take at most, c a row
+-- of `count` rows from row `from` on, i are written; all of them take at most c bytes each
 pub record Listed (c width : ℕ) (words : List ℕ) (from i count : ℕ) (out : List ℕ) (w : ℕ) (xs : List ℕ) (at : ℕ) : Type 0 where
   pub counting : Counting (λ n. row width words (from + n)) i count out w xs at
   pub most : length (rows width words from count) ≤ c * count
@@ -36,5 +35,5 @@ module _ {c width : ℕ} {words : List ℕ} {from i count : ℕ} {out : List ℕ
   pub listed-most : count ≤ i → w ≤ at + c * count
   listed-most h = let p = listed-done h in omega (arith, l .most)
 
--- all that the needs of such a loop ask
+-- all facts that the needs of such a loop use
 pub ruleset listing = (listed-fits, listed-step, listed-done, listed-most, needs)

@@ -1,4 +1,4 @@
-// Lists as text, a line for each point or primitive.
+// Lists as text, one line per point or primitive.
 ghost use Prim.Native.Nat.{_+_, _*_, _≤_};
 ghost use lib.ListN.{length};
 ghost use lib.Seq.{slice};
@@ -7,7 +7,7 @@ ghost use Rattle.text.specs.Lines.{line, rows};
 use text::put_ended;
 use text::put_line3;
 
-// The words numbered k, k + 1 and k + 2, as one line.
+// Writes the words k, k + 1 and k + 2 as a line.
 fn put_point(out: &mut [u8], at: usize, vertices: &[u32], k: usize) -> usize
     requires { ⌜ k + 3 ≤ length (now vertices) ⌝ ∗ ⌜ at + length (line (slice k (k + 3) (now vertices))) ≤ length (now out) ⌝ }
     ensures { λ r. ⌜ Wrote (now (out .entry)) at (line (slice k (k + 3) (now (vertices .entry)))) (now (out .exit)) r ⌝ }
@@ -15,7 +15,7 @@ fn put_point(out: &mut [u8], at: usize, vertices: &[u32], k: usize) -> usize
     put_line3(out, at, vertices[k], vertices[k + 1], vertices[k + 2])
 }
 
-// The points numbered from, from + 1, .., `count` of them.
+// Writes `count` points, the first of which is number `from`.
 pub fn put_points(out: &mut [u8], at: usize, vertices: &[u32], from: usize, count: usize) -> usize
     requires { ⌜ 3 * (from + count) ≤ length (now vertices) ⌝ ∗ ⌜ at + 33 * count ≤ length (now out) ⌝ }
     ensures { λ r. ⌜ Wrote (now (out .entry)) at (rows 3 (now (vertices .entry)) from count) (now (out .exit)) r ⌝ }
@@ -30,7 +30,7 @@ pub fn put_points(out: &mut [u8], at: usize, vertices: &[u32], from: usize, coun
     w
 }
 
-// The indices numbered k, k + 1, .., `width` of them, as one line.
+// Writes `width` indices from index k on as a line.
 fn put_primitive(out: &mut [u8], at: usize, indices: &[u16], width: usize, k: usize) -> usize
     requires { ⌜ (1 ≤ width) × (k + width ≤ length (now indices)) ⌝ ∗ ⌜ at + length (line (slice k (k + width) (now indices))) ≤ length (now out) ⌝ }
     ensures { λ r. ⌜ Wrote (now (out .entry)) at (line (slice k (k + width) (now (indices .entry)))) (now (out .exit)) r ⌝ }
@@ -45,7 +45,7 @@ fn put_primitive(out: &mut [u8], at: usize, indices: &[u16], width: usize, k: us
     put_ended(out, w, indices[last] as u32, b'\n')
 }
 
-// The primitives numbered from, from + 1, .., `count` of them, of `width` indices each.
+// Writes `count` primitives of `width` indices each, the first of which is number `from`.
 pub fn put_primitives(
     out: &mut [u8],
     at: usize,

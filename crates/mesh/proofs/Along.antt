@@ -1,5 +1,4 @@
--- The places of points along an edge: what is kept of a list, what is sorted, what reads the same from either end.
--- Assumes nothing.
+-- The places of points along an edge: which points are kept, how places are sorted, and when they mirror. Assumes nothing.
 use Prim.Native.Nat.{ℕ, zero, suc, _+_, _-_, _≤_, _<_}
 use mathlib.Core.Path.{_≡_, refl, ap, _∙_}
 use mathlib.Core.Bool.{Bool, true, false, cond}
@@ -82,7 +81,7 @@ module _ {e : Run} (g : GoodRun e) where
   pub good-sorted : sorted (table (e .q) (suc (e .c))) ≡ table (e .q) (suc (e .c))
   good-sorted = rises (suc (e .c)) (omega arith)
 
-  -- the last place may stand first
+  -- the last place may come first in the list
   pub good-rotated : sorted (e .q (e .c) ∷ table (e .q) (e .c)) ≡ table (e .q) (suc (e .c))
   unfolding sorted
   good-rotated = rw (

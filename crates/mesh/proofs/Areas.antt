@@ -1,6 +1,5 @@
--- Twice the signed areas of triangles whose sides close add up to the outline's own,
--- so that the last field of `Cover` follows from those on sides.
--- Assumes nothing.
+-- If the sides of triangles close up, twice their signed areas add up to that of the outline; so the last field of `Cover`
+-- follows from those on sides. Assumes nothing.
 use Prim.Native.Nat.{ℕ, _+_, _*_}
 use mathlib.Core.Path.{_≡_, refl}
 use mathlib.Core.Bool.{Bool, true, false}
@@ -23,7 +22,7 @@ use Rattle.mesh.proofs.Walk.{walked, pieces}
 use Rattle.mesh.proofs.Stokes.{back, Closed, stokes}
 use Rattle.mesh.proofs.Rim.{gained, rim-gains}
 
--- what a side adds to twice the area: uP·vQ, less that of the side reversed
+-- what a side adds to twice the area is uP·vQ, minus that of the reversed side
 abbrev pub moment : Side → ℕ
 moment e = cross (e .start) (e .end)
 

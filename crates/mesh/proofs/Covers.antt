@@ -1,5 +1,5 @@
--- A mesh by numbers whose points are apart, whose triangles turn one way and whose sides join covers its patch.
--- Assumes nothing.
+-- A mesh by vertex numbers covers its patch if its points are distinct, its triangles have one orientation and its sides close
+-- up. Assumes nothing.
 use Prim.Native.Nat.{ℕ, zero, suc, _+_, _-_, _*_, _≤_, _<_}
 use mathlib.Core.Path.{_≡_, refl, ap, sym, _∙_}
 use mathlib.Core.Bool.{Bool, true, false}
@@ -23,7 +23,7 @@ use Rattle.mesh.proofs.Lists.{All, all-more, all-map, all-at, get-withi
 use Rattle.mesh.proofs.Pieces.{drawn, Joins, single-side, outlined-side, outside-side, closed-side}
 use Rattle.mesh.proofs.StripTurns.{Turns}
 
--- the weight of the side x→y: twice the area is what all sides weigh less what they weigh turned round
+-- the weight of the side x→y: twice the area is the sum over all sides, minus the sum over their reverses
 abbrev pub weight : (ℕ → Point) → ℕ → ℕ → ℕ
 weight P x y = cross (P x) (P y)
 
@@ -35,7 +35,7 @@ is-total P (t ∷ ts) =
     is-same (totalTwiceArea (map (faceOf P) (t ∷ ts))) _ _ _ _
     (is-add (twiceArea (faceOf P t)) (totalTwiceArea (map (faceOf P) ts)) _ _ _ _ (is-area (faceOf P t)) (is-total P ts)) (omega arith)
 
--- a line of which each segment weighs c for each unit of x more than turned round
+-- a line whose segments each outweigh their reverses by c per unit of x
 pub line-gain : (f : ℕ → ℕ → ℕ) (A x : ℕ → ℕ) (c n : ℕ)
     → ((j : ℕ) → j < n → f (A j) (A (suc j)) + c * x j ≡ f (A (suc j)) (A j) + c * x (suc j))
     → lineSum f A n + c * x 0 ≡ lineSum (flip f) A n + c * x n
@@ -74,7 +74,7 @@ sign b P t h = record { size = x - y; above = omega arith; is = go b }
     go true = is-above _ x y (x - y) (is-area (faceOf P t)) (omega arith)
     go false = is-below _ y x (x - y) (is-area (faceOf P (turned false t))) (omega arith)
 
--- a used side's numbers are within
+-- the vertices of a side are in range
 used-within : (base top : ℕ) (ts : List Triangle) → Within base top ts → (x y : ℕ) → 1 ≤ uses x y ts → (x < top) × (y < top)
 unfolding sumSides
 used-within base top [] w x y h = absurd (omega arith)
@@ -90,7 +90,7 @@ used-within base top (t ∷ ts) w x y h =
       ]
     ]
 
--- the ends of the outline's k-th piece, the way asked
+-- the ends of piece k of the outline, in the orientation asked for
 abbrev startOf : Bool → ℕ → ℕ → ℕ
 startOf true total k = ringAt 0 total k
 startOf false total k = ringAt 0 total (suc k)
@@ -122,7 +122,7 @@ joins false top total ts c = record {
     back : (x y : ℕ) → 1 ≤ uses x y (map (turned false) ts) → 1 ≤ uses y x ts
     back x y h = rw (over x y) at h
 
--- the outline is the first points
+-- the first points are the outline
 module _ (outline rest : List Point) (total : ℕ) (all : length outline ≡ total) where
   out-at : (k : ℕ) → k < total → at outline k ≡ at (outline ++ rest) k
   out-at k h = sym (List·getD-append outline rest missing k (omega arith))
@@ -146,7 +146,7 @@ module _ (outline rest : List Point) (total : ℕ) (all : length outline ≡ tot
   piece-is true k h = λ i. record { start = out-start k h i; end = out-next k h i }
   piece-is false k h = λ i. record { start = out-next k h i; end = out-start k h i }
 
--- any mesh whose triangles by number close, at points that are apart
+-- any mesh with distinct points whose triangles by number close up
 module _ (b : Bool) (area total : ℕ) (outline rest : List Point) (ts : List Triangle)
     (all : length outline ≡ total) (apart : Distinct (outline ++ rest))
     (turns : All (Turns (at (outline ++ rest))) ts) (closes : Closes 0 (length (outline ++ rest)) total ts)

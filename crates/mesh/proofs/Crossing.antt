@@ -1,5 +1,4 @@
--- How often a directed side crosses, going up, the half line from a spot towards larger u: once or never.
--- Assumes nothing.
+-- Whether a directed side crosses the ray from a spot towards larger u upwards: 1 or 0. Assumes nothing.
 use Prim.Native.Nat.{ℕ, _+_, _*_, _≤_, _<_, min, max}
 use mathlib.Core.Path.{_≡_, refl}
 use mathlib.Core.Logic.{_⊎_, inl, inr}
@@ -13,11 +12,11 @@ use Rattle.mesh.proofs.Signed.{loop}
 use Rattle.mesh.proofs.Frame.{Left, rise}
 use Rattle.mesh.proofs.Sign.{Touches}
 
--- the side rises from the spot's v, its end's v not counted, and has the spot to its left
+-- the side starts at or below the spot's v, ends above it, and has the spot on its left
 unfoldable pub up : Point → Point → Point → ℕ
 up s p q = cond (leb (p .v) (s .v)) (cond (ltb (s .v) (q .v)) (cond (ltb (loop p s q) (loop p q s)) 1 0) 0) 0
 
--- `rise` where the numbers may be equal
+-- `rise`, where the numbers may be equal
 pub rise-or-equal : (x y d e : ℕ) → x ≤ y → d ≤ e → y * d + x * e ≤ x * d + y * e
 rise-or-equal x y d e h k =
     elim (decLe y x) [
@@ -37,7 +36,7 @@ module _ (s p q : Point) where
   unfolding up
   up-one h k l = rw (le-leb _ _ h, lt-ltb _ _ k, lt-ltb _ _ l)
 
-  -- no crossing: the start is above, the end is not above, or the spot is not to the left
+  -- no crossing: the start is above, the end is not above, or the spot is not on the left
   pub up-above : s .v < p .v → up s p q ≡ 0
   unfolding up
   up-above h = rw (lt-leb _ _ h)
@@ -50,7 +49,7 @@ module _ (s p q : Point) where
   unfolding up
   up-right h = rw (le-ltb _ _ h, either (ltb (s .v) (q .v)) 0, either (leb (p .v) (s .v)) 0)
 
-  -- a spot beside a side that rises past it, and not on it, is to the left or to the right
+  -- a spot beside a side that rises past it, and not on the side, is on its left or on its right
   module _ (h : p .v ≤ s .v) (k : s .v < q .v) where
     west : loop p q s ≤ loop p s q → min (p .u) (q .u) ≤ s .u
     west l = elim (decLe (min (p .u) (q .u)) (s .u)) [

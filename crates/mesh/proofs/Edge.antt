@@ -1,5 +1,4 @@
--- Places that rise along an edge.
--- Assumes nothing.
+-- Places that rise along an edge. Assumes nothing.
 use Prim.Native.Nat.{ℕ, zero, suc, _+_, _≤_, _<_}
 use mathlib.Core.Path.{_≡_}
 use native.Mathlib.Omega.{arith}
@@ -14,7 +13,7 @@ far x n h i (suc j) l m =
       | no k ↦ let e : i ≡ suc j = omega arith in rw e (omega arith)
     ]
 
--- the edge e rises from one corner of the ring d units in to the next
+-- the places of the edge e rise from one corner to the next of the ring d units inside
 pub record Span (d : ℕ) (e : Run) : Type 0 where
   pub low : e .q 0 ≡ d
   pub high : e .q (e .c) + d ≡ 65536
@@ -36,7 +35,7 @@ module _ {d : ℕ} {e : Run} (s : Span d e) where
 pub good-span : {e : Run} → GoodRun e → Span 0 e
 good-span g = record { low = g .first; high = omega (arith, g .last); rises = g .rises }
 
--- places past the first, before the last, and up to the last
+-- places after the first, before the last, and up to the last
 module _ {e : Run} (g : GoodRun e) (i : ℕ) where
   pub good-after : 0 < i → i ≤ e .c → 0 < e .q i
   good-after h l = omega (arith, g .first, span-less (good-span g) 0 i h l)
@@ -50,7 +49,7 @@ module _ {e : Run} (g : GoodRun e) (i : ℕ) where
   pub good-to : i ≤ e .c → e .q i ≤ 65536
   good-to l = omega (arith, span-to (good-span g) i l)
 
--- an edge has a segment
+-- an edge has at least one segment
 pub good-some : {q : ℕ → ℕ} {n : ℕ} → Good q n → 1 ≤ n
 good-some {q} {n} g = go n (g .last)
   where

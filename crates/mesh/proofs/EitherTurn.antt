@@ -1,5 +1,5 @@
--- A triangle that holds a spot turns the way asked; so in a covered patch exactly one triangle has a spot inside, by either turn.
--- Assumes nothing.
+-- A triangle that holds a spot has the orientation asked for; so exactly one triangle of a covered patch has a spot inside,
+-- whatever its orientation. Assumes nothing.
 use Prim.Native.Nat.{ℕ}
 use mathlib.Core.Bool.{Bool, true, false}
 use mathlib.Core.Logic.{inl, inr}
@@ -11,11 +11,11 @@ use Rattle.mesh.specs.Held.{Spot, Holds, face, HeldOnce}
 use Rattle.mesh.specs.EitherTurn.{HasInside, InsideOnce}
 use Rattle.mesh.proofs.Sign.{holds-left, turned-left, left-turned}
 
--- the signed areas to the three sides add up to the triangle's own
+-- the signed areas to the three sides add up to that of the triangle
 pub holds-turned : (b : Bool) (t : Face) (s : Spot) → Holds b t s → HasSign b (twiceArea t)
 holds-turned b t s h = left-turned b t (let l = holds-left b t s h in omega arith)
 
--- a triangle does not turn both ways
+-- a triangle does not have both orientations
 one-turn : (t : Face) → HasSign true (twiceArea t) → HasSign false (twiceArea t) → ⊥
 one-turn t h k = omega (arith, turned-left true t h, turned-left false t k)
 
@@ -29,7 +29,7 @@ held-inside : (b : Bool) (t : Face) (s : Spot) → Holds b t s → HasInside t s
 held-inside true t s h = inl h
 held-inside false t s h = inr h
 
--- `Cover`'s field `turned` leaves no triangle over the spot that turns the other way
+-- by `Cover`'s field `turned`, no triangle of the other orientation holds the spot
 pub inside-once : {b : Bool} {area : ℕ} {outline points : List Point} {faces : List Face} → Cover b area outline points faces
     → (s : Spot) → HeldOnce b faces s → InsideOnce faces s
 inside-once {b} {faces = faces} cover s h = record {

@@ -1,5 +1,4 @@
--- Where each element counts once or never and all count once together, exactly one counts.
--- Assumes nothing.
+-- If each element counts 1 or 0 and all together count 1, exactly one element counts. Assumes nothing.
 use Prim.Native.Nat.{ℕ, zero, suc, _≤_, _<_}
 use mathlib.Core.Path.{_≡_, refl, ap}
 use mathlib.Core.List.{List, _∷_}
@@ -8,7 +7,7 @@ use lib.ListN.{length, getD}
 use Rattle.mesh.proofs.Lists.{All, none, more}
 use Rattle.mesh.proofs.Members.{sum}
 
--- m is one more than n where Q holds, and n where it does not
+-- m is n + 1 if Q holds, and n if not
 pub data Counted (Q : Type 0) (m n : ℕ) : Type 0 where
   once : Q → m ≡ suc n → Counted Q m n
   never : (Q → ⊥) → m ≡ n → Counted Q m n
@@ -34,7 +33,7 @@ module _ {A : Type 0} (Q : A → Type 0) (m n : A → ℕ) (d : A) where
   nowhere (more (never p e) cs) h zero l q = p q
   nowhere (more (never p e) cs) h (suc i) l q = nowhere cs (omega arith) i (omega arith) q
 
-  -- exactly one element has Q
+  -- exactly one element satisfies Q
   pub record One (xs : List A) : Type 0 where
     pub number : ℕ
     pub within : number < length xs

@@ -1,5 +1,4 @@
--- Small patches: the points that the definitions give, computed, and runs that the theorems' hypotheses hold of.
--- Assumes nothing.
+-- Small patches: their computed points, and runs that satisfy the hypotheses of the theorems. Assumes nothing.
 use Prim.Native.Nat.{ℕ, _*_}
 use mathlib.Core.Path.{_≡_, refl}
 use mathlib.Core.Bool.{false}
@@ -21,7 +20,7 @@ use Rattle.mesh.proofs.QuadPatch.{quad-covers}
 abbrev p : ℕ → ℕ → ℕ → Point
 p u v w = record { u = u; v = v; w = w }
 
--- the run of these places
+-- the run with these places
 abbrev run : List ℕ → ℕ → Run
 run l c = record { q = λ i. getD l i 0; c = c }
 
@@ -56,7 +55,7 @@ grid-of-two : quadPatch two one three one three two
 unfolding ring table grid
 grid-of-two = refl
 
--- places that are asked for exist, and patches that they cover
+-- runs with the required places, and patches that they cover
 abbrev even : ℕ → ℕ → Run
 even step c = record { q = λ i. i * step; c = c }
 

@@ -1,5 +1,4 @@
--- The points of a grid, row after row.
--- Assumes nothing.
+-- The points of a grid, row by row. Assumes nothing.
 use Prim.Native.Nat.{ℕ, zero, suc, _+_, _*_, _<_}
 use mathlib.Core.Path.{_≡_, refl, sym, _∙_}
 use native.Mathlib.Omega.{arith}

@@ -1,5 +1,4 @@
--- The points of a quad patch are, one by one, those that document 01 lists, and no other list has them.
--- Assumes nothing.
+-- The points of a quad patch are exactly those that document 01 lists. Assumes nothing.
 use Prim.Native.Nat.{ℕ, suc, _+_, _-_, _*_, _≤_, _<_}
 use mathlib.Core.Path.{_≡_, sym, _∙_}
 use mathlib.Core.Logic.{_↔_}
@@ -28,7 +27,7 @@ use Rattle.mesh.proofs.Located.{located}
 use Rattle.mesh.proofs.OnEdge.{on-edge, same-on-edge}
 use Rattle.mesh.proofs.OuterRing.{around-table, ring-at}
 
--- ---- two lists that have them are one
+-- ---- two lists of these points are equal
 module _ {e : ℕ → Run} {rows columns : Run} {ps ps′ : List Point} (a : GridPoints e rows columns ps) (b : GridPoints e rows columns ps′) where
   same-outer : (m : ℕ) → m < edgeStart e 4 → at ps m ≡ at ps′ m
   same-outer m h =
@@ -52,7 +51,7 @@ module _ {e : ℕ → Run} {rows columns : Run} {ps ps′ : List Point} (a : Gri
     | no k ↦ let z : m ≡ edgeStart e 4 + (m - edgeStart e 4) = omega arith in rw z (same-inner (m - edgeStart e 4) (omega (arith, a .size)))
   ])
 
--- ---- the patch's list is the one
+-- ---- `quadPatch` is such a list
 module _ (e : ℕ → Run) (rows columns : Run) (on : (k i : ℕ) → i < e k .c → e k .q i ≤ 65536) where
   abbrev listed : List Point
   listed = quadPatch (e 0) (e 1) (e 2) (e 3) rows columns
@@ -85,6 +84,6 @@ module _ (e : ℕ → Run) (rows columns : Run) (on : (k i : ℕ) → i < e k .c
     inner = inner-listed;
   }
 
-  -- a list is that of the patch exactly where its points are, one by one, those of the outline and the grid
+  -- a list is that of the patch exactly if its points are those of the outline and the grid
   pub grid-exactly : (ps : List Point) → (ps ≡ quadPatch (e 0) (e 1) (e 2) (e 3) rows columns) ↔ GridPoints e rows columns ps
   grid-exactly ps = (λ h. rw h grid-listed, λ h. grid-only h grid-listed)

@@ -1,5 +1,4 @@
--- The places of a triangle patch's inside, ring by ring.
--- Assumes nothing.
+-- The places inside a triangle patch, ring by ring. Assumes nothing.
 use Prim.Native.Nat.{ℕ, suc, _+_, _-_, _<_}
 use mathlib.Core.Path.{_≡_, refl}
 use native.Mathlib.Omega.{arith}
@@ -8,7 +7,7 @@ use Rattle.mesh.specs.TrianglePoints.{alike}
 use Rattle.mesh.proofs.Lists.{All, none, more}
 use Rattle.mesh.proofs.Edge.{Span}
 
--- the places of an inside of n segments: from the i-th on they are those of the i-th ring
+-- the places of an inner level of n segments; those from i on belong to ring i
 pub record Inside (q : ℕ → ℕ) (n : ℕ) : Type 0 where
   pub rises : (i : ℕ) → i < n → q i < q (suc i)
   pub mirrors : (i j : ℕ) → i + j ≡ n → q i + q j ≡ 65536

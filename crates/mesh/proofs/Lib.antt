@@ -1,4 +1,4 @@
--- The laws of meshes, lowest first.
+-- The laws of `mesh`, lowest first.
 pub mod Signed
 pub mod Lists
 pub mod Frame

@@ -1,5 +1,4 @@
--- The points of a ring by their numbers: a line for each edge, with its end.
--- Assumes nothing.
+-- The points of a ring by number: one line per edge, its end included. Assumes nothing.
 use Prim.Native.Nat.{ℕ, suc, _+_, _≤_, _<_}
 use mathlib.Core.Path.{_≡_, ap, sym, _∙_}
 use mathlib.Core.List.{List, [], _∷_, _++_}
@@ -24,12 +23,12 @@ use Rattle.mesh.proofs.Ring.{table-at, past, ring-length}
 
 module _ {sides : ℕ} {Fits : ℕ → ℕ → Type 0} {place : ℕ → ℕ → ℕ → Point} {depth : Point → ℕ} {gain : ℕ → ℕ}
     (shape : Shape sides Fits place depth gain) where
-  -- the points of F from the o-th on are lines along the edges k, k + 1, .., d units in
+  -- the vertices of F from number o on are lines along the edges k, k + 1, .., d units inside
   abbrev pub Lines : (ℕ → Point) → (ℕ → ℕ) → ℕ → ℕ → ℕ → List Run → Type 0
   Lines P F d k o [] = Unit {0}
   Lines P F d k o (e ∷ es) = Line Fits (place k) P (from o F) (e .q) (e .c) d × Lines P F d (suc k) (o + e .c) es
 
-  -- where the points from the o-th on are a ring's, and the m-th is the first again
+  -- the vertices from number o on are those of a ring, and vertex m is the first again
   module _ (P : ℕ → Point) (F : ℕ → ℕ) (d m : ℕ) (close : P (F m) ≡ place 0 d d) where
     abbrev Drawn : ℕ → ℕ → List Run → Type 0
     Drawn k o es = (i : ℕ) → i < around es → P (F (o + i)) ≡ at (ring place k es d) i
@@ -42,7 +41,7 @@ module _ {sides : ℕ} {Fits : ℕ → ℕ → Type 0} {place : ℕ → ℕ → 
     unfolding ring
     rest k o e es is i h = rw (add-assoc o (e .c) i) (is (e .c + i) (omega arith) ∙ past (table _ (e .c)) _ (e .c) i (length-table _ (e .c)))
 
-    -- an edge's start, also where edges have no segments
+    -- the start of an edge, also if edges have no segments
     begin : (k o : ℕ) (es : List Run) → k + length es ≡ sides → o + around es ≡ m → All (Span d) es → Drawn k o es → P (F o) ≡ place k d d
     begin k o [] en em none is =
         let a : o ≡ m = omega arith in
@@ -74,7 +73,7 @@ module _ {sides : ℕ} {Fits : ℕ → ℕ → Type 0} {place : ℕ → ℕ → 
       lines (suc k) (o + e .c) es (omega arith) (omega arith) ss (rest k o e es is),
     )
 
-  -- the lines of a ring whose m points are numbered from `base` on
+  -- the lines of a ring whose m vertices are numbered from `base` on
   pub ring-lines : (P : ℕ → Point) (base m d : ℕ) (es : List Run) (l : List Point) → length es ≡ sides → around es ≡ m → All (Span d) es
       → P base ≡ place 0 d d → ((k : ℕ) → P (base + k) ≡ at (ring place 0 es d ++ l) k) → Lines P (ringAt base m) d 0 0 es
   ring-lines P base m d es l en em ss first is =
@@ -82,7 +81,7 @@ module _ {sides : ℕ} {Fits : ℕ → ℕ → Type 0} {place : ℕ → ℕ → 
       (λ i h. rw (zero-add i) (ap P (ring-before base m i (omega arith)) ∙ is i
       ∙ List·getD-append (ring place 0 es d) l missing i (omega (arith, ring-length place 0 es d))))
 
-  -- the same where the first edge has a segment
+  -- the same, if the first edge has a segment
   pub first-lines : (P : ℕ → Point) (base m d : ℕ) (e : Run) (es : List Run) (l : List Point) → length (e ∷ es) ≡ sides
       → around (e ∷ es) ≡ m → All (Span d) (e ∷ es)
       → 1 ≤ e .c → ((k : ℕ) → P (base + k) ≡ at (ring place 0 (e ∷ es) d ++ l) k) → Lines P (ringAt base m) d 0 0 (e ∷ es)

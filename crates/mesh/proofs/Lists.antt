@@ -1,5 +1,4 @@
--- Lists whose elements all have a property, lists with no element twice, and tables.
--- Assumes nothing.
+-- Lists whose elements all have a property, lists of distinct elements, and tables. Assumes nothing.
 use Prim.Native.Nat.{ℕ, zero, suc, _<_}
 use mathlib.Core.Path.{_≡_, refl, sym}
 use mathlib.Core.List.{List, [], _∷_, _++_, map}
@@ -42,7 +41,7 @@ module _ {A : Type 0} where
   get-within (x ∷ s) d e zero l = refl
   get-within (x ∷ s) d e (suc i) l = get-within s d e i (omega arith)
 
-  -- two parts that share no element, as a property tells
+  -- two parts have no element in common, as their properties exclude each other
   pub distinct-append : (Q R : A → Type 0) {s : List A} (t : List A) → ((x y : A) → Q x → R y → x ≡ y → ⊥)
       → All Q s → All R t → Distinct s → Distinct t → Distinct (s ++ t)
   distinct-append Q R t clash q r none k = k

@@ -1,5 +1,4 @@
--- Where an element of several lists after one another stands: its list's number and its place in it.
--- Assumes nothing.
+-- An element of joined lists, by the number of its list and its place there. Assumes nothing.
 use Prim.Native.Nat.{ℕ, zero, suc, _+_, _-_, _<_}
 use mathlib.Core.Path.{_≡_}
 use native.Mathlib.Omega.{arith}

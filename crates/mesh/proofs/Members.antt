@@ -1,5 +1,4 @@
--- The elements of a list, and sums over lists: a list with no element twice that lies within another weighs no more.
--- Assumes nothing.
+-- The elements of a list, and sums over lists: a list of distinct elements that are all in another list has no greater sum. Assumes nothing.
 use Prim.Native.Nat.{ℕ, zero, suc, _+_, _≤_, _<_}
 use mathlib.Core.Path.{_≡_, refl, sym, _∙_}
 use mathlib.Core.Logic.{_⊎_, inl, inr, ⊎-elim}
@@ -8,7 +7,7 @@ use native.Mathlib.Omega.{arith}
 use lib.ListN.{length, getD}
 use Rattle.mesh.proofs.Lists.{All, none, more, Distinct}
 
--- what all elements weigh
+-- the sum of f over all elements
 unfoldable pub sum : {A : Type 0} → (A → ℕ) → List A → ℕ
 sum f [] = 0
 sum f (x ∷ xs) = f x + sum f xs
@@ -40,7 +39,7 @@ module _ {A : Type 0} where
   all-places [] d h = none
   all-places (x ∷ xs) d h = more (h 0 (omega arith)) (all-places xs d (λ i l. h (suc i) (omega arith)))
 
-  -- no two places hold the same
+  -- no two places hold equal elements
   pub distinct-places : (xs : List A) (d : A)
       → ((i j : ℕ) → i < length xs → j < length xs → getD xs i d ≡ getD xs j d → i ≡ j) → Distinct xs
   distinct-places [] d h = none
@@ -48,7 +47,7 @@ module _ {A : Type 0} where
       more (all-places xs d (λ i l (e : x ≡ getD xs i d). omega (arith, h 0 (suc i) (omega arith) (omega arith) e)))
       (distinct-places xs d (λ i j l k e. omega (arith, h (suc i) (suc j) (omega arith) (omega arith) e)))
 
-  -- ys with one x taken out
+  -- ys with one x removed
   record Without (x : A) (ys : List A) : Type 0 where
     rest : List A
     weighs : (f : A → ℕ) → sum f ys ≡ f x + sum f rest

@@ -1,5 +1,4 @@
--- A place of an edge has exactly one point, by its coordinates in document 01's words.
--- Assumes nothing.
+-- A place of an edge has exactly one point, in document 01's coordinates. Assumes nothing.
 use Prim.Native.Nat.{ℕ, zero, suc, _+_, _%_, _≤_, _<_}
 use mathlib.Core.Path.{_≡_}
 use mathlib.Core.Logic.{_↔_}
@@ -23,7 +22,7 @@ same-on-triangle zero x d a b = same-point _ _ (omega arith) (omega arith) (omeg
 same-on-triangle (suc zero) x d a b = same-point _ _ (omega arith) (omega arith) (omega arith)
 same-on-triangle (suc (suc k)) x d a b = same-point _ _ (omega arith) (omega arith) (omega arith)
 
--- an edge's end is the start of the next edge
+-- the end of an edge is the start of the next
 pub edge-end : (k x d : ℕ) (p : Point) → k < 3 → x + d ≡ 65536 → OnTriangle k x d p ↔ OnTriangle ((k + 1) % 3) d d p
 edge-end zero x d p h e = (λ o. omega arith, λ o. omega arith)
 edge-end (suc zero) x d p h e = (λ o. omega arith, λ o. omega arith)
@@ -44,7 +43,7 @@ same-on-square (suc zero) x p p′ a b = same-point _ _ (omega arith) (omega ari
 same-on-square (suc (suc zero)) x p p′ a b = same-point _ _ (omega arith) (omega arith) (omega arith)
 same-on-square (suc (suc (suc k))) x p p′ a b = same-point _ _ (omega arith) (omega arith) (omega arith)
 
--- ---- either
+-- ---- either domain
 pub on-edge : (shape : Domain) (k x : ℕ) → k < edgeCount shape → x ≤ 65536 → OnEdge shape k x (placeOn shape k x 0)
 on-edge triangle k x h l = on-triangle k x 0 h (omega arith) (omega arith)
 on-edge square k x h l = on-square k x h l

@@ -1,6 +1,5 @@
--- Every spot strictly inside a covered patch that lies on no side is held by exactly one triangle:
--- for any mesh that `Cover` holds of, both turns, and any good outer edges.
--- Assumes nothing.
+-- Exactly one triangle holds each spot that lies strictly inside a covered patch and on no side, for any mesh that satisfies
+-- `Cover`, both orientations, and any good outer edges. Assumes nothing.
 use Prim.Native.Nat.{ℕ, suc}
 use mathlib.Core.Path.{_≡_, refl}
 use mathlib.Core.Bool.{Bool, true, false}
@@ -21,7 +20,7 @@ use Rattle.mesh.proofs.Sign.{second, third, holds-left, left-holds, tur
 use Rattle.mesh.proofs.TriangleCrossings.{ups, downs, Off, triangle-counts}
 use Rattle.mesh.proofs.Winds.{crossing, Winds, outline-winds, outline-distinct}
 
--- the sides' crossings, of the sides as they go where the turn is positive
+-- the crossings of a side, in its positive direction
 abbrev weight : Bool → Spot → Side → ℕ
 weight b s e = crossing (corner s) (directed b e)
 
@@ -32,7 +31,7 @@ module _ (b : Bool) (s : Spot) where
   abbrev faceDowns : Face → ℕ
   faceDowns t = downs (corner s) (t .p) (second b t) (third b t)
 
--- the spot is on none of the triangle's sides
+-- the spot lies on none of the triangle's sides
 record Beside (t : Face) (s : Spot) : Type 0 where
   pq : OnSide (record { start = t .p; end = t .q }) s → ⊥
   qr : OnSide (record { start = t .q; end = t .r }) s → ⊥
@@ -63,7 +62,7 @@ faces-count b s none none = none
 faces-count b s (more {x = t} h hs) (more c cs) =
     more (counted-as (left-holds b t s) (holds-left b t s) refl refl (triangle-counts _ _ _ _ (off b t s h c))) (faces-count b s hs cs)
 
--- the faces' crossings are their sides'
+-- the crossings of the faces are those of their sides
 sides-up : (b : Bool) (s : Spot) (ts : List Face) → sum (weight b s) (sides ts) ≡ sum (faceUps b s) ts
 unfolding sum sides
 sides-up b s [] = refl
@@ -76,7 +75,7 @@ sides-down b s [] = refl
 sides-down true s (t ∷ ts) = omega (arith, sides-down true s ts)
 sides-down false s (t ∷ ts) = omega (arith, sides-down false s ts)
 
--- and the pieces' crossings are those of the outline as it is walked
+-- the crossings of the pieces are those of the outline in walk order
 pieces-up : (b : Bool) (s : Spot) (ps : List Point) → sum (weight b s) (pieces b ps) ≡ sum (crossing (corner s)) (walked ps)
 pieces-up true s ps = sum-map (directed true) (weight true s) (walked ps)
 pieces-up false s ps = sum-map (directed false) (weight false s) (walked ps)
@@ -86,7 +85,7 @@ pieces-down true s ps = sum-map (directed true) (back (weight true s)) (walked p
 pieces-down false s ps = sum-map (directed false) (back (weight false s)) (walked ps)
 
 module _ {b : Bool} {area : ℕ} {outline points : List Point} {faces : List Face} (c : Cover b area outline points faces) where
-  -- any outline that goes once round the spot
+  -- any outline that winds once around the spot
   pub winds-once : Distinct outline → (s : Spot) → Winds outline (corner s) → Clear faces s → HeldOnce b faces s
   winds-once apart s winds clear = record { number = one .number; within = one .within; holds = one .has; only = one .only }
     where

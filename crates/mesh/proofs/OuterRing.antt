@@ -1,5 +1,4 @@
--- The points of a ring of outer edges are, one by one, those that document 01 lists, and no other list has them.
--- Assumes nothing.
+-- The points of a ring of outer edges are exactly those that document 01 lists. Assumes nothing.
 use Prim.Native.Nat.{ℕ, zero, suc, _+_, _≤_, _<_}
 use mathlib.Core.Path.{_≡_, refl, sym, _∙_}
 use mathlib.Core.Logic.{_↔_}
@@ -21,7 +20,7 @@ use Rattle.mesh.proofs.Ring.{table-at, past, ring-length}
 use Rattle.mesh.proofs.Located.{located}
 use Rattle.mesh.proofs.OnEdge.{on-edge, same-on-edge}
 
--- ---- a ring's points by their numbers
+-- ---- the points of a ring by number
 pub around-table : (n : ℕ) (e : ℕ → Run) → around (table e n) ≡ edgeStart e n
 unfolding table sum
 around-table zero e = refl
@@ -40,13 +39,13 @@ ring-at place d (suc n) e j (suc k) i h l =
     (edgeStart (λ m. e (suc m)) k + i) (length-table (λ m. place j (e 0 .q m) d) (e 0 .c)) ∙ ring-at place d n (λ m. e (suc m)) (suc j) k i (omega arith) l)
 
 module _ (shape : Domain) (e : ℕ → Run) where
-  -- two lists that have them are one
+  -- two lists of these points are equal
   outer-only : {ps ps′ : List Point} → OuterRing shape e ps → OuterRing shape e ps′ → ps ≡ ps′
   outer-only {ps} {ps′} a b = ext-getD missing ps ps′ (a .size ∙ sym (b .size)) (λ m h.
       let s = located (λ k. e k .c) (edgeCount shape) m (omega (arith, a .size)) in
       rw (← s .is) (same-on-edge shape (s .k) (e (s .k) .q (s .i)) _ _ (a .point (s .k) (s .i) (s .list) (s .within)) (b .point (s .k) (s .i) (s .list) (s .within))))
 
-  -- places that lie on their edges
+  -- all places lie on their edges
   module _ (on : (k i : ℕ) → i < e k .c → e k .q i ≤ 65536) where
     abbrev listed : List Point
     listed = ring (placeOn shape) 0 (table e (edgeCount shape)) 0
@@ -57,6 +56,6 @@ module _ (shape : Domain) (e : ℕ → Run) where
       point = λ k i h l. rw (ring-at (placeOn shape) 0 (edgeCount shape) e 0 k i h l, zero-add k) (on-edge shape k (e k .q i) h (on k i l));
     }
 
-    -- a list is that of the ring exactly where its points are, one by one, those of the edges
+    -- a list is that of the ring exactly if its points are those of the edges
     pub outer-exactly : (ps : List Point) → (ps ≡ ring (placeOn shape) 0 (table e (edgeCount shape)) 0) ↔ OuterRing shape e ps
     outer-exactly ps = (λ h. rw h outer-listed, λ h. outer-only h outer-listed)

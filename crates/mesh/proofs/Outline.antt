@@ -1,5 +1,4 @@
--- A patch of an outline and points inside is covered by triangles that turn and that fill the outline.
--- Assumes nothing.
+-- A patch of an outline and inner points is covered by triangles of positive orientation that fill the outline. Assumes nothing.
 use Prim.Native.Nat.{ℕ, suc, _+_, _*_, _<_}
 use mathlib.Core.Path.{_≡_, ap, _∙_}
 use mathlib.Core.Bool.{Bool}
@@ -25,7 +24,7 @@ use Rattle.mesh.proofs.Shape.{Shape}
 use Rattle.mesh.proofs.Ring.{ring-length, ring-distinct, ring-all}
 use Rattle.mesh.proofs.Lines.{Lines, first-lines}
 
--- the gains of the edges k, k + 1, ..
+-- the sum of the gains of the edges k, k + 1, ..
 abbrev pub gained : (ℕ → ℕ) → ℕ → List Run → ℕ
 gained gain k [] = 0
 gained gain k (e ∷ es) = gain k + gained gain (suc k) es
@@ -56,7 +55,7 @@ module _ {sides : ℕ} {Fits : ℕ → ℕ → Type 0} {place : ℕ → ℕ → 
       line-from (flip (weight P)) F o (e .c),
     ))
 
-  -- what a patch is made of: the edges of its outline, with m segments, and the points inside
+  -- the parts of a patch: the edges of its outline, with m segments, and the inner points
   pub record Parts (m : ℕ) (es : List Run) (rest : List Point) : Type 0 where
     pub each : length es ≡ sides
     pub total : around es ≡ m

@@ -1,5 +1,5 @@
--- A piece of an outline goes from one of its points to the next and from the last to the first, or back where the other turn is asked.
--- Assumes nothing.
+-- A piece of an outline goes from a point to the next, and from the last to the first; or back, if the orientation asked for is
+-- the negative one. Assumes nothing.
 use Prim.Native.Nat.{ℕ, suc, _<_}
 use mathlib.Core.Path.{_≡_, refl}
 use mathlib.Core.Bool.{true, false}

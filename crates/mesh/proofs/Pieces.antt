@@ -1,5 +1,4 @@
--- The sides of a mesh whose triangles are given by numbers.
--- Assumes nothing.
+-- The sides of a mesh whose triangles are given by vertex numbers. Assumes nothing.
 use Prim.Native.Nat.{ℕ, zero, suc, _+_, _≤_, _<_}
 use mathlib.Core.Path.{_≡_, refl, ap, ap₂, sym, _∙_}
 use mathlib.Core.Logic.{_⊎_, inl, inr, ⊎-elim}
@@ -15,7 +14,7 @@ use Rattle.mesh.specs.Cover.{Side, reversed, sides, side, Occurs}
 use Rattle.mesh.specs.Faces.{faceOf}
 use Rattle.mesh.proofs.Lists.{neither}
 
--- a directed side by its two numbers
+-- a directed side by its two vertex numbers
 pub record Piece : Type 0 where
   pub from : ℕ
   pub to : ℕ
@@ -36,7 +35,7 @@ unfolding sides pieces
 sides-are P [] = refl
 sides-are P (t ∷ ts) = rw (sides-are P ts)
 
--- the weights of all pieces
+-- the sum of a weight over all pieces
 tally : (ℕ → ℕ → ℕ) → List Piece → ℕ
 tally f [] = 0
 tally f (s ∷ ss) = f (s .from) (s .to) + tally f ss
@@ -75,7 +74,7 @@ get-map f [] i d e h = absurd (omega arith)
 get-map f (x ∷ l) zero d e h = refl
 get-map f (x ∷ l) (suc i) d e h = get-map f l i d e (omega arith)
 
--- what a mesh by numbers needs; the k-th piece of its outline goes from X k to Y k
+-- what a mesh by vertex numbers needs; piece k of its outline goes from X k to Y k
 pub record Joins (top total : ℕ) (X Y : ℕ → ℕ) (ts : List Triangle) : Type 0 where
   pub within : (x y : ℕ) → 1 ≤ uses x y ts → (x < top) × (y < top)
   pub single : (x y : ℕ) → uses x y ts ≤ 1
@@ -83,7 +82,7 @@ pub record Joins (top total : ℕ) (X Y : ℕ → ℕ) (ts : List Triangle) : Ty
   pub outside : (k : ℕ) → k < total → uses (Y k) (X k) ts ≡ 0
   pub met : (x y : ℕ) → 1 ≤ uses x y ts → ((k : ℕ) × (k < total) × (x ≡ X k) × (y ≡ Y k)) ⊎ (uses y x ts ≡ 1)
 
--- the same of points, where no two are equal
+-- the same for points, no two of which are equal
 module _ (P : ℕ → Point) (top total : ℕ) (X Y : ℕ → ℕ) (ts : List Triangle) (j : Joins top total X Y ts)
     (apart : (x y : ℕ) → x < top → y < top → P x ≡ P y → x ≡ y) where
   abbrev mesh : List Side
@@ -107,7 +106,7 @@ module _ (P : ℕ → Point) (top total : ℕ) (X Y : ℕ → ℕ) (ts : List Tr
       let l : w .0 < length mesh = omega (arith, w .1, count) in
       (w .0, l, here (w .0) l ∙ ap₂ (λ a b. drawn P (record { from = a; to = b })) (sym (w .2)) (sym (w .3)))
 
-  -- a side that is drawn as x→y is x→y
+  -- a side whose points are those of x→y is x→y
   alike : (i x y : ℕ) → i < length mesh → x < top → y < top → side mesh i ≡ drawn P (record { from = x; to = y })
       → (nth i .from ≡ x) × (nth i .to ≡ y)
   alike i x y l m n e =

@@ -1,5 +1,4 @@
--- The places along the edges of an outline are those asked.
--- Assumes nothing.
+-- The places along the edges of an outline are those of its runs. Assumes nothing.
 use Prim.Native.Nat.{ℕ, suc, _+_, _≤_, _<_}
 use mathlib.Core.Path.{_≡_, refl, sym, _∙_}
 use mathlib.Core.Bool.{true, false, cond}
@@ -21,8 +20,7 @@ use Rattle.mesh.proofs.Along.{keep-append, keep-all, keep-none, keep-fi
 abbrev pub after : ℕ → ℕ → ℕ
 after sides k = cond (eqb (suc k) sides) 0 (suc k)
 
--- the edge E is where the coordinate `mark` is `aim`; of the points of an outline with so many sides,
--- those are all of the run k, the first of the run `next`, and no others
+-- the edge E is where the coordinate `mark` equals `aim`; of an outline's points exactly those of run k and the first of run `next` lie on it
 pub record Sees (place : ℕ → ℕ → ℕ → Point) (depth : Point → ℕ) (sides k next : ℕ) (mark : Point → ℕ) (aim : ℕ) (E : OuterEdge)
     : Type 0 where
   pub on-is : (p : Point) → E .on p ≡ eqb (mark p) aim
@@ -40,7 +38,7 @@ module _ {Fits : ℕ → ℕ → Type 0} {place : ℕ → ℕ → ℕ → Point}
   off : (p : Point) → (mark p ≡ aim → ⊥) → E .on p ≡ false
   off p h = sees .on-is p ∙ ne-eqb _ _ h
 
-  -- the points of the run e as number j
+  -- the points of the run e as edge j
   abbrev edge : ℕ → Run → List Point
   edge j e = table (λ i. place j (e .q i) 0) (e .c)
 
@@ -55,7 +53,7 @@ module _ {Fits : ℕ → ℕ → Type 0} {place : ℕ → ℕ → ℕ → Point}
       (good-before g (suc i) l)))
       ∙ rw (g .first, joint)
 
-  -- runs that are neither
+  -- runs other than k and `next` have no points on E
   skip : (pre : List Run) (j t : ℕ) (es : List Run) → j + length pre ≡ t → t ≤ sides
       → ((i : ℕ) → j ≤ i → i < t → (i ≡ k → ⊥) × (i ≡ next → ⊥))
       → All GoodRun pre → keep (E .on) (ring place j (pre ++ es) 0) ≡ keep (E .on) (ring place t es 0)
@@ -74,7 +72,7 @@ module _ {Fits : ℕ → ℕ → Type 0} {place : ℕ → ℕ → ℕ → Point}
       table-map (E .along) (λ i. place k (e .q i) 0) n
       ∙ table-same _ (e .q) n (λ i l. sees .at (e .q i) (good-to g i (omega arith)))
 
-  -- points inside are not seen
+  -- inner points do not lie on E
   outside : (s l : List Point) → All (λ p. 0 < depth p) l → keep (E .on) (s ++ l) ≡ keep (E .on) s
   outside s l h = keep-append (E .on) s l ∙ rw (keep-none (E .on) (all-more (λ p d. off p (sees .inside p d)) h), append-nil)
 
@@ -84,7 +82,7 @@ module _ {Fits : ℕ → ℕ → Type 0} {place : ℕ → ℕ → ℕ → Point}
   unfolding ring keep
   all-far post j h clear gs = rw append-nil at (skip post j (j + length post) [] refl h (λ i u v. clear i u (omega arith)) gs)
 
-  -- an edge whose next stands after it
+  -- an edge before the last: the next run follows it
   module _ (pre : List Run) (e e′ : Run) (post : List Run) (l : List Point)
       (a : length pre ≡ k) (b : suc k ≡ next) (h : suc (suc (k + length post)) ≤ sides)
       (gs : All GoodRun pre) (g : GoodRun e) (g′ : GoodRun e′) (gs′ : All GoodRun post) (deep : All (λ p. 0 < depth p) l) where
@@ -106,7 +104,7 @@ module _ {Fits : ℕ → ℕ → Type 0} {place : ℕ → ℕ → ℕ → Point}
     unfolding places
     places-middle = rw (keep-middle, along-is e (suc (e .c)) g (omega arith)) (good-sorted g)
 
-  -- the last edge, whose next stands first
+  -- the last edge: the next run is the first
   module _ (e′ : Run) (pre : List Run) (e : Run) (l : List Point) (a : suc (length pre) ≡ k) (b : next ≡ 0) (h : suc k ≡ sides)
       (g′ : GoodRun e′) (gs : All GoodRun pre) (g : GoodRun e) (deep : All (λ p. 0 < depth p) l) where
     keep-last : keep (E .on) (ring place 0 (e′ ∷ (pre ++ (e ∷ []))) 0 ++ l) ≡ place k 65536 0 ∷ edge k e
@@ -123,12 +121,12 @@ module _ {Fits : ℕ → ℕ → Type 0} {place : ℕ → ℕ → ℕ → Point}
     unfolding places
     places-last = rw (keep-last, sees .at 65536 (omega arith), along-is e (e .c) g (omega arith), ← (g .last)) (good-rotated g)
 
--- all edges of an outline with points inside, where each edge sees its own
+-- all edges of an outline with inner points, if each edge has its own points on it
 module _ {sides : ℕ} {Fits : ℕ → ℕ → Type 0} {place : ℕ → ℕ → ℕ → Point} {depth : Point → ℕ} {gain : ℕ → ℕ}
     {mark : ℕ → Point → ℕ} {aim : ℕ → ℕ} {edge : ℕ → OuterEdge} (shape : Shape sides Fits place depth gain) (two : 2 ≤ sides)
     (sees : (k : ℕ) → k < sides → Sees place depth sides k (after sides k) (mark k) (aim k) (edge k))
     (rest : List Point) (deep : All (λ p. 0 < depth p) rest) where
-  -- from edge k on, where the edges before it are `pre`
+  -- from edge k on, where `pre` are the edges before it
   placed-from : (k : ℕ) (pre es : List Run) → length pre ≡ k → k + length es ≡ sides → All GoodRun pre → All GoodRun es
       → Placed edge (ring place 0 (pre ++ es) 0 ++ rest) k es
   placed-from k pre [] a b gs none = tt

@@ -1,5 +1,4 @@
--- The plain patches: the corners alone.
--- Assumes nothing.
+-- The plain patches: only corners. Assumes nothing.
 use mathlib.Core.Path.{refl}
 use mathlib.Core.Bool.{Bool}
 use mathlib.Core.List.{[], _∷_}

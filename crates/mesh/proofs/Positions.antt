@@ -1,5 +1,4 @@
--- The positions of an edge's points, for any segments that a level gives, are good places.
--- Assumes nothing.
+-- The positions of an edge's points, for any valid n and L, are good places. Assumes nothing.
 use Prim.Native.Nat.{ℕ}
 use Rattle.level.specs.Segments.{Valid}
 use Rattle.edge.specs.Positions.{position}

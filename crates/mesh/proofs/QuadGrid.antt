@@ -1,5 +1,4 @@
--- The inner grid of a quad patch lies inside the outline, and no two of its points are equal.
--- Assumes nothing.
+-- The inner grid of a quad patch lies inside the outline, and its points are distinct. Assumes nothing.
 use Prim.Native.Nat.{suc, _-_, _<_}
 use mathlib.Core.Path.{ap}
 use native.Mathlib.Omega.{arith}

@@ -1,5 +1,4 @@
--- A quad patch's triangles cover it.
--- Assumes nothing.
+-- The triangles of a quad patch cover it. Assumes nothing.
 use Prim.Native.Nat.{ℕ, _+_, _-_, _*_, _≤_}
 use mathlib.Core.Path.{_≡_, refl, _∙_}
 use mathlib.Core.Bool.{Bool}
@@ -26,7 +25,7 @@ use Rattle.mesh.proofs.QuadPlace.{square}
 use Rattle.mesh.proofs.QuadGrid.{inner-deep, inner-distinct}
 use Rattle.mesh.proofs.QuadTurns.{quad-turns}
 
--- how many points there are
+-- the number of points
 pub quad-patch-length : (e0 e1 e2 e3 rows columns : Run)
     → length (quadPatch e0 e1 e2 e3 rows columns) ≡ quadPoints (e0 .c) (e1 .c) (e2 .c) (e3 .c) (rows .c) (columns .c)
 quad-patch-length e0 e1 e2 e3 rows columns = simp (length-append, ring-length, grid-length) (omega arith)

@@ -1,5 +1,4 @@
--- The points of a quad patch in the frame of each edge.
--- Assumes nothing.
+-- The points of a quad patch in the frame of each edge. Assumes nothing.
 use Prim.Native.Nat.{ℕ, zero, suc, _+_, _-_, _*_, _≤_, _<_, min}
 use mathlib.Core.Path.{_≡_, refl, ap}
 use native.Mathlib.Omega.{arith}
@@ -9,11 +8,11 @@ use Rattle.mesh.proofs.Signed.{cross}
 use Rattle.mesh.proofs.Frame.{Frame, times}
 use Rattle.mesh.proofs.Shape.{Shape, same-point}
 
--- a place lies on its edge, and so many units in
+-- a place on its edge, and a depth
 abbrev pub QuadFits : ℕ → ℕ → Type 0
 QuadFits x d = (x ≤ 65536) × (d ≤ 65536)
 
--- edges 0 and 2 have one coordinate turned round, edge 3 both
+-- edges 0 and 2 reverse one coordinate, edge 3 both
 module _ (x d y e z f : ℕ) (l : y * d + z * e + x * f < x * e + y * f + z * d) where
   module _ (a b c : ℕ) (h : a + x ≡ 65536) (i : b + y ≡ 65536) (j : c + z ≡ 65536) where
     along : d * c + f * b + e * a < d * b + e * c + f * a
@@ -74,7 +73,7 @@ inset-rim (suc (suc zero)) x h = omega arith
 inset-rim (suc (suc (suc zero))) x h = omega arith
 inset-rim (suc (suc (suc (suc k)))) x h = inset-rim k x h
 
--- what a segment of edge k of the outline gains for each unit
+-- how much a segment of edge k of the outline gains per unit
 abbrev pub quadGain : ℕ → ℕ
 quadGain zero = 0
 quadGain (suc zero) = 0

@@ -1,5 +1,4 @@
--- The places along a quad patch's outer edges are those asked, and read the same from either end.
--- Assumes nothing.
+-- The places along a quad patch's outer edges are those of its runs, and mirror. Assumes nothing.
 use Prim.Native.Nat.{ℕ, zero, suc, _≤_, _<_}
 use mathlib.Core.Path.{_≡_, refl}
 use mathlib.Core.List.{List, [], _∷_, _++_}
@@ -14,7 +13,7 @@ use Rattle.mesh.proofs.Places.{after, Sees, outline-places}
 use Rattle.mesh.proofs.QuadPlace.{square, inset}
 use Rattle.mesh.proofs.QuadGrid.{inner-deep}
 
--- edge k is where this coordinate is so much
+-- edge k is where this coordinate equals `aim k`
 abbrev mark : ℕ → Point → ℕ
 mark zero p = p .u
 mark (suc zero) p = p .v
@@ -62,7 +61,7 @@ others (suc (suc (suc zero))) (suc (suc (suc zero))) x h l m n z e = absurd (m r
 others (suc (suc (suc zero))) (suc (suc (suc (suc j)))) x h l m n z e = absurd (omega arith)
 others (suc (suc (suc (suc k)))) j x h l m n z e = absurd (omega arith)
 
--- a point inside lies on no edge
+-- an inner point lies on no edge
 inner : (k : ℕ) (p : Point) → 0 < inset p → mark k p ≡ aim k → ⊥
 inner zero p h e = omega arith
 inner (suc zero) p h e = omega arith
@@ -79,7 +78,7 @@ sees k h = record {
 }
 
 module _ (e0 e1 e2 e3 : Run) (g0 : GoodRun e0) (g1 : GoodRun e1) (g2 : GoodRun e2) (g3 : GoodRun e3) where
-  -- of an outline with points inside
+  -- for an outline with inner points
   pub quad-outline-places : (rest : List Point) → All (λ p. 0 < inset p) rest
       → Placed quadEdge (ring quadPlace 0 (e0 ∷ e1 ∷ e2 ∷ e3 ∷ []) 0 ++ rest) 0 (e0 ∷ e1 ∷ e2 ∷ e3 ∷ [])
   quad-outline-places rest deep =

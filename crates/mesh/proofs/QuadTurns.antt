@@ -1,5 +1,4 @@
--- Every triangle of a quad patch turns the positive way.
--- Assumes nothing.
+-- Every triangle of a quad patch has the positive orientation. Assumes nothing.
 use Prim.Native.Nat.{ℕ, zero, suc, _+_, _-_, _≤_, _<_}
 use mathlib.Core.Path.{_≡_, refl, _∙_}
 use mathlib.Core.List.{List, [], _∷_, _++_}
@@ -23,11 +22,11 @@ unfolding joined
 joined-all Q L zero h = none
 joined-all Q L (suc n) h = all-append _ (joined-all Q L n (λ k l. h k (omega arith))) (h n (omega arith))
 
--- the inner places read the same from either end
+-- the inner places mirror
 back : {e : Run} → GoodRun e → (i j : ℕ) → i + j + 2 ≡ e .c → e .q (suc j) ≡ 65536 - e .q (suc i)
 back {e} g i j h = let z : suc j ≡ e .c - suc i = omega arith in rw z (omega (arith, g .mirrors (suc i) (omega arith)))
 
--- where the points of rows and columns are the inner grid's
+-- the vertices N r c are the points of the inner grid
 module _ (P : ℕ → Point) (rows columns : Run) (gr : GoodRun rows) (gc : GoodRun columns)
     (hr : 2 ≤ rows .c) (hc : 2 ≤ columns .c) (N : ℕ → ℕ → ℕ)
     (is : (r c : ℕ) → r ≤ rows .c - 2 → c ≤ columns .c - 2 → P (N r c) ≡ inner rows columns r c) where
@@ -46,7 +45,7 @@ module _ (P : ℕ → Point) (rows columns : Run) (gr : GoodRun rows) (gc : Good
   cells-turn : All (Turns P) (cells N (rows .c - 2) (columns .c - 2))
   cells-turn = joined-all _ _ _ (λ r u. joined-all _ _ _ (λ c v. cell-turns r c u v))
 
-  -- a line of inner points along the places of e, d units in from edge k
+  -- a line of inner points at the places of e, d units inside edge k
   inner-line : (k : ℕ) (e : Run) (d : ℕ) (row column : ℕ → ℕ) → GoodRun e → d < 65536
       → ((i : ℕ) → i ≤ e .c - 2 → (row i ≤ rows .c - 2) × (column i ≤ columns .c - 2))
       → ((i : ℕ) → i ≤ e .c - 2 → inner rows columns (row i) (column i) ≡ quadPlace k (e .q (suc i)) d)

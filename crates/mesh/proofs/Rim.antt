@@ -1,5 +1,4 @@
--- What the pieces of a ring of edges weigh, where a segment of edge k from x to y gains `g k y` less `g k x`.
--- Assumes nothing.
+-- Sums over the pieces of a ring of edges, where a segment of edge k from x to y gains `g k y` minus `g k x`. Assumes nothing.
 use Prim.Native.Nat.{ℕ, zero, suc, _+_, _≤_, _<_}
 use mathlib.Core.Path.{_≡_, refl, ap, sym, _∙_}
 use mathlib.Core.List.{List, [], _∷_}
@@ -16,12 +15,12 @@ use Rattle.mesh.proofs.Shape.{Shape}
 use Rattle.mesh.proofs.Members.{sum, sum-append}
 use Rattle.mesh.proofs.Walk.{walk, walked, walk-append}
 
--- the gains of the n edges from k on
+-- the sum of the gains of n edges from k on
 abbrev pub gained : (ℕ → ℕ) → ℕ → ℕ → ℕ
 gained g k zero = 0
 gained g k (suc n) = g k + gained g (suc k) n
 
--- a side by its ends
+-- a side by its end points
 abbrev pub joining : Point → Point → Side
 joining p q = record { start = p; end = q }
 
@@ -30,7 +29,7 @@ unfolding table
 table-head P zero = refl
 table-head P (suc n) = refl
 
--- along a line of points, by what each segment gains
+-- along a line of points, by the gain of each segment
 line-gains : (f g : Side → ℕ) (P : ℕ → Point) (x : ℕ → ℕ) (n : ℕ)
     → ((i : ℕ) → i < n → f (joining (P i) (P (suc i))) + x i ≡ g (joining (P i) (P (suc i))) + x (suc i))
     → sum f (walk (P n) (table P n)) + x 0 ≡ sum g (walk (P n) (table P n)) + x n
@@ -50,7 +49,7 @@ module _ {sides : ℕ} {Fits : ℕ → ℕ → Type 0} {place : ℕ → ℕ → 
       List·getD-append (table _ (e .c)) (ring place (suc k) es 0) z 0 (rw length-table (good-some g))
       ∙ get-table (λ i. place k (e .q i) 0) (e .c) z 0 (good-some g) ∙ ap (λ x. place k x 0) (g .first)
 
-  -- also where no edge is left, and the walk is back at the start
+  -- also if no edge is left, and the walk is back at the start
   ring-start : (k : ℕ) (es : List Run) (z : Point) → k + length es ≡ sides → All GoodRun es → z ≡ place sides 0 0
       → getD (ring place k es 0) 0 z ≡ place k 0 0
   unfolding ring

@@ -1,5 +1,4 @@
--- The points of a ring, for any number of edges: how many, where they lie, and that no two are equal.
--- Assumes nothing.
+-- The points of a ring of any number of edges: how many there are, where they lie, and that they are distinct. Assumes nothing.
 use Prim.Native.Nat.{ℕ, suc, _+_, _≤_, _<_}
 use mathlib.Core.Path.{_≡_, refl, sym, _∙_}
 use mathlib.Core.List.{List, [], _∷_, _++_}
@@ -16,7 +15,7 @@ use Rattle.mesh.proofs.Lists.{All, none, more, all-append, all-more, al
 use Rattle.mesh.proofs.Edge.{Span, span-less, span-from, span-to, span-before}
 use Rattle.mesh.proofs.Shape.{Shape}
 
--- a list of points that starts with a table, and what stands after
+-- a table at the front of a list of points
 pub table-at : (f : ℕ → Point) (n : ℕ) (l : List Point) (i : ℕ) → i < n → at (table f n ++ l) i ≡ f i
 table-at f n l i h = List·getD-append (table f n) l missing i (rw length-table h) ∙ get-table f n missing i h
 
@@ -30,7 +29,7 @@ ring-length place k (e ∷ es) d = simp (length-append, length-table) (omega (ar
 
 module _ {sides : ℕ} {Fits : ℕ → ℕ → Type 0} {place : ℕ → ℕ → ℕ → Point} {depth : Point → ℕ} {gain : ℕ → ℕ}
     (shape : Shape sides Fits place depth gain) where
-  -- a point of edge k, d units in, before the edge's end; and a point of edge k or a later one
+  -- a point of edge k, d units inside, before the end of the edge; and a point of edge k or a later one
   abbrev On : ℕ → ℕ → Point → Type 0
   On d k p = (x : ℕ) × (d ≤ x) × (x + d < 65536) × (p ≡ place k x d)
 
@@ -65,7 +64,7 @@ module _ {sides : ℕ} {Fits : ℕ → ℕ → Type 0} {place : ℕ → ℕ → 
       fits : (i : ℕ) → i ≤ e .c → Fits (e .q i) d
       fits i l = shape .fits _ _ (span-from s i l) (span-to s i l)
 
-  -- a law of places holds of the points of a ring
+  -- a property of all places holds for the points of a ring
   pub ring-all : (Q : Point → Type 0) (d : ℕ) → ((k x : ℕ) → d ≤ x → x + d ≤ 65536 → Q (place k x d))
       → (k : ℕ) (es : List Run) → All (Span d) es → All Q (ring place k es d)
   unfolding ring

@@ -1,5 +1,4 @@
--- The points of a triangle patch by their vertex numbers, and how many there are.
--- Assumes nothing.
+-- The points of a triangle patch by vertex number, and their number. Assumes nothing.
 use Prim.Native.Nat.{ℕ, zero, suc, _+_, _-_, _*_, _≤_, _<_}
 use mathlib.Core.Path.{_≡_, refl, _∙_}
 use native.Mathlib.Omega.{arith}
@@ -18,7 +17,7 @@ use Rattle.mesh.specs.RingPoints.{segments}
 use Rattle.mesh.proofs.Ring.{past, ring-length}
 use Rattle.mesh.proofs.OuterRing.{around-table, ring-at}
 
--- ---- the points by their numbers
+-- ---- the points by vertex number
 -- how many points the outer ring has
 abbrev size : (ℕ → Run) → ℕ
 size e = sum (segments e) 3
@@ -40,7 +39,7 @@ module _ (d : ℕ) where
       List·getD-append (ring trianglePlace 0 (table e 3) d) _ missing (sum (segments e) k + i)
       (omega (arith, outer-length e, sum-within (segments e) 3 k i h l)) ∙ ring-at trianglePlace d 3 e 0 k i h l ∙ rw (zero-add k)
 
-  -- the rest of the list is that of the next ring
+  -- the rest of the list belongs to the rings inside
   inside-at : (r : ℕ) (e : ℕ → Run) (q : ℕ → ℕ) (m m′ : ℕ) → m ≡ size e + m′
       → at (rings (table e 3) d q (suc (suc r))) m ≡ at (rings (table (next q r) 3) (q 1) (λ i. q (suc i)) r) m′
   unfolding rings table

@@ -1,5 +1,4 @@
--- The points of a triangle patch are, one by one, those that document 01 lists ring after ring, and no other list has them.
--- Assumes nothing.
+-- The points of a triangle patch are exactly those that document 01 lists, ring by ring. Assumes nothing.
 use Prim.Native.Nat.{ℕ, zero, suc, _+_, _-_, _*_, _/_, _%_, _≤_, _<_}
 use mathlib.Core.Path.{_≡_, sym, _∙_}
 use mathlib.Core.Logic.{_↔_}
@@ -24,7 +23,7 @@ use Rattle.mesh.proofs.Located.{located}
 use Rattle.mesh.proofs.RingAt.{outer-at, inner-at, even-end, odd-end}
 use Rattle.mesh.proofs.OnEdge.{on-triangle, same-on-triangle, edge-end}
 
--- ---- two lists that have them are one
+-- ---- two lists of these points are equal
 module _ {e : ℕ → Run} {inside : Run} {ps ps′ : List Point} (a : RingPoints e inside ps) (b : RingPoints e inside ps′) where
   same-vertex : (j k o : ℕ) → 2 * j < inside .c → k < 3 → o < ringSegments (segments e) (inside .c) j k
       → at ps (vertexOn (segments e) (inside .c) j k o) ≡ at ps′ (vertexOn (segments e) (inside .c) j k o)
@@ -66,8 +65,8 @@ module _ {e : ℕ → Run} {inside : Run} {ps ps′ : List Point} (a : RingPoint
         | no l ↦ rings-even h (omega arith)
       ]
 
--- ---- an edge's end is the next edge's start
--- the edges of ring j, whose point i of edge k lies at the place x k i
+-- ---- the end of an edge is the start of the next
+-- the edges of ring j; point i of edge k is at place x k i
 record Corners (c : ℕ → ℕ) (n j d : ℕ) (x : ℕ → ℕ → ℕ) : Type 0 where
   some : (k : ℕ) → k < 3 → 0 < ringSegments c n j k
   first : (k : ℕ) → k < 3 → x k 0 ≡ d
@@ -87,7 +86,7 @@ module _ (ps : List Point) (c : ℕ → ℕ) (n j d : ℕ) (x : ℕ → ℕ → 
     | no m ↦ let e : i ≡ ringSegments c n j k = omega arith in rw e (at-end k h)
   ]
 
--- ---- the patch's list is the one
+-- ---- `trianglePatch` is such a list
 module _ (e : ℕ → Run) (inside : Run) (outer-good : (k : ℕ) → k < 3 → GoodRun (e k)) (good : GoodRun inside) where
   abbrev listed : List Point
   listed = trianglePatch (e 0) (e 1) (e 2) inside
@@ -150,6 +149,6 @@ module _ (e : ℕ → Run) (inside : Run) (outer-good : (k : ℕ) → k < 3 → 
     odd = λ h g. odd-end n e 0 (inside .q) h g;
   }
 
-  -- a list is that of the patch exactly where its points are, one by one, those of the rings
+  -- a list is that of the patch exactly if its points are those of the rings
   pub rings-exactly : (ps : List Point) → (ps ≡ trianglePatch (e 0) (e 1) (e 2) inside) ↔ RingPoints e inside ps
   rings-exactly ps = (λ h. rw h rings-listed, λ h. rings-only h rings-listed)

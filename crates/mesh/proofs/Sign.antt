@@ -1,5 +1,4 @@
--- Signs of areas as comparisons of numbers.
--- Assumes nothing.
+-- Signs of areas as comparisons of natural numbers. Assumes nothing.
 use Prim.Native.Nat.{ℕ, zero, suc, _-_, _<_}
 use mathlib.Core.Path.{_≡_}
 use mathlib.Core.Bool.{Bool, true, false}
@@ -11,7 +10,7 @@ use Rattle.mesh.proofs.Signed.{Is, is-above, is-below, is-area, loop}
 use Rattle.mesh.proofs.Frame.{Left}
 use Rattle.mesh.specs.Held.{Spot, corner, areaTo, Holds, Between, OnSide}
 
--- the larger comes first, or last where the turn asked is the negative one
+-- the first is larger, or, for the negative orientation, the second
 abbrev Ahead : Bool → ℕ → ℕ → Type 0
 Ahead true a b = b < a
 Ahead false a b = a < b
@@ -31,13 +30,13 @@ ahead-sign : (b : Bool) (z : ℤ) (x y : ℕ) → Is z x y → Ahead b x y → H
 ahead-sign true z x y h l = record { size = x - y; above = omega arith; is = is-above z x y (x - y) h (omega arith) }
 ahead-sign false z x y h l = record { size = y - x; above = omega arith; is = is-below z x y (y - x) h (omega arith) }
 
--- s lies to the left of each side of P, Q, R
+-- s lies on the left of each side of P, Q, R
 pub record Holding (p q r s : Point) : Type 0 where
   pub pq : Left p q s
   pub qr : Left q r s
   pub rp : Left r p s
 
--- the triangle as it turns the positive way
+-- the triangle with its corners in positive orientation
 abbrev pub second : Bool → Face → Point
 second true t = t .q
 second false t = t .r
@@ -71,7 +70,7 @@ pub left-turned : (b : Bool) (t : Face) → Left (t .p) (second b t) (third b t)
 left-turned true t h = ahead-sign true _ _ _ (is-area t) h
 left-turned false t h = ahead-sign false _ _ _ (is-area t) h
 
--- the spot is on the segment, by numbers
+-- the spot lies on the segment, as equations of natural numbers
 pub record Touches (p q s : Point) : Type 0 where
   pub straight : loop p q s ≡ loop p s q
   pub along-u : Between (p .u) (q .u) (s .u)

@@ -1,5 +1,4 @@
--- Whole numbers as differences of naturals.
--- Assumes nothing.
+-- Integers as differences of natural numbers. Assumes nothing.
 use Prim.Native.Nat.{ℕ, zero, suc, _+_, _-_, _*_}
 use mathlib.Core.Path.{_≡_, refl, ap}
 use mathlib.Core.Bool.{Bool, true, false, cond}
@@ -51,7 +50,7 @@ is-mul (pos m) (negsuc n) a b c d h k = is-same (negℤ (pos (m * suc n))) _ _ _
 is-mul (negsuc m) (pos n) a b c d h k = is-same (negℤ (pos (suc m * n))) _ _ _ _ (is-product (suc m) n) (rw (← h, k) (omega arith))
 is-mul (negsuc m) (negsuc n) a b c d h k = rw (← h, ← k) (omega arith)
 
--- a difference of two naturals of which one is larger
+-- a difference of two natural numbers, one of which is larger
 pub is-above : (z : ℤ) (a b n : ℕ) → Is z a b → a ≡ b + n → z ≡ pos n
 is-above (pos m) a b n h e = ap pos (omega arith)
 is-above (negsuc m) a b n h e = absurd (omega arith)
@@ -61,7 +60,7 @@ is-below (pos zero) a b n h e = let l : n ≡ 0 = omega arith in rw l
 is-below (pos (suc m)) a b n h e = absurd (omega arith)
 is-below (negsuc m) a b n h e = let l : n ≡ suc m = omega arith in rw l
 
--- the sides' weights uP·vQ: twice the area of P, Q, R is what they weigh less what they weigh turned round
+-- the weight uP·vQ of a side: twice the area of P, Q, R is the sum over the sides, minus the sum over their reverses
 abbrev pub cross : Point → Point → ℕ
 cross p q = p .u * q .v
 

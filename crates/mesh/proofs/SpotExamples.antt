@@ -1,5 +1,4 @@
--- Spots of the plain quad patch, whose two triangles meet on the diagonal from (0, 1) to (1, 0).
--- Assumes nothing.
+-- Spots of the plain quad patch, whose two triangles meet at the diagonal from (0, 1) to (1, 0). Assumes nothing.
 use Prim.Native.Nat.{ℕ, zero, suc}
 use mathlib.Core.Path.{_≡_, refl}
 use mathlib.Core.Bool.{true}
@@ -17,7 +16,7 @@ use Rattle.mesh.specs.Held.{Holds, OnSide, Clear, face, HeldOnce}
 use Rattle.mesh.specs.Domain.{square}
 use Rattle.mesh.proofs.Once.{cover-once}
 
--- its triangles, turned the positive way
+-- the triangles of the patch, in positive orientation
 abbrev plain : List Face
 plain = facesOf true quadCorners (plainQuad 0)
 
@@ -33,7 +32,7 @@ first-holds = record {
   rp = record { size = 4294770688; above = omega arith; is = refl };
 }
 
--- (1, 65535) is on the diagonal, and a spot in line with a side may lie past its end
+-- (1, 65535) lies on the diagonal; a spot in line with a side may lie beyond its end
 on-diagonal : OnSide diagonal (record { u = 1; v = 65535 })
 unfolding twiceArea
 on-diagonal = record { straight = refl; along-u = omega arith; along-v = omega arith }
@@ -41,7 +40,7 @@ on-diagonal = record { straight = refl; along-u = omega arith; along-v = omega a
 past-end : OnSide (record { start = record { u = 3; v = 1; w = 0 }; end = record { u = 3; v = 2; w = 0 } }) (record { u = 3; v = 5 }) → ⊥
 past-end h = omega (arith, h .along-v)
 
--- (1, 2) is on no side, so exactly one triangle holds it
+-- (1, 2) lies on no side, so exactly one triangle holds it
 apart : OnSide diagonal (record { u = 1; v = 2 }) → ⊥
 unfolding twiceArea
 apart h = let e : _≡_ {A = ℕ} 4294770688 0 = cc (h .straight) in omega arith

@@ -1,6 +1,5 @@
--- Stokes' law of a mesh that covers its patch: for every weight of directed sides, what the sides weigh
--- less what they weigh reversed is the same of the outline.
--- Assumes nothing.
+-- Stokes' theorem for a mesh that covers its patch: for every weight of directed sides, the sum over the sides minus the sum
+-- over their reverses is the same as for the outline. Assumes nothing.
 use Prim.Native.Nat.{ℕ, _+_, _≤_, _<_}
 use mathlib.Core.Path.{_≡_, ap, sym, _∙_}
 use mathlib.Core.Logic.{_⊎_, inl, inr, ⊎-elim}
@@ -14,11 +13,11 @@ use Rattle.mesh.proofs.Lists.{Distinct, distinct-append}
 use Rattle.mesh.proofs.Members.{sum, sum-append, sum-map, member-at, at-member, all-members, distinct-places, distinct-map, within-sum}
 use Rattle.mesh.proofs.Walk.{pieces, each-piece, piece-member, pieces-distinct}
 
--- the weight of the side reversed
+-- the weight of the reversed side
 abbrev pub back : (Side → ℕ) → Side → ℕ
 back f s = f (reversed s)
 
--- no side of ss occurs twice, and each meets its own reverse, but for the pieces ps of an outline
+-- no side of ss occurs twice, and each has its reverse in ss, except the pieces ps of an outline
 pub record Closed (ss ps : List Side) : Type 0 where
   pub single : Distinct ss
   pub apart : Distinct ps
@@ -27,7 +26,7 @@ pub record Closed (ss ps : List Side) : Type 0 where
   pub closed : (x : Side) → List·Memᴰ x ss → List·Memᴰ x ps ⊎ List·Memᴰ (reversed x) ss
 
 module _ {ss ps : List Side} (c : Closed ss ps) where
-  -- with the pieces reversed, each side meets its own reverse
+  -- with the reversed pieces added, each side has its reverse
   abbrev all : List Side
   all = ss ++ map reversed ps
 
@@ -60,7 +59,7 @@ module _ {ss ps : List Side} (c : Closed ss ps) where
     sum-map reversed (back f) ps,
   )
 
--- a mesh is such by four sentences of `Cover`: `single`, `outlined`, `outside` and `closed`
+-- four fields of `Cover` give this for a mesh: `single`, `outlined`, `outside` and `closed`
 pub sides-closed : (b : Bool) (outline : List Point) (faces : List Face)
     → ((i j : ℕ) → i < length (sides faces) → j < length (sides faces) → side (sides faces) i ≡ side (sides faces) j → i ≡ j)
     → ((k : ℕ) → k < length outline → Occurs (piece b outline k) (sides faces))

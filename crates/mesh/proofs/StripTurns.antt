@@ -1,5 +1,4 @@
--- Every triangle of a strip turns the positive way, in any frame and by any rule; so does every triangle of a band.
--- Assumes nothing.
+-- Every triangle of a strip has the positive orientation, in any frame and under any rule; so does every triangle of a band. Assumes nothing.
 use Prim.Native.Nat.{ℕ, zero, suc, _+_, _≤_, _<_}
 use mathlib.Core.Path.{_≡_}
 use mathlib.Core.Bool.{Bool, true, false}
@@ -19,7 +18,7 @@ use Rattle.mesh.proofs.Frame.{Left, Frame, rise}
 abbrev pub Turns : (ℕ → Point) → Triangle → Type 0
 Turns P t = Left (P (t .a)) (P (t .b)) (P (t .c))
 
--- the points A 0, .., A n are a line d units in, at the rising places x
+-- the vertices A 0, .., A n are a line d units inside, at the rising places x
 pub record Line (Fits : ℕ → ℕ → Type 0) (spot : ℕ → ℕ → Point) (P : ℕ → Point) (A x : ℕ → ℕ) (n d : ℕ) : Type 0 where
   pub drawn : (i : ℕ) → i ≤ n → P (A i) ≡ spot (x i) d
   pub fits : (i : ℕ) → i ≤ n → Fits (x i) d
@@ -45,8 +44,8 @@ module _ {Fits : ℕ → ℕ → Type 0} {spot : ℕ → ℕ → Point} (frame :
   strip-turns : All (Turns P) (strip A B p r)
   strip-turns = walk-turns (outerNext p r) (rule p r) (p + r) 0 0 (start p r)
 
--- the two lines of each edge of a band, in the frames of the patch's edges k, k + 1, ..:
--- the outer goes along F from its o-th point on, and the inner lies deeper
+-- the two lines of each edge of a band, in the frames of the edges k, k + 1, ..: the outer line follows F from its vertex o on,
+-- and the inner line lies deeper
 pub data Strung (Fits : ℕ → ℕ → Type 0) (place : ℕ → ℕ → ℕ → Point) (P : ℕ → Point) (F : ℕ → ℕ) : ℕ → ℕ → List Edge → Type 0 where
   done : {k o : ℕ} → Strung Fits place P F k o []
   along : {k o : ℕ} {e : Edge} {es : List Edge} {x y : ℕ → ℕ} {d f : ℕ} → d < f

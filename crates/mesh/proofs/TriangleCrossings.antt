@@ -1,6 +1,5 @@
--- A triangle that turns the positive way is crossed going up once more than going down by the half line
--- from a spot that it holds, and as often by that from any other spot that lies on none of its sides.
--- Assumes nothing.
+-- The ray from a spot crosses the sides of a triangle of positive orientation once more upwards than downwards if the triangle
+-- holds the spot, and equally often otherwise, if the spot is on none of the sides. Assumes nothing.
 use Prim.Native.Nat.{ℕ, _+_, _*_, _≤_, _<_}
 use mathlib.Core.Path.{_≡_, ap}
 use mathlib.Core.Logic.{_⊎_, inl, inr}
@@ -14,14 +13,14 @@ use Rattle.mesh.proofs.Sign.{Holding, Touches, touches-back}
 use Rattle.mesh.proofs.Crossing.{up, rise-or-equal, up-one, up-above, up-below, up-right, beside}
 use Rattle.mesh.proofs.Weights.{Mean, mean-of, mean-turn, mean-swap, one-below, two-below, two-level, all-above, all-level}
 
--- the crossings of the triangle's sides, and of the sides reversed
+-- the upward crossings of the triangle's sides, and of the reversed sides
 abbrev pub ups : Point → Point → Point → Point → ℕ
 ups s p q r = up s p q + up s q r + up s r p
 
 abbrev pub downs : Point → Point → Point → Point → ℕ
 downs s p q r = up s q p + up s r q + up s p r
 
--- the triangle turns the positive way, and the spot is on none of its sides
+-- the triangle has the positive orientation, and the spot lies on none of its sides
 pub record Off (p q r s : Point) : Type 0 where
   pub turns : Left p q r
   pub pq : Touches p q s → ⊥
@@ -38,7 +37,7 @@ turn : {p q r s : Point} → Count q r p s → Count p q r s
 turn = counted-as (λ h. record { pq = h .rp; qr = h .pq; rp = h .qr }) (λ h. record { pq = h .qr; qr = h .rp; rp = h .pq })
     (omega arith) (omega arith)
 
--- a spot level with P and Q, and on the inner side of the two other sides, is on P→Q
+-- a spot at the height of P and Q, on the inner side of the two other sides, lies on P→Q
 level-touches : (p q r s : Point) → (p .v ≡ s .v) × (q .v ≡ s .v) → s .v < r .v → Left q r s → Left r p s → Touches p q s
 level-touches p q r s (h, k) l b c = record {
   straight = omega (arith, level (p .u), level (q .u), level (s .u));
@@ -65,7 +64,7 @@ module _ (p q r s : Point) (o : Off p q r s) where
   off-pr : Touches p r s → ⊥
   off-pr t = o .rp (touches-back t)
 
-  -- only P is not above the spot
+  -- P is the only corner not above the spot
   one : p .v ≤ s .v → s .v < q .v → s .v < r .v → Count p q r s
   one h k l = go (beside s p q h k (o .pq)) (beside s p r h l off-pr)
     where
@@ -80,7 +79,7 @@ module _ (p q r s : Point) (o : Off p q r s) where
       go (inr a) (inr c) = never (λ i. omega (arith, i .pq)) (omega (arith, flat, up-right s p q (omega arith), up-right s p r (omega arith)))
       go (inr a) (inl c) = absurd (omega (arith, o .turns, one-below (mean-swap (mean-of p q r s)) h k l (omega arith) (omega arith)))
 
-  -- only R is above the spot
+  -- R is the only corner above the spot
   two : p .v ≤ s .v → q .v ≤ s .v → s .v < r .v → Count p q r s
   two h k l = go (beside s q r k l (o .qr)) (beside s p r h l off-pr)
     where
@@ -100,7 +99,7 @@ module _ (p q r s : Point) (o : Off p q r s) where
       go (inr b) (inr c) = never (λ i. omega (arith, i .qr)) (omega (arith, flat, up-right s q r (omega arith), up-right s p r (omega arith)))
       go (inr b) (inl c) = absurd (omega (arith, o .turns, two-below (mean-of p q r s) h k l (omega arith) (omega arith)))
 
-  -- all corners are above the spot, or none is
+  -- all corners are above the spot, or none are
   over : s .v < p .v → s .v < q .v → s .v < r .v → Count p q r s
   over h k l = never (λ i. all-above (mean-of p q r s) h k l (i .pq) (i .qr) (i .rp)) (omega (
     arith,

@@ -1,5 +1,4 @@
--- A triangle patch's triangles cover it.
--- Assumes nothing.
+-- The triangles of a triangle patch cover it. Assumes nothing.
 use Prim.Native.Nat.{ℕ, zero, suc, _+_, _≤_}
 use mathlib.Core.Path.{_≡_, refl}
 use mathlib.Core.Bool.{Bool}
@@ -21,7 +20,7 @@ use Rattle.mesh.proofs.TrianglePlace.{triangle}
 use Rattle.mesh.proofs.TriangleRings.{Front, rings-front, rings-length}
 use Rattle.mesh.proofs.TriangleTurns.{nest-turns}
 
--- how many points there are
+-- the number of points
 pub patch-length : (e0 e1 e2 inside : Run) → Edges (e0 .c) (e1 .c) (e2 .c) (inside .c)
     → length (trianglePatch e0 e1 e2 inside) ≡ points (e0 .c) (e1 .c) (e2 .c) (inside .c)
 patch-length e0 e1 e2 inside = rings-length (inside .c) e0 e1 e2 0 (inside .q)
@@ -52,7 +51,7 @@ module _ (e0 e1 e2 inside : Run) (g0 : GoodRun e0) (g1 : GoodRun e1) (g2 : GoodR
       (rw (zero-add (points (e0 .c) (e1 .c) (e2 .c) (inside .c))) at (nest-closes (inside .c) 0 (e0 .c) (e1 .c) (e2 .c) e)))
       (nest-stokes (inside .c) 0 (e0 .c) (e1 .c) (e2 .c) e) b)
 
-  -- any outer edges go with an inside of 2 segments or more
+  -- any outer edges go with an inner level of at least 2 segments
   pub edges-two : 2 ≤ inside .c → Edges (e0 .c) (e1 .c) (e2 .c) (inside .c)
   edges-two = go (inside .c)
     where

@@ -1,5 +1,4 @@
--- The points of a triangle patch in the frame of each edge.
--- Assumes nothing.
+-- The points of a triangle patch in the frame of each edge. Assumes nothing.
 use Prim.Native.Nat.{ℕ, zero, suc, _+_, _-_, _*_, _≤_, _<_, min}
 use mathlib.Core.Path.{_≡_, refl, ap}
 use native.Mathlib.Omega.{arith}
@@ -9,7 +8,7 @@ use Rattle.mesh.proofs.Signed.{cross}
 use Rattle.mesh.proofs.Frame.{Left, times}
 use Rattle.mesh.proofs.Shape.{Shape, same-point}
 
--- a place of the ring d units in lies between the ring's corners
+-- a place of the ring d units inside lies between the ring's corners
 abbrev pub Fits : ℕ → ℕ → Type 0
 Fits x d = (d ≤ x) × (x + d ≤ 65536)
 
@@ -59,7 +58,7 @@ apart (suc j) (suc zero) x y d l m a b c f e = omega arith
 apart (suc (suc j)) (suc (suc zero)) x y d l m a b c f e = omega arith
 apart j (suc (suc (suc k))) x y d l m a b c f e = omega arith
 
--- a point's least coordinate: twice the units that its ring lies in
+-- the least coordinate of a point: twice the depth of its ring
 abbrev pub least : Point → ℕ
 least p = min (p .u) (min (p .v) (p .w))
 
@@ -69,7 +68,7 @@ least-is (suc zero) x d h = omega arith
 least-is (suc (suc zero)) x d h = omega arith
 least-is (suc (suc (suc k))) x d h = least-is k x d h
 
--- what a segment of edge k of the outline gains for each unit
+-- how much a segment of edge k of the outline gains per unit
 abbrev pub gain : ℕ → ℕ
 gain zero = 0
 gain (suc zero) = 0
@@ -102,6 +101,6 @@ triangle = record {
   gains = gains;
 }
 
--- the centre is the ring of no segments
+-- the centre is a ring without segments
 pub middle : (d : ℕ) → d + d ≡ 65536 → centre ≡ trianglePlace 0 d d
 middle d h = same-point _ _ (omega arith) (omega arith) (omega arith)

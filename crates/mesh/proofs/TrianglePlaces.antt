@@ -1,5 +1,4 @@
--- The places along a triangle patch's outer edges are those asked, and read the same from either end.
--- Assumes nothing.
+-- The places along a triangle patch's outer edges are those of its runs, and mirror. Assumes nothing.
 use Prim.Native.Nat.{ℕ, zero, suc, _<_}
 use mathlib.Core.Path.{_≡_, refl}
 use mathlib.Core.List.{[], _∷_}
@@ -46,7 +45,7 @@ others (suc (suc zero)) (suc (suc zero)) x h l m n z e = absurd (m refl)
 others (suc (suc zero)) (suc (suc (suc j))) x h l m n z e = absurd (omega arith)
 others (suc (suc (suc k))) j x h l m n z e = absurd (omega arith)
 
--- a point inside lies on no edge
+-- an inner point lies on no edge
 inner : (k : ℕ) (p : Point) → 0 < least p → opposite k p ≡ 0 → ⊥
 inner zero p h e = omega arith
 inner (suc zero) p h e = omega arith

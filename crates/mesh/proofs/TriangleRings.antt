@@ -1,5 +1,4 @@
--- The rings of a triangle patch: how many points, how deep they lie, and that no two are equal.
--- Assumes nothing.
+-- The rings of a triangle patch: how many points they have, how deep these lie, and that they are distinct. Assumes nothing.
 use Prim.Native.Nat.{ℕ, zero, suc, _*_, _≤_, _<_}
 use mathlib.Core.Path.{_≡_, refl, ap, sym}
 use mathlib.Core.List.{List, [], _∷_, _++_, append-nil}
@@ -49,7 +48,7 @@ rings-distinct (suc (suc r)) es d q l v t ss =
     (ring-least es d ss) (rings-least r _ (q 1) (λ i. q (suc i)) w refl (inside-spans w)) (ring-distinct triangle 0 es d (omega arith) ss)
     (rings-distinct r _ (q 1) (λ i. q (suc i)) (omega arith) w refl (inside-spans w))
 
--- the ring's points come first; the others lie deeper, and no two of them are equal
+-- the ring's points come first; the others lie deeper and are distinct
 pub record Front (es : List Run) (d : ℕ) (l : List Point) : Type 0 where
   pub rest : List Point
   pub is : l ≡ ring trianglePlace 0 es d ++ rest

@@ -1,5 +1,4 @@
--- Every triangle of a triangle patch turns the positive way.
--- Assumes nothing.
+-- Every triangle of a triangle patch has the positive orientation. Assumes nothing.
 use Prim.Native.Nat.{ℕ, zero, suc, _+_, _-_, _*_, _≤_, _<_}
 use mathlib.Core.Path.{_≡_, refl, sym, ap, _∙_}
 use mathlib.Core.List.{[], _∷_, append-nil}
@@ -23,7 +22,7 @@ use Rattle.mesh.proofs.Lines.{Lines, ring-lines, first-lines}
 use Rattle.mesh.proofs.Inside.{Inside, inside-spans, inside-in}
 use Rattle.mesh.proofs.TrianglePlace.{Fits, triangle, middle}
 
--- the centre is the lines of a ring of no segments
+-- the centre as the lines of a ring without segments
 centre-lines : (P : ℕ → Point) (base : ℕ) (q : ℕ → ℕ) → Inside q 0 → ((k : ℕ) → P (base + k) ≡ at (centre ∷ []) k)
     → Lines triangle P (ringAt base 0) (q 0) 0 0 (alike q 0)
 unfolding ring table
@@ -31,7 +30,7 @@ centre-lines P base q v is =
     ring-lines triangle P base 0 (q 0) (alike q 0) (centre ∷ []) refl refl (inside-spans v)
     (rw (add-zero base) at (is 0) ∙ middle (q 0) (v .mirrors 0 0 refl)) is
 
--- the lines of a ring within
+-- the lines of an inner ring
 inner-lines : (P : ℕ → Point) (base : ℕ) (q : ℕ → ℕ) (n : ℕ) → Inside q n → ((k : ℕ) → P (base + k) ≡ at (rings (alike q n) (q 0) q n) k)
     → Lines triangle P (ringAt base (3 * n)) (q 0) 0 0 (alike q n)
 unfolding rings
@@ -62,7 +61,7 @@ line-at : (F : ℕ → ℕ) (o o′ : ℕ) {spot : ℕ → ℕ → Point} {P : �
     → Line Fits spot P (from o F) x n d → Line Fits spot P (from o′ F) x n d
 line-at F o o′ e l = rw e at l
 
--- where the points from number `base` on are the rings', the triangles on them turn
+-- if the points from number `base` on are those of the rings, the triangles on them have the positive orientation
 pub nest-turns : (P : ℕ → Point) (n base : ℕ) (e0 e1 e2 : Run) (d : ℕ) (q : ℕ → ℕ) → Inside q n → q 0 ≡ d → All (Span d) (e0 ∷ e1 ∷ e2 ∷ [])
     → Edges (e0 .c) (e1 .c) (e2 .c) n → ((k : ℕ) → P (base + k) ≡ at (rings (e0 ∷ e1 ∷ e2 ∷ []) d q n) k)
     → All (Turns P) (nest base (e0 .c) (e1 .c) (e2 .c) n)

@@ -1,5 +1,4 @@
--- The pieces of a closed outline as a list, in walk order.
--- Assumes nothing.
+-- The pieces of a closed outline as a list, in walk order. Assumes nothing.
 use Prim.Native.Nat.{ℕ, zero, suc, _<_}
 use mathlib.Core.Path.{_≡_, refl, ap, _∙_}
 use mathlib.Core.Bool.{Bool, true, false}
@@ -11,16 +10,16 @@ use Rattle.mesh.specs.Cover.{Side, reversed, missing, next, directed, pi
 use Rattle.mesh.proofs.Lists.{All, none, more, all-more, Distinct}
 use Rattle.mesh.proofs.Members.{member-at, at-member, distinct-map}
 
--- from each point to the next, and from the last to z
+-- the sides from each point to the next, and from the last to z
 unfoldable pub walk : Point → List Point → List Side
 walk z [] = []
 walk z (p ∷ ps) = record { start = p; end = getD ps 0 z } ∷ walk z ps
 
--- all pieces of an outline, as they are listed
+-- all pieces of an outline, in walk order
 abbrev pub walked : List Point → List Side
 walked ps = walk (getD ps 0 missing) ps
 
--- and the way asked
+-- the pieces in the orientation asked for
 abbrev pub pieces : Bool → List Point → List Side
 pieces b ps = map (directed b) (walked ps)
 
@@ -53,7 +52,7 @@ module _ (b : Bool) (ps : List Point) where
   unfolding next
   piece-at k h = List·getD-map (directed b) (walked ps) k unused ∙ ap (directed b) (walk-at _ _ ps k h)
 
-  -- a law of each piece's number is one of the pieces
+  -- a property of each piece by number holds for every piece in the list
   pub each-piece : (Q : Side → Type 0) → ((k : ℕ) → k < length ps → Q (piece b ps k)) → (x : Side) → List·Memᴰ x (pieces b ps) → Q x
   each-piece Q law x m =
       let w = at-member (directed b unused) m in
@@ -63,7 +62,7 @@ module _ (b : Bool) (ps : List Point) where
   pub piece-member : (k : ℕ) → k < length ps → List·Memᴰ (piece b ps k) (pieces b ps)
   piece-member k h = rw (← (piece-at k h)) (member-at (pieces b ps) _ k (omega (arith, pieces-length)))
 
--- an outline with no point twice has no piece twice
+-- an outline of distinct points has distinct pieces
 walk-starts : {Q : Point → Type 0} (z : Point) {ps : List Point} → All Q ps → All (λ s. Q (s .start)) (walk z ps)
 unfolding walk
 walk-starts z none = none

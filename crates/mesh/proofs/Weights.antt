@@ -1,5 +1,5 @@
--- The areas that a spot spans with a triangle's sides are the corners' weights: weighted by them, the corners' mean is the spot.
--- Assumes nothing.
+-- The areas that a spot makes with a triangle's sides are weights of the corners: with these weights the mean of the corners is
+-- the spot. Assumes nothing.
 use Prim.Native.Nat.{ℕ, _+_, _*_, _≤_, _<_}
 use mathlib.Core.Path.{_≡_, sym}
 use native.Mathlib.Omega.{arith}
@@ -9,7 +9,7 @@ use Rattle.mesh.proofs.Signed.{loop}
 use Rattle.mesh.proofs.Frame.{rise}
 use Rattle.mesh.proofs.Crossing.{rise-or-equal}
 
--- the corners' v are p, q and r, the spot's is s, and the weights of r, p and q are a − a′, b − b′ and c − c′
+-- v is p, q and r at the corners and s at the spot; the weights of r, p and q are a − a′, b − b′ and c − c′
 pub record Mean (a a′ b b′ c c′ p q r s : ℕ) : Type 0 where
   pub mean : a * r + b * p + c * q + (a′ + b′ + c′) * s ≡ a′ * r + b′ * p + c′ * q + (a + b + c) * s
 
@@ -24,14 +24,14 @@ module _ {a a′ b b′ c c′ p q r s : ℕ} (m : Mean a a′ b b′ c c′ p q
   pub mean-swap : Mean a′ a b′ b c′ c p q r s
   mean-swap = record { mean = sym (m .mean) }
 
-  -- two corners above and one not: where the weights of those two are positive, so is the third
+  -- two corners above the spot, one not: if the weights of those two are positive, so is the third
   pub one-below : p ≤ s → s < q → s < r → a′ < a → c′ < c → b′ < b
   one-below h k l x z = elim (decLe b b′) [
     | yes y ↦ absurd (omega (arith, m .mean, rise a′ a s r x l, rise c′ c s q z k, rise-or-equal b b′ p s y h))
     | no y ↦ omega arith
   ]
 
-  -- one corner above and two not: where the weights of those two are negative, that of the one is not positive
+  -- one corner above the spot, two not: if the weights of those two are negative, the other is not positive
   pub two-below : p ≤ s → q ≤ s → s < r → b < b′ → c < c′ → a ≤ a′
   two-below h k l y z = elim (decLe a a′) [
     | yes x ↦ x
@@ -44,7 +44,7 @@ module _ {a a′ b b′ c c′ p q r s : ℕ} (m : Mean a a′ b b′ c c′ p q
     ))
   ]
 
-  -- where they are positive and the one's is not, both corners are level with the spot
+  -- if the two weights are positive and the other is not, both corners are at the spot's height
   pub two-level : p ≤ s → q ≤ s → s < r → b′ < b → c′ < c → a ≤ a′ → (p ≡ s) × (q ≡ s)
   two-level h k l y z x = (
     elim (decLe s p) [
@@ -69,7 +69,7 @@ module _ {a a′ b b′ c c′ p q r s : ℕ} (m : Mean a a′ b b′ c c′ p q
     ],
   )
 
-  -- positive weights: not all corners are above, and if none is, each is level with the spot
+  -- positive weights: not all corners are above the spot, and if none are, each is at the spot's height
   pub all-above : s < p → s < q → s < r → a′ < a → b′ < b → c′ < c → ⊥
   all-above h k l x y z = omega (arith, m .mean, rise a′ a s r x l, rise b′ b s p y h, rise c′ c s q z k)
 

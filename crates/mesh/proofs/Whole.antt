@@ -1,5 +1,4 @@
--- That the areas of a mesh add up follows from four other sentences of `Cover`, all on its sides.
--- Assumes nothing.
+-- That the areas of a mesh add up follows from four other fields of `Cover`, all on sides. Assumes nothing.
 use Prim.Native.Nat.{ℕ, _<_}
 use mathlib.Core.Path.{_≡_}
 use mathlib.Core.Bool.{Bool}

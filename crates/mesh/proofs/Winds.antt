@@ -1,5 +1,4 @@
--- The outline of a triangle or quad patch goes once round each spot strictly inside.
--- Assumes nothing.
+-- The outline of a triangle or quad patch winds once around each spot strictly inside. Assumes nothing.
 use Prim.Native.Nat.{ℕ, zero, suc, _+_, _-_, _*_, _≤_, _<_}
 use mathlib.Core.Path.{_≡_, ap}
 use mathlib.Core.Bool.{cond}
@@ -28,15 +27,15 @@ use Rattle.mesh.proofs.Stokes.{back}
 use Rattle.mesh.proofs.Crossing.{up, up-one, up-above, up-below, up-right}
 use Rattle.mesh.proofs.Rim.{rim-gains}
 
--- what a side weighs: its crossings going up
+-- the weight of a side: its upward crossing
 abbrev pub crossing : Point → Side → ℕ
 crossing s e = up s (e .start) (e .end)
 
--- the outline is crossed going up once more than going down
+-- the outline is crossed once more upwards than downwards
 abbrev pub Winds : List Point → Point → Type 0
 Winds outline s = sum (crossing s) (walked outline) ≡ suc (sum (back (crossing s)) (walked outline))
 
--- 1 from past the spot's v on
+-- 1 if n is above the spot's v, else 0
 passed : Point → ℕ → ℕ
 passed s n = cond (ltb (s .v) n) 1 0
 
@@ -48,7 +47,7 @@ has-passed : (s : Point) (n : ℕ) → s .v < n → passed s n ≡ 1
 unfolding passed
 has-passed s n h = rw (lt-ltb _ _ h)
 
--- a segment with the spot to its left gains 1 where it rises past the spot, and nothing where it falls or is level
+-- a segment with the spot on its left gains 1 if it rises past the spot, and 0 if it falls or is level
 module _ (s p q : Point) (l : Left p q s) where
   rises : p .v ≤ q .v → up s p q + passed s (p .v) ≡ up s q p + passed s (q .v)
   rises h = elim (decLe (p .v) (s .v)) [
@@ -70,7 +69,7 @@ module _ (s p q : Point) (l : Left p q s) where
       none : up s p q ≡ 0
       none = elim (decLe (p .v) (s .v)) [ yes a ↦ up-below s p q (omega arith) | no a ↦ up-above s p q (omega arith) ]
 
--- a spot is to the left of each edge that it is inside of; the edge's u, or v, or their sum is c
+-- a spot inside an edge lies on its left; on the edge u, or v, or their sum is c
 module _ (s : Point) (c : ℕ) where
   abbrev at : ℕ → ℕ → Point
   at a b = record { u = a; v = b; w = 0 }
@@ -101,7 +100,7 @@ module _ (z : Spot) (inside : Within triangle z) where
   abbrev s : Point
   s = corner z
 
-  -- what edge k has gained at the place x: only edge 2 rises
+  -- the gain of edge k up to place x: only edge 2 rises
   triangle-gain : ℕ → ℕ → ℕ
   triangle-gain zero x = 0
   triangle-gain (suc zero) x = 0

@@ -1,5 +1,4 @@
--- How many words points have.
--- Assumes nothing.
+-- The number of words of points. Assumes nothing.
 use Prim.Native.Nat.{_*_}
 use mathlib.Core.Path.{_≡_, refl}
 use mathlib.Core.List.{List, [], _∷_}

@@ -1,6 +1,5 @@
--- What demand 3 asks of one drawn mesh: its points and its triangles,
--- with sides named by their two points and areas as whole numbers with a sign.
--- Assumes nothing.
+-- What demand 3 asks of one drawn mesh: its points and triangles, with directed sides by their end points and signed areas as
+-- whole numbers. Assumes nothing.
 use Prim.Native.Nat.{ℕ, suc, _<_}
 use mathlib.Core.Path.{_≡_}
 use mathlib.Core.Bool.{Bool, true, false}
@@ -21,15 +20,15 @@ pub record Side : Type 0 where
   pub start : Point
   pub end : Point
 
--- the same side walked back
+-- the side in the reverse direction
 abbrev pub reversed : Side → Side
 reversed s = record { start = s .end; end = s .start }
 
--- what a look-up past the end of a list of points gives; no statement below looks there
+-- the value of a look-up past the end of a list of points; the statements below never use it
 abbrev pub missing : Point
 missing = record { u = 0; v = 0; w = 0 }
 
--- the sides of the triangles, three each, in their order
+-- the three directed sides of each triangle, in order
 unfoldable pub sides : List Face → List Side
 sides [] = []
 sides (t ∷ ts) =
@@ -43,60 +42,61 @@ side ss i = getD ss i (record { start = missing; end = missing })
 abbrev pub difference : ℕ → ℕ → ℤ
 difference a b = pos a -ℤ pos b
 
--- twice the signed area: (uQ − uP)·(vR − vP) − (uR − uP)·(vQ − vP)
+-- twice the signed area of a triangle: (uQ − uP)·(vR − vP) − (uR − uP)·(vQ − vP)
 unfoldable pub twiceArea : Face → ℤ
 twiceArea t =
     difference (t .q .u) (t .p .u) *ℤ difference (t .r .v) (t .p .v) -ℤ difference (t .r .u) (t .p .u) *ℤ difference (t .q .v) (t .p .v)
 
--- the sum of these over all triangles
+-- the sum of that over all triangles
 unfoldable pub totalTwiceArea : List Face → ℤ
 unfolding twiceArea
 totalTwiceArea [] = pos 0
 totalTwiceArea (t ∷ ts) = twiceArea t +ℤ totalTwiceArea ts
 
--- n, or −n where the turn asked is the negative one
+-- n if the orientation asked for is the positive one, else −n
 abbrev pub signed : Bool → ℕ → ℤ
 signed true n = pos n
 signed false n = negℤ (pos n)
 
--- z is above 0, or below 0 where the turn asked is the negative one
+-- z is not 0, and has the sign of the orientation asked for
 pub record HasSign (positive : Bool) (z : ℤ) : Type 0 where
   pub size : ℕ
   pub above : 0 < size
   pub is : z ≡ signed positive size
 
--- the point after the k-th of a closed outline
+-- the point after point k of a closed outline
 unfoldable pub next : List Point → ℕ → Point
 next ps k = getD ps (suc k) (getD ps 0 missing)
 
--- a side the way asked
+-- a side, reversed if the orientation asked for is the negative one
 abbrev pub directed : Bool → Side → Side
 directed true s = s
 directed false s = reversed s
 
--- the k-th piece of an outline: from its k-th point to the next, the way asked
+-- piece k of an outline in the orientation asked for: from point k to the next point, or back
 abbrev pub piece : Bool → List Point → ℕ → Side
 piece positive ps k = directed positive (record { start = getD ps k missing; end = next ps k })
 
--- the side occurs
+-- s is one of the sides
 abbrev pub Occurs : Side → List Side → Type 0
 Occurs s ss = (i : ℕ) × (i < length ss) × (side ss i ≡ s)
 
--- the mesh covers its patch: `positive` is the turn asked, `area` twice the patch's area, `outline` the outline's points in walk order
+-- the mesh covers its patch: `positive` is the orientation asked for, `area` twice the area of the patch, `outline` the points
+-- of the outline in walk order
 pub record Cover (positive : Bool) (area : ℕ) (outline points : List Point) (faces : List Face) : Type 0 where
   -- no two points are equal
   pub distinct : (i j : ℕ) → i < length points → j < length points → getD points i missing ≡ getD points j missing → i ≡ j
-  -- every triangle has area and turns the way asked
+  -- every triangle has an area, and the orientation asked for
   pub turned : (k : ℕ) → k < length faces
       → HasSign positive (twiceArea (getD faces k (record { p = missing; q = missing; r = missing })))
   -- no directed side occurs twice
   pub single : (i j : ℕ) → i < length (sides faces) → j < length (sides faces) → side (sides faces) i ≡ side (sides faces) j → i ≡ j
-  -- each piece of the outline is a side, by `single` exactly once, and its reverse is none
+  -- each piece of the outline is a side (by `single`, exactly once), and its reverse is not
   pub outlined : (k : ℕ) → k < length outline → Occurs (piece positive outline k) (sides faces)
   pub outside : (k : ℕ) → k < length outline → Occurs (reversed (piece positive outline k)) (sides faces) → ⊥
-  -- every other side meets its own reverse
+  -- every other side has its reverse among the sides
   pub closed : (i : ℕ) → i < length (sides faces)
       → ((k : ℕ) × (k < length outline) × (side (sides faces) i ≡ piece positive outline k))
       ⊎ Occurs (reversed (side (sides faces) i)) (sides faces)
-  -- the areas add up to the patch's
+  -- the areas add up to that of the patch
   pub whole : totalTwiceArea faces ≡ signed positive area

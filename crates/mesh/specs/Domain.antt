@@ -1,27 +1,26 @@
--- What a patch fills, and which spots lie strictly inside it.
--- Assumes nothing.
+-- The domain that a patch fills, and which spots lie strictly inside it. Assumes nothing.
 use Prim.Native.Nat.{ℕ, _+_, _<_}
 use Rattle.mesh.specs.declared.Point.{Point}
 use Rattle.mesh.specs.TrianglePoints.{trianglePlace}
 use Rattle.mesh.specs.QuadPoints.{quadPlace}
 use Rattle.mesh.specs.Held.{Spot}
 
--- a triangle, in which 196608 stands for 1, or a square, in which 65536 does
+-- a triangle, whose coordinates add up to 196608, or a square with sides of 65536
 pub data Domain : Type 0 where
   triangle : Domain
   square : Domain
 
--- how many edges it has
+-- how many edges the domain has
 abbrev pub edgeCount : Domain → ℕ
 edgeCount triangle = 3
 edgeCount square = 4
 
--- the points along its edges
+-- the point at place x of edge k, d units inside
 abbrev pub placeOn : Domain → ℕ → ℕ → ℕ → Point
 placeOn triangle = trianglePlace
 placeOn square = quadPlace
 
--- the spot lies strictly inside: u, v and w are above 0; or u and v are between 0 and 1
+-- the spot lies strictly inside the domain
 abbrev pub Within : Domain → Spot → Type 0
 Within triangle s = (0 < s .u) × (0 < s .v) × (s .u + s .v < 196608)
 Within square s = (0 < s .u) × (s .u < 65536) × (0 < s .v) × (s .v < 65536)

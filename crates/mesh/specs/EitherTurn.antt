@@ -1,5 +1,4 @@
--- Triangles that have a spot inside, whichever way they turn.
--- Assumes nothing.
+-- Triangles that have a spot inside, whatever their orientation. Assumes nothing.
 use Prim.Native.Nat.{ℕ, _<_}
 use mathlib.Core.Path.{_≡_}
 use mathlib.Core.Bool.{true, false}

@@ -1,5 +1,4 @@
--- The faces of a mesh whose triangles are given by the numbers of its points.
--- Assumes nothing.
+-- The faces of a mesh: its triangles with points in place of numbers. Assumes nothing.
 use Prim.Native.Nat.{ℕ}
 use mathlib.Core.Bool.{Bool}
 use mathlib.Core.List.{List, map}
@@ -13,10 +12,10 @@ use Rattle.mesh.specs.Cover.{Face, missing}
 abbrev pub at : List Point → ℕ → Point
 at ps k = getD ps k missing
 
--- a triangle by number as a triangle by points
+-- a triangle with points in place of vertex numbers
 abbrev pub faceOf : (ℕ → Point) → Triangle → Face
 faceOf P t = record { p = P (t .a); q = P (t .b); r = P (t .c) }
 
--- the triangles, each turned as asked
+-- the faces of the triangles ts, in the orientation asked for
 abbrev pub facesOf : Bool → List Point → List Triangle → List Face
 facesOf positive ps ts = map (faceOf (at ps)) (map (turned positive) ts)

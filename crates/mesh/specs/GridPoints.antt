@@ -1,5 +1,4 @@
--- The points of a quad patch one by one, as document 01 lists them.
--- Assumes nothing.
+-- The points of a quad patch as document 01 lists them, each by its number. Assumes nothing.
 use Prim.Native.Nat.{ℕ, _+_, _-_, _*_, _≤_, _<_}
 use mathlib.Core.Path.{_≡_}
 use mathlib.Core.List.{List}
@@ -12,11 +11,12 @@ use Rattle.mesh.specs.OnEdge.{OnSquare}
 use Rattle.mesh.specs.OuterRing.{edgeStart}
 use Rattle.mesh.specs.RingPoints.{segments}
 
--- ps are the points of a patch with the outer edges e 0 to e 3, whose first inner level gives m and q of `rows` and whose second n and q of `columns`
+-- ps are the points of a patch with the outer edges e 0 to e 3; `rows` is the edge that the first inner level gives (m
+-- segments), `columns` that of the second (n)
 pub record GridPoints (e : ℕ → Run) (rows columns : Run) (ps : List Point) : Type 0 where
   pub size : length ps ≡ edgeStart e 4 + (rows .c - 1) * (columns .c - 1)
-  -- the outline, each edge without its end
+  -- the points of the outline; each edge is without its end
   pub outer : (k i : ℕ) → k < 4 → i < e k .c → OnSquare k (e k .q i) (at ps (edgeStart e k + i))
-  -- the inner grid: rows 1 to m − 1 by v, columns 1 to n − 1 by u
+  -- the points of the inner grid: row r, from 1 to m − 1, gives v, and column c, from 1 to n − 1, gives u
   pub inner : (r c : ℕ) → 1 ≤ r → r < rows .c → 1 ≤ c → c < columns .c
       → at ps (gridOn (segments e) (columns .c) r c) ≡ record { u = columns .q c; v = rows .q r; w = 0 }

@@ -1,5 +1,4 @@
--- Which triangles hold a spot, by signed areas over whole numbers.
--- Assumes nothing.
+-- Which triangles hold a spot, by signed areas over whole numbers. Assumes nothing.
 use Prim.Native.Nat.{ℕ, _≤_, _<_, min, max}
 use mathlib.Core.Path.{_≡_}
 use mathlib.Core.Bool.{Bool}
@@ -9,31 +8,31 @@ use lib.IntN.{ℤ, pos}
 use Rattle.mesh.specs.declared.Point.{Point}
 use Rattle.mesh.specs.Cover.{Face, Side, missing, sides, side, twiceArea, HasSign}
 
--- a spot with whole coordinates; on a triangle patch its w is 196608 − u − v
+-- a spot of the domain with whole coordinates; on a triangle patch its w is 196608 − u − v
 pub record Spot : Type 0 where
   pub u : ℕ
   pub v : ℕ
 
--- the spot as a corner; areas do not read w
+-- the spot as a point; areas do not depend on w
 abbrev pub corner : Spot → Point
 corner s = record { u = s .u; v = s .v; w = 0 }
 
--- twice the signed area of P, Q and the spot
+-- twice the signed area of the triangle of P, Q and the spot
 abbrev pub areaTo : Point → Point → Spot → ℤ
 areaTo p q s = twiceArea (record { p = p; q = q; r = corner s })
 
--- the triangle holds the spot by the turn asked: from each of its sides the spot lies the way asked, and on none of them.
--- So it turns that way itself; that no triangle of the other turn lies over the spot is `Cover`'s field `turned` (mesh/proofs/EitherTurn)
+-- the spot lies strictly inside the triangle, which has the orientation asked for: the area to each side has that sign. That no
+-- triangle of the other orientation holds the spot follows from `Cover`'s field `turned` (mesh/proofs/EitherTurn)
 pub record Holds (positive : Bool) (t : Face) (s : Spot) : Type 0 where
   pub pq : HasSign positive (areaTo (t .p) (t .q) s)
   pub qr : HasSign positive (areaTo (t .q) (t .r) s)
   pub rp : HasSign positive (areaTo (t .r) (t .p) s)
 
--- x lies between a and b, or is one of them
+-- x is a, b or between them
 abbrev pub Between : ℕ → ℕ → ℕ → Type 0
 Between a b x = (min a b ≤ x) × (x ≤ max a b)
 
--- the spot lies on the side, its ends included
+-- the spot lies on the side, ends included
 pub record OnSide (e : Side) (s : Spot) : Type 0 where
   pub straight : areaTo (e .start) (e .end) s ≡ pos 0
   pub along-u : Between (e .start .u) (e .end .u) (s .u)

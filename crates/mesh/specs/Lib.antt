@@ -1,4 +1,4 @@
--- The definitions of meshes.
+-- The definitions of `mesh`.
 pub mod Cover
 pub mod Held
 pub mod EitherTurn

@@ -1,5 +1,4 @@
--- The points of an outline one by one, as document 01 lists them.
--- Assumes nothing.
+-- The points of an outline as document 01 lists them, each by its number. Assumes nothing.
 use Prim.Native.Nat.{ℕ, _+_, _<_}
 use mathlib.Core.Path.{_≡_}
 use mathlib.Core.List.{List}
@@ -11,11 +10,11 @@ use Rattle.mesh.specs.Faces.{at}
 use Rattle.mesh.specs.Domain.{Domain, edgeCount}
 use Rattle.mesh.specs.OnEdge.{OnEdge}
 
--- the number of the first point of edge k: the edges before it have as many points as segments, each being without its end
+-- the number of the first point of edge k: the edges before it have one point per segment, as each is without its end
 abbrev pub edgeStart : (ℕ → Run) → ℕ → ℕ
 edgeStart e k = sum (λ m. e m .c) k
 
--- ps are the points of the outer edges e 0, e 1, .. in walk order, each edge without its end: point i of edge k lies at q(i) of that edge
+-- ps are the points of the outer edges e 0, e 1, .. in walk order, each edge without its end: point i of edge k is at its place q(i)
 pub record OuterRing (shape : Domain) (e : ℕ → Run) (ps : List Point) : Type 0 where
   pub size : length ps ≡ edgeStart e (edgeCount shape)
   pub point : (k i : ℕ) → k < edgeCount shape → i < e k .c → OnEdge shape k (e k .q i) (at ps (edgeStart e k + i))

@@ -1,12 +1,11 @@
--- The points of a quad patch, where 65,536 stands for 1.
--- Assumes nothing.
+-- The points of a quad patch, on a square with sides of 65,536. Assumes nothing.
 use Prim.Native.Nat.{ℕ, zero, suc, _-_, _*_}
 use mathlib.Core.List.{List, [], _∷_, _++_}
 use Rattle.edge.specs.Table.{table}
 use Rattle.mesh.specs.declared.Point.{Point}
 use Rattle.mesh.specs.Edge.{Run, ring}
 
--- the point x units along edge k and d units in; the edges go from (0, 1) down, right, up and left, and 4 is 0 again
+-- the point x units along edge k and d units inside; the edges go down, right, up and left from (0, 1), and edge 4 is edge 0 again
 abbrev pub quadPlace : ℕ → ℕ → ℕ → Point
 quadPlace zero x d = record { u = d; v = 65536 - x; w = 0 }
 quadPlace (suc zero) x d = record { u = x; v = d; w = 0 }
@@ -19,13 +18,12 @@ unfoldable pub grid : (ℕ → ℕ → Point) → ℕ → ℕ → List Point
 grid P zero w = []
 grid P (suc h) w = table (P 0) w ++ grid (λ r. P (suc r)) h w
 
--- the inner point of row r + 1 and column c + 1: the rows lie at the places of `rows` along v, the columns at those of `columns` along u
+-- the point in row r + 1 and column c + 1 of the inner grid: `rows` gives v, `columns` gives u
 abbrev pub inner : Run → Run → ℕ → ℕ → Point
 inner rows columns r c = record { u = columns .q (suc c); v = rows .q (suc r); w = 0 }
 
--- the points of a patch with the outer edges e0 to e3:
--- the outline's, then the inner grid's; `rows` is of the first inner level, with 01's m
--- segments, and `columns` of the second, with n
+-- the points of a patch with the outer edges e0 to e3: first the outline, then the inner grid; `rows` is the edge that the
+-- first inner level gives (m segments), `columns` that of the second (n)
 abbrev pub quadPatch : Run → Run → Run → Run → Run → Run → List Point
 quadPatch e0 e1 e2 e3 rows columns =
     ring quadPlace 0 (e0 ∷ e1 ∷ e2 ∷ e3 ∷ []) 0 ++ grid (inner rows columns) (rows .c - 1) (columns .c - 1)

@@ -1,5 +1,4 @@
--- An edge by its segments, and the points of isolines.
--- Assumes nothing.
+-- The edge that segments describe, and the points of isolines. Assumes nothing.
 use Prim.Native.Nat.{suc}
 use mathlib.Core.List.{List}
 use Rattle.level.specs.declared.Segments.{Segments}
@@ -8,10 +7,10 @@ use Rattle.mesh.specs.declared.Point.{Point}
 use Rattle.mesh.specs.Edge.{Run}
 use Rattle.mesh.specs.QuadPoints.{grid}
 
--- an edge of these segments, with its points at q(0) to q(n)
+-- the edge with these n and L: its points are at q(0) to q(n)
 abbrev pub run : Segments → Run
 run s = record { q = position (s .count) (s .scaled); c = s .count }
 
--- isolines: one for each q(0) to q(n − 1) of `lines` along v, none at v = 1; on each a point at every q of `along` along u
+-- the points of isolines: one isoline at v = q(0) to q(n − 1) of `lines`, and no isoline at v = 1; on each isoline a point at every u of `along`
 abbrev pub isolinePoints : Run → Run → List Point
 isolinePoints lines along = grid (λ r c. record { u = along .q c; v = lines .q r; w = 0 }) (lines .c) (suc (along .c))

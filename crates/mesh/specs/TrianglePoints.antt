@@ -1,35 +1,33 @@
--- The points of a triangle patch, where S = 196,608 stands for 1.
--- Assumes nothing.
+-- The points of a triangle patch; coordinates add up to S = 196,608. Assumes nothing.
 use Prim.Native.Nat.{ℕ, zero, suc, _+_, _-_, _*_}
 use mathlib.Core.List.{List, [], _∷_, _++_}
 use Rattle.mesh.specs.declared.Point.{Point}
 use Rattle.mesh.specs.Edge.{Run, ring}
 
--- the point at the place x of edge k, of the ring d units in:
--- its start coordinate is S − 3x − d, its end coordinate 3x − d, its opposite 2d;
--- on ring j, d is q(j); edge 0 goes from V to W, 1 from W to U, 2 from U to V, and 3 is 0 again
+-- the point at place x of edge k on the ring d units inside: start coordinate S − 3x − d, end coordinate 3x − d, opposite
+-- coordinate 2d. Ring j is q(j) units inside; edge 0 goes from V to W, 1 from W to U, 2 from U to V, and edge 3 is edge 0 again
 abbrev pub trianglePlace : ℕ → ℕ → ℕ → Point
 trianglePlace zero x d = record { u = 2 * d; v = 196608 - (3 * x + d); w = 3 * x - d }
 trianglePlace (suc zero) x d = record { u = 3 * x - d; v = 2 * d; w = 196608 - (3 * x + d) }
 trianglePlace (suc (suc zero)) x d = record { u = 196608 - (3 * x + d); v = 3 * x - d; w = 2 * d }
 trianglePlace (suc (suc (suc k))) x d = trianglePlace k x d
 
--- the centre, where the inner level's n is even
+-- the centre: a point if the inner level's n is even
 abbrev pub centre : Point
 centre = record { u = 65536; v = 65536; w = 65536 }
 
--- the three edges of an inner ring: of r segments each, at the places q
+-- the three edges of an inner ring, each with r segments and the places q
 abbrev pub alike : (ℕ → ℕ) → ℕ → List Run
 alike q r = let e : Run = record { q = q; c = r } in e ∷ e ∷ e ∷ []
 
--- the points of the ring of the edges es, d units in, and of all rings inside it, where the inner level gives n segments at the places q;
--- the next ring has two segments fewer, and its places start one later
+-- the points of the ring of the edges es, d units inside, and of all rings within it, where the inner level gives n segments
+-- with the places q; the next ring has two segments fewer per edge, and its first place is q 1
 unfoldable pub rings : List Run → ℕ → (ℕ → ℕ) → ℕ → List Point
 rings es d q zero = centre ∷ []
 rings es d q (suc zero) = ring trianglePlace 0 es d
 rings es d q (suc (suc r)) = ring trianglePlace 0 es d ++ rings (alike (λ i. q (suc i)) r) (q 1) (λ i. q (suc i)) r
 
--- the points of a patch with the outer edges e0, e1 and e2, whose inner level gives the edge `inside`
+-- the points of a patch with the outer edges e0, e1 and e2, where `inside` is the edge that the inner level gives
 abbrev pub trianglePatch : Run → Run → Run → Run → List Point
 trianglePatch e0 e1 e2 inside = rings (e0 ∷ e1 ∷ e2 ∷ []) 0 (inside .q) (inside .c)
 

@@ -1,5 +1,4 @@
--- Points as words of a list.
--- Assumes nothing.
+-- Points as words. Assumes nothing.
 use Prim.Native.Nat.{ℕ}
 use mathlib.Core.List.{List, [], _∷_, _++_}
 use Rattle.mesh.specs.declared.Point.{Point}
@@ -8,7 +7,7 @@ use Rattle.mesh.specs.declared.Point.{Point}
 abbrev pub pointWords : Point → List ℕ
 pointWords p = p .u ∷ p .v ∷ p .w ∷ []
 
--- the words of points, one after the other
+-- the words of all points, in order
 unfoldable pub vertexWords : List Point → List ℕ
 vertexWords [] = []
 vertexWords (p ∷ ps) = pointWords p ++ vertexWords ps

@@ -1,5 +1,4 @@
--- The promise of a call, for settings that are refused and for those that are known.
--- Assumes nothing.
+-- The contract of the call, for refused and for known settings. Assumes nothing.
 use Prim.Native.Nat.{ℕ}
 use mathlib.Core.Path.{_≡_, sym, _∙_}
 use mathlib.Core.List.{List, [], _∷_}
@@ -21,7 +20,7 @@ use Rattle.mesh_exports.specs.declared.found.Found.{Found}
 use Rattle.mesh_exports.specs.Founds.{Finds, checkSays}
 
 module _ {found : Found} {c′ : List ℕ} {r : ℕ} (s : (r ≡ found .number) × (c′ ≡ found .first ∷ found .second ∷ [])) where
-  -- how an answer is said
+  -- how an answer is reported
   said : {t : Told} → Finds t found → Says twoWords t c′ r
   said f = record { number = s .0 ∙ f .number; counts = s .1 ∙ rw (f .first, f .second) }
 

@@ -1,5 +1,4 @@
--- A mesh that the call accepts covers its patch, and holds every clear spot once.
--- Assumes nothing.
+-- A mesh that the call accepts covers its patch, and exactly one triangle holds each spot inside that lies on no side. Assumes nothing.
 use Prim.Native.Nat.{ℕ}
 use mathlib.Core.Path.{_≡_, refl, sym, ap, _∙_}
 use mathlib.Core.Bool.{false}

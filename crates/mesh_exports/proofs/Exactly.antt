@@ -1,4 +1,4 @@
--- A call that checks answers each number exactly where it means. Assumes nothing.
+-- A call that checks gives each number exactly if it is right. Assumes nothing.
 use Prim.Native.Nat.{ℕ}
 use mathlib.Core.Path.{_≡_, refl, ap}
 use mathlib.Core.Bool.{false}
@@ -43,7 +43,7 @@ verdict-readable = record { same = verdict-back; no-eight = no-eight; place = λ
     no-eight (OpenSide triangle corner) = refl
     no-eight (MissingPiece piece) = refl
 
--- an accepted mesh has a top
+-- an accepted mesh has a good top level
 accepts-top : (set : Settings) (p : Patch) (pw iw : List ℕ) → Accepts set p pw iw → Top (set .top)
 accepts-top set p pw iw a = ⊎-elim (λ w. w .0 .top) (λ w. w .0 .asked .top) a
 

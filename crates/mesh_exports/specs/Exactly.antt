@@ -1,5 +1,4 @@
--- When a call that checks a mesh answers what.
--- Assumes nothing.
+-- When a call that checks a mesh gives which answer. Assumes nothing.
 use Prim.Native.Nat.{ℕ}
 use mathlib.Core.Path.{_≡_}
 use mathlib.Core.List.{List}
@@ -19,11 +18,11 @@ use Rattle.requests.specs.Exactly.{CallAnswer, unknown, found, CallMeans, Calle
 abbrev pub CheckMeans : List ℕ → List Float → List ℕ → List ℕ → CallAnswer Verdict → Type 0
 CheckMeans bs xs pw iw a = CallMeans bs (Means (settingsIn bs) (patchIn bs xs) pw iw) a
 
--- when each number is answered, and which places stand in memory then
+-- when the call gives each number, and which places it leaves in memory
 pub record CheckExactly (bs : List ℕ) (xs : List Float) (pw iw c′ : List ℕ) (r : ℕ) : Type 0 where
-  -- every answer, with its number and its places, is given exactly where it is right
+  -- each answer is given, by number and places, exactly if it is right
   pub answers : CalledExactly twoWords toldVerdict bs (Means (settingsIn bs) (patchIn bs xs) pw iw) c′ r
-  -- 0: the settings are known and no fault of any kind is there
+  -- 0: the settings are known, and the mesh is accepted
   pub accepted : (r ≡ 0) ↔ (AllBelow choices bs 0 × Accepts (settingsIn bs) (patchIn bs xs) pw iw)
   pub unknown-setting : (r ≡ 8) ↔ CheckMeans bs xs pw iw (unknown (getD c′ 0 0))
   pub bad-top : (r ≡ 11) ↔ CheckMeans bs xs pw iw (found BadTop)

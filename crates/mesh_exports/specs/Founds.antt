@@ -1,5 +1,4 @@
--- What checking a mesh has to say to a caller.
--- Assumes nothing.
+-- The answer of a call that checks a mesh. Assumes nothing.
 use Prim.Native.Nat.{ℕ}
 use mathlib.Core.Path.{_≡_}
 use mathlib.Core.List.{List}
@@ -12,12 +11,12 @@ use Rattle.requests.specs.Inputs.{patchIn, settingsIn}
 use Rattle.requests.specs.Asked.{known}
 use Rattle.mesh_exports.specs.declared.found.Found.{Found}
 
--- an answer's number and its two places, 0 where there is none
+-- r has the number of the answer t and its two places, 0 for a place that it lacks
 pub record Finds (t : Told) (r : Found) : Type 0 where
   pub number : r .number ≡ t .number
   pub first : r .first ≡ getD (t .values) 0 0
   pub second : r .second ≡ getD (t .values) 1 0
 
--- of setting bytes bs, levels xs, the words pw of the points and iw of the indices: a bad top first of all, then an unknown setting
+-- the answer for the setting bytes bs, the levels xs, the point words pw and the index words iw: a bad top level first, then an unknown setting
 abbrev pub checkSays : List ℕ → List Float → List ℕ → List ℕ → Told
 checkSays bs xs pw iw = known bs badTop unknownSetting (checkVerdict (settingsIn bs) (patchIn bs xs) pw iw)

@@ -1,4 +1,4 @@
-// The check of a mesh that anybody made for a patch.
+// The check of any mesh for a patch, as a call.
 ghost use Rattle.replies.specs.Replies.{Says, twoWords};
 ghost use Rattle.mesh_exports.specs.Founds.{checkSays};
 use crate::found::of_reply;

@@ -1,4 +1,4 @@
-// Answers as numbers, each with the places that are told beside it, and how they reach the caller's memory.
+// Answers as numbers with two places, and how they are written to the caller's memory.
 ghost use mathlib.Core.Path.{_≡_};
 ghost use mathlib.Core.List.{[], _∷_};
 ghost use Rattle.verdict_meaning.specs.Numbers.{toldVerdict};
@@ -6,7 +6,7 @@ ghost use Rattle.mesh_exports.specs.Founds.{Finds};
 use mesh_verdict::Verdict;
 use replies::reply::Reply;
 
-// A place that is not told is 0.
+// A place that the answer lacks is 0.
 pub struct Found {
     pub number: u32,
     pub first: u64,
@@ -24,7 +24,7 @@ fn told(number: u32, first: usize, second: usize) -> Found
     }
 }
 
-// A refusal's number and values.
+// Returns a refusal's number and values.
 pub fn of_reply(reply: Reply) -> Found
     ensures { λ r. ⌜ (r .number ≡ reply .number) × (r .first ≡ reply .first) × (r .second ≡ reply .second) ⌝ }
 {
@@ -51,7 +51,7 @@ pub fn of_verdict(verdict: Verdict) -> Found
     }
 }
 
-// Both places are written whatever the answer is.
+// Writes both places, whatever the answer is.
 pub fn say(found: Found, places: &mut [u64; 2]) -> u32
     ensures { λ r. ⌜ r ≡ found .number ⌝ ∗ ⌜ now (places .exit) ≡ found .first ∷ found .second ∷ [] ⌝ }
 {

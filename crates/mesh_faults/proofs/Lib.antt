@@ -1,4 +1,4 @@
--- The laws of the faults of a mesh, lowest first.
+-- The laws of `mesh_faults`, lowest first.
 pub mod Corners
 pub mod Wide
 pub mod Turns

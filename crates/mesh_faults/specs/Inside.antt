@@ -1,5 +1,4 @@
--- Points inside the patch, its edges included; the third fault is a point that is not.
--- Assumes nothing.
+-- Points inside the patch, edges included; a point outside is the third fault. Assumes nothing.
 use Prim.Native.Nat.{ℕ, _+_}
 use mathlib.Core.Bool.{Bool, true, false, not, _&&_}
 use mathlib.Core.List.{List}
@@ -9,7 +8,7 @@ use Rattle.mesh.specs.declared.Point.{Point}
 use Rattle.mesh.specs.Faces.{at}
 use Rattle.searches.specs.First.{first}
 
--- is the point inside a triangle patch, or a quad patch?
+-- whether the point is inside a triangle patch (true) or a quad patch (false)
 abbrev pub inside : Bool → Point → Bool
 inside true p = eqb (p .u + p .v + p .w) 196608
 inside false p = leb (p .u) 65536 && leb (p .v) 65536 && eqb (p .w) 0

@@ -1,4 +1,4 @@
--- The definitions of the faults of a mesh.
+-- The definitions of `mesh_faults`.
 pub mod Inside
 pub mod Turns
 pub mod Outline

@@ -1,5 +1,4 @@
--- A fault, or what comes next: an answer of a search tested against the number of places.
--- Assumes nothing.
+-- A fault, or what comes next: the result of a search compared with the number of places. Assumes nothing.
 use Prim.Native.Nat.{ℕ, _≤_, _<_}
 use mathlib.Core.Path.{_≡_}
 use native.Mathlib.Omega.{arith}

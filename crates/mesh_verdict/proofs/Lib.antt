@@ -1,2 +1,2 @@
--- The laws of the first kind of fault.
+-- The laws of `mesh_verdict`.
 pub mod Chain

@@ -1,2 +1,2 @@
--- The definitions of the first kind of fault.
+-- The definitions of `mesh_verdict`.
 pub mod Faults

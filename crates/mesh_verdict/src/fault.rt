@@ -1,4 +1,4 @@
-// The faults of a mesh one after the other, in the order of finding.
+// The faults of a mesh, in the order of finding.
 ghost use mathlib.Core.Path.{_≡_};
 ghost use Prim.Native.Nat.{_*_, _/_, _≤_};
 ghost use lib.ListN.{length};
@@ -8,7 +8,8 @@ ghost use Rattle.mesh_faults.specs.Outline.{ClosedTo, DrawnTo};
 ghost use Rattle.mesh_verdict.specs.Faults.{outlineFault, sideFault, pointFault, meshFault};
 use crate::Verdict;
 
-// The faults that single sides and the outline show; the first sides are known to be joined, and the first pieces drawn.
+// Returns the first open side, else the first missing piece; the first `joined` sides are known to be closed, and the first
+// `drawn` pieces to be sides.
 fn outline_fault(
     outline: &[u32],
     points: &[u32],
@@ -34,7 +35,8 @@ fn outline_fault(
     Verdict::Accepted
 }
 
-// The faults of triangles before those. How far there are none is known by a table of sides, and each search starts there.
+// Returns the first triangle of the wrong orientation, else the first repeated side, else `outline_fault`. A table of sides
+// shows up to where no fault occurs, and each search starts there.
 fn side_fault(outline: &[u32], points: &[u32], indices: &[u16], positive: bool) -> Verdict
     requires { ⌜ AllNumbered (length (readPoints (now points))) (now indices) ⌝ ∗ ⌜ AllSmall (readPoints (now points)) ⌝ }
     ensures { λ r. ⌜ r ≡ sideFault positive (readPoints (now (outline .entry))) (readPoints (now (points .entry))) (readTriangles (now (indices .entry))) ⌝ }
@@ -63,7 +65,7 @@ fn side_fault(outline: &[u32], points: &[u32], indices: &[u16], positive: bool) 
     )
 }
 
-// The faults of points before those.
+// Returns the first fault of points, else `side_fault`.
 fn point_fault(
     outline: &[u32],
     points: &[u32],
@@ -90,7 +92,7 @@ fn point_fault(
     side_fault(outline, points, indices, positive)
 }
 
-// The first kind of fault of a mesh of a triangle patch, or a quad patch, with the outline's points and the turn asked.
+// Returns the first fault of a mesh of a triangle or quad patch; the outline's points and the orientation asked for are given.
 pub fn mesh_fault(
     outline: &[u32],
     points: &[u32],

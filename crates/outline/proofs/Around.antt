@@ -1,5 +1,4 @@
--- The outer edges of a patch: they are valid, and their outline is the patch's, of at most 256 points.
--- Assumes nothing.
+-- The outer edges of a patch: they are valid, and their outline is that of the patch, with at most 256 points. Assumes nothing.
 use Prim.Native.Nat.{ℕ, _+_, _*_, _≤_}
 use mathlib.Core.Path.{_≡_, refl, sym, ap, subst, _∙_}
 use mathlib.Core.List.{List, [], _∷_}
@@ -31,7 +30,7 @@ edges-outline s t (Triangles a b c i) = refl
 edges-outline s t (Quads a b c d i j) = refl
 edges-outline s t (Isolines a b) = refl
 
--- edges by another name
+-- equal edges
 module _ {e f : OuterEdges} (h : e ≡ f) where
   pub valid-as : ValidEdges e → ValidEdges f
   valid-as v = subst ValidEdges h v
@@ -42,7 +41,7 @@ module _ {e f : OuterEdges} (h : e ≡ f) where
   pub outline-as : {ws : List ℕ} {n : ℕ} → OutlineOf (outlineBy f) ws n → OutlineOf (outlineBy e) ws n
   outline-as {ws = ws} {n = n} k = subst (λ x. OutlineOf (outlineBy x) ws n) (sym h) k
 
--- how many points an outline has
+-- the number of points of an outline
 pub three-around : (e f g : Segments) → length (outlineBy (Triangle e f g)) ≡ e .count + f .count + g .count
 three-around e f g = omega (arith, ring-length trianglePlace 0 (run e ∷ run f ∷ run g ∷ []) 0)
 

@@ -1,5 +1,4 @@
--- The outline at the front of a patch's points.
--- Assumes nothing.
+-- The outline at the front of a patch's points. Assumes nothing.
 use Prim.Native.Nat.{ℕ, _+_, _*_, _-_}
 use mathlib.Core.Path.{_≡_, refl, ap, sym, _∙_}
 use mathlib.Core.List.{List, [], _∷_, _++_, append-assoc}
@@ -24,11 +23,11 @@ use Rattle.outline.specs.Outlines.{OutlineOf}
 seam : (xs ys zs : List ℕ) → take (length xs) ((xs ++ ys) ++ zs) ≡ xs
 seam xs ys zs = rw (append-assoc xs ys zs) (take-append-seam xs (ys ++ zs))
 
--- the points are the outline's, and then others
+-- the points are those of the outline, then others
 pub record Outlined (all ps qs : List Point) : Type 0 where
   pub is : all ≡ ps ++ qs
 
--- what was written at the front are the outline's words, and then the others'
+-- the words at the front are those of the outline, then those of the other points
 pub outline-front : {all ps qs : List Point} {xs xs′ : List ℕ} {w : ℕ} (n : ℕ) → Outlined all ps qs → n ≡ 3 * length ps
     → Wrote xs 0 (vertexWords all) xs′ w → OutlineOf ps xs′ n
 unfolding over
@@ -38,23 +37,23 @@ outline-front {all = all} {ps = ps} {qs = qs} n e k w = record {
 }
 
 module _ (place : ℕ → ℕ → ℕ → Point) (es : List Run) where
-  -- how many points there are
+  -- the number of points
   pub outlined-length : {all qs : List Point} → Outlined all (ring place 0 es 0) qs → length all ≡ around es + length qs
   outlined-length {qs = qs} e = ap length (e .is) ∙ length-append (ring place 0 es 0) qs ∙ rw (ring-length place 0 es 0)
 
--- a triangle patch with two segments inside has one point besides
+-- a triangle patch whose inner level gives two segments has one inner point
 pub one-inside : (e0 e1 e2 inside : Run) → inside .c ≡ 2
     → Outlined (trianglePatch e0 e1 e2 inside) (ring trianglePlace 0 (e0 ∷ e1 ∷ e2 ∷ []) 0) (centre ∷ [])
 unfolding rings
 one-inside e0 e1 e2 inside e = record { is = rw e }
 
--- a quad patch with one row has none
+-- a quad patch whose first inner level gives one segment has no inner point
 pub none-inside : (e0 e1 e2 e3 rows columns : Run) → rows .c ≡ 1
     → Outlined (quadPatch e0 e1 e2 e3 rows columns) (ring quadPlace 0 (e0 ∷ e1 ∷ e2 ∷ e3 ∷ []) 0) []
 unfolding grid
 none-inside e0 e1 e2 e3 rows columns e = record { is = rw e }
 
--- the points read back
+-- the outline's points read back
 pub outline-read : {ps : List Point} {ws : List ℕ} {n : ℕ} → OutlineOf ps ws n → readPoints (take (n - 0) ws) ≡ ps
 outline-read {ps = ps} {n = n} h = rw (sub-zero n, h .is) (read-points ps)
 

@@ -1,3 +1,3 @@
--- The laws of a patch's outline.
+-- The laws of `outline`.
 pub mod Around
 pub mod Fronts

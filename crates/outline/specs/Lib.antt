@@ -1,2 +1,2 @@
--- The definitions of a patch's outline.
+-- The definitions of `outline`.
 pub mod Outlines

@@ -1,5 +1,4 @@
--- The outer edges of a patch, and the words of its outline.
--- Assumes nothing.
+-- The outer edges of a patch, and the words of its outline. Assumes nothing.
 use Prim.Native.Nat.{ℕ, _≤_}
 use mathlib.Core.Path.{_≡_}
 use mathlib.Core.List.{List, [], _∷_}
@@ -23,19 +22,19 @@ edgesOf s t (Triangles a b c i) = Triangle (segmentsOf s t a) (segmentsOf s t b)
 edgesOf s t (Quads a b c d i j) = Quad (segmentsOf s t a) (segmentsOf s t b) (segmentsOf s t c) (segmentsOf s t d)
 edgesOf s t (Isolines a b) = None
 
--- edges as levels give them
+-- every outer edge has valid n and L
 abbrev pub ValidEdges : OuterEdges → Type 0
 ValidEdges (Triangle e f g) = Valid (e .count) (e .scaled) × Valid (f .count) (f .scaled) × Valid (g .count) (g .scaled)
 ValidEdges (Quad e f g h) = Valid (e .count) (e .scaled) × Valid (f .count) (f .scaled) × Valid (g .count) (g .scaled) × Valid (h .count) (h .scaled)
 ValidEdges None = Unit {0}
 
--- the outline's points by the outer edges
+-- the points of the outline with these outer edges
 abbrev pub outlineBy : OuterEdges → List Point
 outlineBy (Triangle e f g) = ring trianglePlace 0 (run e ∷ run f ∷ run g ∷ []) 0
 outlineBy (Quad e f g h) = ring quadPlace 0 (run e ∷ run f ∷ run g ∷ run h ∷ []) 0
 outlineBy None = []
 
--- the first `count` words are those of the points
+-- the first `count` words are those of the points ps
 pub record OutlineOf (ps : List Point) (words : List ℕ) (count : ℕ) : Type 0 where
   pub fits : count ≤ length words
   pub is : take count words ≡ vertexWords ps

@@ -1,4 +1,4 @@
-// The outer edges of a patch by their segments.
+// The segments of a patch's outer edges.
 ghost use mathlib.Core.Path.{_≡_};
 ghost use lib.ListN.{length};
 ghost use Rattle.level.specs.Top.{Top};
@@ -24,7 +24,7 @@ pub enum OuterEdges {
     None,
 }
 
-// The outer edges of a patch.
+// Returns the outer edges of a patch.
 pub fn edges_of(patch: Patch, spacing: Spacing, top: u32) -> OuterEdges
     requires { ⌜ Top top ⌝ }
     ensures { λ r. ⌜ r ≡ edgesOf spacing top patch ⌝ }
@@ -60,7 +60,7 @@ pub fn edges_of(patch: Patch, spacing: Spacing, top: u32) -> OuterEdges
     }
 }
 
-// How many points the outline has: each edge has one a segment, as its end is the next one's start.
+// Returns how many points the outline has: each edge has one per segment, as its end is the start of the next.
 pub fn points_around(edges: OuterEdges) -> u32
     requires { ⌜ ValidEdges edges ⌝ }
     ensures { λ r. ⌜ r ≡ length (outlineBy edges) ⌝ }
@@ -81,7 +81,7 @@ pub fn points_around(edges: OuterEdges) -> u32
     }
 }
 
-// The segments of an outer level.
+// Returns the segments of an outer level.
 fn edge_of(level: f32, spacing: Spacing, top: u32) -> Segments
     requires { ⌜ Top top ⌝ }
     ensures { λ r. ⌜ r ≡ segmentsOf spacing top level ⌝ }

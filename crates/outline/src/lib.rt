@@ -1,3 +1,3 @@
-// The outline of a patch: its outer edges, and its points as words of a list.
+// The outline of a patch: its outer edges, and its points as words.
 pub mod edges;
 pub mod words;

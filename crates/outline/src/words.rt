@@ -1,4 +1,4 @@
-// The outline of a patch by its outer edges, as words of a list that is lent for it, three a point.
+// The outline of a patch as words, three per point, in a list that the caller lends.
 ghost use mathlib.Core.List.{[], _∷_};
 ghost use Prim.Native.Nat.{_+_, _*_, _≤_};
 ghost use lib.ListN.{length};
@@ -11,7 +11,7 @@ ghost use Rattle.outline.specs.Outlines.{outlineBy, ValidEdges, OutlineO
 use crate::edges::OuterEdges;
 use level::Segments;
 
-// The outline of a triangle patch: the front of a patch whose inside is one point.
+// Writes the outline of a triangle patch: the first points of a patch whose inner level gives two segments.
 fn write_triangle(words: &mut [u32], e0: Segments, e1: Segments, e2: Segments) -> usize
     requires { ⌜ Valid (e0 .count) (e0 .scaled) × Valid (e1 .count) (e1 .scaled) × Valid (e2 .count) (e2 .scaled) ⌝ ∗ ⌜ 3 * around (run e0 ∷ run e1 ∷ run e2 ∷ []) + 3 ≤ length (now words) ⌝ }
     ensures { λ r. ⌜ OutlineOf (ring trianglePlace 0 (run e0 ∷ run e1 ∷ run e2 ∷ []) 0) (now (words .exit)) r ⌝ }
@@ -23,7 +23,7 @@ fn write_triangle(words: &mut [u32], e0: Segments, e1: Segments, e2: Segments) -
     triangle_vertices::triangle::write_triangle_patch(words, 0, e0, e1, e2, inside) - 3
 }
 
-// The outline of a quad patch: all of a patch that has no inside.
+// Writes the outline of a quad patch: all points of a patch with no inner points.
 fn write_quad(words: &mut [u32], e0: Segments, e1: Segments, e2: Segments, e3: Segments) -> usize
     requires { ⌜ Valid (e0 .count) (e0 .scaled) × Valid (e1 .count) (e1 .scaled) × Valid (e2 .count) (e2 .scaled) × Valid (e3 .count) (e3 .scaled) ⌝ ∗ ⌜ 3 * around (run e0 ∷ run e1 ∷ run e2 ∷ run e3 ∷ []) ≤ length (now words) ⌝ }
     ensures { λ r. ⌜ OutlineOf (ring quadPlace 0 (run e0 ∷ run e1 ∷ run e2 ∷ run e3 ∷ []) 0) (now (words .exit)) r ⌝ }
@@ -35,7 +35,8 @@ fn write_quad(words: &mut [u32], e0: Segments, e1: Segments, e2: Segments, e3: S
     quad_vertices::quad::write_quad_patch(words, 0, e0, e1, e2, e3, one, one)
 }
 
-// The outline of these edges; how many words it has. There is room for one point more, as a triangle's outline takes.
+// Writes the outline of these edges; returns how many words it has. The list needs room for one more point, which the outline
+// of a triangle writes.
 pub fn write_outline(words: &mut [u32], edges: OuterEdges) -> usize
     requires { ⌜ ValidEdges edges ⌝ ∗ ⌜ 3 * length (outlineBy edges) + 3 ≤ length (now words) ⌝ }
     ensures { λ r. ⌜ OutlineOf (outlineBy edges) (now (words .exit)) r ⌝ }

@@ -1,5 +1,4 @@
--- A level's number of segments.
--- Assumes nothing.
+-- The number of segments of a level. Assumes nothing.
 use Prim.Native.Nat.{ℕ, _≤_}
 use lib.Ieee.{Float}
 use Rattle.level.specs.declared.Spacing.{Spacing}

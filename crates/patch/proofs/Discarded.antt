@@ -1,5 +1,4 @@
--- The subdivision says whether the patch is discarded.
--- Assumes nothing.
+-- `isDiscarded` of a subdivision agrees with `discards` of the patch. Assumes nothing.
 use Prim.Native.Nat.{ℕ}
 use mathlib.Core.Path.{_≡_, refl}
 use mathlib.Core.Bool.{Bool, true, false, cond}
@@ -12,7 +11,7 @@ use Rattle.patch.specs.declared.subdivision.Subdivision.the-variants.{Di
 use Rattle.patch.specs.Every.{every}
 use Rattle.patch.specs.Subdivide.{single, discards, cut, subdivision, isDiscarded}
 
--- neither of two is discarded
+-- neither of two subdivisions is discarded
 either : (t : Bool) (c d : Subdivision) → isDiscarded c ≡ false → isDiscarded d ≡ false → isDiscarded (cond t c d) ≡ false
 either true c d h k = h
 either false c d h k = k

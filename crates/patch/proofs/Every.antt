@@ -1,5 +1,4 @@
--- Tests of all elements of a list, as the code makes them.
--- Assumes nothing.
+-- Tests of the elements of a list, in the code's order. Assumes nothing.
 use Prim.Native.Nat.{ℕ, _+_, _≤_}
 use mathlib.Core.Path.{_≡_, refl}
 use mathlib.Core.Bool.{Bool, true, false}
@@ -17,7 +16,7 @@ module _ {A : Type 0} (test : A → Bool) (x : A) (xs : List A) (r : Bool) (e : 
   unfolding some
   some-first h = rw (← e, h)
 
-  -- it does not, and the others decide
+  -- the first element fails, and the others decide
   pub some-rest : (s : Bool) → r ≡ false → s ≡ some test xs → s ≡ some test (x ∷ xs)
   unfolding some
   some-rest s h k = rw (← e, h) k
@@ -28,7 +27,7 @@ unfolding some
 some-last test x true e = rw (← e)
 some-last test x false e = rw (← e)
 
--- ---- counts that are all 1, by their sum
+-- ---- all counts are 1 exactly if their sum is their number
 unfoldable pub total : {A : Type 0} → (A → ℕ) → List A → ℕ
 total count [] = 0
 total count (x ∷ xs) = count x + total count xs

@@ -1,5 +1,4 @@
--- With odd spacing and the top level 2 every triangle or quad patch that is not discarded is the plain one.
--- Assumes nothing.
+-- With odd spacing and the top level 2, every triangle or quad patch that is not discarded is plain. Assumes nothing.
 use mathlib.Core.Path.{_≡_, refl}
 use mathlib.Core.Bool.{true, false}
 use mathlib.Core.List.{List, [], _∷_}
@@ -18,7 +17,7 @@ unfolding every
 all-single [] = refl
 all-single (x ∷ xs) = rw (eq-eqb _ 1 (odd-top-two x), all-single xs)
 
--- so a patch that is not discarded is the plain one
+-- so a patch that is not discarded is plain
 pub plain-triangle : (a b c i : Float) → discards (Triangles a b c i) ≡ false → subdivision FractionalOdd 2 (Triangles a b c i) ≡ PlainTriangle
 unfolding subdivision
 plain-triangle a b c i h = rw (h, all-single (a ∷ b ∷ c ∷ i ∷ []))

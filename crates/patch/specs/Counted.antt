@@ -1,5 +1,4 @@
--- What the code knows of a level's segments.
--- Assumes nothing.
+-- The segments of a level, as the code holds them. Assumes nothing.
 use Prim.Native.Nat.{ℕ, _≤_}
 use mathlib.Core.Path.{_≡_}
 use lib.Ieee.{Float}
@@ -7,7 +6,7 @@ use Rattle.level.specs.declared.Spacing.{Spacing}
 use Rattle.level.specs.declared.Segments.{Segments}
 use Rattle.level.specs.Segments.{segmentsOf}
 
--- r is the segments that the level x gives for the top level t; they are at most 64
+-- r has the n and L of the level x under the top level t, and n is at most 64
 pub record Counted (s : Spacing) (t : ℕ) (x : Float) (r : Segments) : Type 0 where
   pub all : r ≡ segmentsOf s t x
   pub is : r .count ≡ segmentsOf s t x .count

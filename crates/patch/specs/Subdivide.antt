@@ -1,5 +1,4 @@
--- What a patch is cut into: discarded, the plain patch, or the segments (n and L) of each edge outside and inside.
--- Assumes nothing.
+-- What a patch is cut into: nothing if discarded, the plain patch, or n and L of each outer edge and inner level. Assumes nothing.
 use Prim.Native.Nat.{ℕ}
 use mathlib.Core.Bool.{Bool, true, false, cond}
 use mathlib.Core.List.{List, [], _∷_}
@@ -21,16 +20,16 @@ outers (Triangles a b c i) = a ∷ b ∷ c ∷ []
 outers (Quads a b c d i j) = a ∷ b ∷ c ∷ d ∷ []
 outers (Isolines a b) = a ∷ b ∷ []
 
--- a level gives one segment, for the top level t
+-- the level gives one segment, under the top level t
 abbrev pub single : Spacing → ℕ → Float → Bool
 single s t x = eqb (segmentsOf s t x .count) 1
 
--- the patch is discarded: one of its outer levels is NaN or <= 0
+-- the patch is discarded: an outer level is NaN or <= 0
 abbrev pub discards : Patch → Bool
 discards p = some discarded (outers p)
 
--- the segments of a patch that is not discarded; where every level that counts has n = 1 it is the plain patch.
--- The inner level i of a quad patch gives its rows and j its columns. The number of isolines has equal spacing whatever is asked
+-- the subdivision of a patch that is not discarded; it is the plain patch if every level that counts gives one segment. The first
+-- inner level i of a quad patch gives its rows, the second, j, its columns. The number of isolines always has equal spacing.
 abbrev pub cut : Spacing → ℕ → Patch → Subdivision
 cut s t (Triangles a b c i) =
     cond (every (single s t) (a ∷ b ∷ c ∷ i ∷ [])) PlainTriangle
@@ -43,7 +42,7 @@ cut s t (Isolines a b) = Lines (segmentsOf Equal t a) (segmentsOf s t b)
 unfoldable pub subdivision : Spacing → ℕ → Patch → Subdivision
 subdivision s t p = cond (discards p) Discarded (cut s t p)
 
--- a subdivision that draws nothing
+-- whether the subdivision draws nothing
 abbrev pub isDiscarded : Subdivision → Bool
 isDiscarded Discarded = true
 isDiscarded PlainTriangle = false

@@ -16,7 +16,7 @@ pub enum Patch {
         inner0: f32,
         inner1: f32,
     },
-    // How many lines, and how many segments along each.
+    // The number of isolines, and the segments along each.
     Isolines {
         outer0: f32,
         outer1: f32,

@@ -1,4 +1,4 @@
-// Patches, how they are to be drawn, and into how many segments each of their edges is cut.
+// Patches, their settings, and the number of segments of each edge.
 pub mod kinds;
 pub mod settings;
 pub mod subdivision;

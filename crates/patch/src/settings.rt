@@ -1,4 +1,4 @@
-// How a patch is to be drawn.
+// The settings with which a patch is drawn.
 ghost use mathlib.Core.Path.{_≡_};
 ghost use Rattle.patch.specs.Turn.{positive};
 use level::Spacing;
@@ -15,14 +15,14 @@ pub enum DomainOrigin {
 
 pub struct Settings {
     pub spacing: Spacing,
-    // The top level, an even number from 2 to 64 (`level::is_top`); for odd spacing levels go up to one less.
+    // The top level, an even number from 2 to 64 (`level::is_top`); levels of odd spacing go up to one less.
     pub top: u32,
     pub order: VertexOrder,
     pub origin: DomainOrigin,
     pub point_mode: bool,
 }
 
-// Whether triangles turn as the strips give them: counter-clockwise seen from a lower-left origin.
+// Whether the orientation asked for is that of the strips: counter-clockwise with a lower-left origin, clockwise with an upper-left one.
 pub fn turns_positive(order: VertexOrder, origin: DomainOrigin) -> bool
     ensures { λ r. ⌜ r ≡ positive order origin ⌝ }
 {

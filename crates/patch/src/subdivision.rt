@@ -1,4 +1,4 @@
-// From a patch's levels to the segments of each of its edges, outside and inside.
+// From the levels of a patch to the segments of its outer edges and inner levels.
 ghost use mathlib.Core.Path.{_≡_};
 ghost use mathlib.Core.List.{[], _∷_};
 ghost use Rattle.level.specs.Clamp.{lowest, highest};
@@ -36,7 +36,6 @@ pub enum Subdivision {
     },
 }
 
-// Whether the patch is discarded.
 pub fn is_discarded(cut: Subdivision) -> bool
     ensures { λ r. ⌜ r ≡ isDiscarded cut ⌝ }
 {
@@ -62,7 +61,7 @@ pub fn is_discarded(cut: Subdivision) -> bool
     }
 }
 
-// The segments of a patch's edges, their levels clamped to `top`, for odd spacing to one less.
+// Returns the segments of each edge; levels are clamped to `top`, or one less for odd spacing.
 pub fn subdivide(patch: Patch, spacing: Spacing, top: u32) -> Subdivision
     requires { ⌜ Top top ⌝ }
     ensures { λ r. ⌜ r ≡ subdivision spacing top patch ⌝ }
@@ -117,7 +116,7 @@ fn discards4(a: f32, b: f32, c: f32, d: f32) -> bool
     }
 }
 
-// The segments of a level, clamped or not, whose spacing has the given range.
+// Returns the segments of a level whose spacing has the given range.
 fn segments_in(level: f32, spacing: Spacing, top: u32, range: Range) -> Segments
     requires { ⌜ Top top ⌝ ∗ ⌜ range ≡ record { lowest = lowest spacing; highest = highest spacing top } ⌝ }
     ensures { λ r. ⌜ Counted spacing top level r ⌝ }
@@ -126,7 +125,7 @@ fn segments_in(level: f32, spacing: Spacing, top: u32, range: Range) -> Segments
     clamped.segments
 }
 
-// The same, where another level of the patch has the segments `own`: levels are often alike, and then nothing is worked out again.
+// The same, given that the level `other` has the segments `own`: equal levels, which are common, are not computed twice.
 fn segments_beside(
     level: f32,
     other: f32,
@@ -148,7 +147,7 @@ fn segments_beside(
     segments_in(level, spacing, top, range)
 }
 
-// A count is at least 1, so all of them are 1 where they add up to their number.
+// Each count is at least 1, so all are 1 exactly if their sum is the number of counts.
 fn triangle(
     spacing: Spacing,
     top: u32,

@@ -1,4 +1,4 @@
--- From what the two drawing operations promise to the text of a record. Assumes nothing.
+-- From the contracts of the two drawing operations to the text of a record. Assumes nothing.
 use Prim.Native.Nat.{ℕ, zero, suc, _+_, _*_, _/_, _≤_}
 use mathlib.Core.Path.{_≡_, refl, sym, ap, _∙_}
 use mathlib.Core.Bool.{Bool, true, false, cond}
@@ -30,13 +30,13 @@ use Rattle.patch_text.proofs.Rows.{rows-front}
 use Rattle.patch_text.proofs.Sizes.{width-range, points-fit, indices-fit, text-fits}
 
 module _ (set : Settings) (p : Patch) where
-  -- the text that goes with an answer's number
+  -- the text for the number of an answer
   abbrev numbered : ℕ → List ℕ
   numbered zero = drawnText set p
   numbered (suc zero) = discardedLine
   numbered (suc (suc n)) = refusedLine (suc (suc n))
 
-  -- an operation that has room wherever the top is one tells by its number what is said of the patch
+  -- if there is room for every good top level, the number of the operation's answer gives the text
   said : (short need have count : ℕ) → (Top (set .top) → need ≤ have) → {t : Told} → t ≡ verdict set p short need have count → recordText set p ≡ numbered (t .number)
   unfolding verdict
   said short need have count long e = go (isTop (set .top)) (discards p) refl ∙ ap (λ (t : Told). numbered (t .number)) (sym e)
@@ -48,7 +48,7 @@ module _ (set : Settings) (p : Patch) where
       go true true e = refl
       go true false e = rw (le-ltb have need (long (top-as (set .top) e)))
 
-  -- what the answers to drawing the points and the indices say
+  -- the text that the answers to drawing points and to drawing indices give
   pub points-said : {v v′ : List ℕ} {r s : PointsAnswer} {n : ℕ} → DrewPoints set p v v′ r → r ≡ s → FullSize (length v) n → recordText set p ≡ numbered (toldPoints s .number)
   points-said {v} d e h = said 3 (3 * pointsOf set p) (length v) (pointsOf set p) (λ top. omega (arith, points-fit set top p)) (ap toldPoints (sym e) ∙ d .answer)
 
@@ -66,13 +66,13 @@ module _ (set : Settings) (p : Patch) where
             (rows-front 3 (pointsOf set p) v (pointWords set p) (omega (arith, words-length (points (subdivision (set .spacing) (set .top) p)))));
       }
 
-  -- a drawn patch in two lists: it can be printed from them in the room for one record, and what is printed is what is said of the patch
+  -- a drawn patch in two lists: its text fits into the room for one record, and is `recordText`
   pub record Printed (P I : ℕ) (v i : List ℕ) : Type 0 where
     pub mesh : Mesh (widthOf (set .«point_mode») p) (length v) (length i) P I
     pub fits : 28 + 33 * P + 18 * (I / widthOf (set .«point_mode») p) ≤ room
     pub is : recordText set p ≡ listText (widthOf (set .«point_mode») p) v i P I
 
-  -- the points were drawn before, and now the indices
+  -- the points were drawn before, and the indices now
   pub printed : {P I : ℕ} {v i i′ : List ℕ} {r : IndicesAnswer} → Placed set p P v → FullSize (length v) (length i) → DrewIndices set p i i′ r → length i′ ≡ length i → r ≡ indices.Drawn I
       → Printed P I v i′
   unfolding drawnText

@@ -20,7 +20,7 @@ row-front : (width n : ℕ) (xs ys : List ℕ) → width * n + width ≤ length 
 unfolding over
 row-front width n xs ys h = ap (λ (l : List ℕ). line (drop (width * n) l)) (take-append-le (width * n + width) ys (drop (0 + length ys) xs) h)
 
--- rows within what was written at the front are rows of that
+-- rows within the words written at the front are rows of those words
 pub rows-front : (width count : ℕ) (xs ys : List ℕ) → width * count ≤ length ys → rows width (over xs 0 ys) 0 count ≡ rows width ys 0 count
 unfolding rows
 rows-front width count xs ys h =

@@ -1,4 +1,4 @@
--- How many indices a primitive has, and that no record takes more room than one is given. Assumes nothing.
+-- How many indices a primitive has, and that no record needs more than the given room. Assumes nothing.
 use Prim.Native.Nat.{ℕ, _+_, _*_, _/_, _≤_}
 use mathlib.Core.Path.{_≡_, refl}
 use mathlib.Core.Bool.{Bool, true, false}
@@ -24,7 +24,7 @@ width-range false (Triangles a b c i) = omega arith
 width-range false (Quads a b c d i j) = omega arith
 width-range false (Isolines a b) = omega arith
 
--- the primitives of a patch
+-- the number of primitives of a patch
 few-primitives : (s : Spacing) (t : ℕ) → Top t → (mode : Bool) (p : Patch) → countIn mode (subdivision s t p) / widthOf mode p ≤ 8192
 few-primitives s t top true p = omega (arith, points-at-most s t top p, point-count (subdivision s t p) (cut-valid s t top p))
 few-primitives s t top false (Triangles a b c i) = omega (arith, sizes-at-most s t top (Triangles a b c i))
@@ -32,19 +32,19 @@ few-primitives s t top false (Quads a b c d i j) = omega (arith, sizes-at-most s
 few-primitives s t top false (Isolines a b) = omega (arith, sizes-at-most s t top (Isolines a b))
 
 module _ (set : Settings) (top : Top (set .top)) (p : Patch) where
-  -- the points and the indices fit full-size lists
+  -- the points and the indices fit into full-size lists
   pub points-fit : 3 * pointsOf set p ≤ 12675
   points-fit = omega (arith, points-at-most (set .spacing) (set .top) top p)
 
   pub indices-fit : indicesOf set p ≤ 24576
   indices-fit = indices-at-most set top p
 
-  -- the text fits the room for one record
+  -- the text fits into the room for one record
   pub text-fits : 28 + 33 * pointsOf set p + 18 * (indicesOf set p / widthOf (set .«point_mode») p) ≤ room
   text-fits =
       rw (index-count set (subdivision (set .spacing) (set .top) p) (cut-valid (set .spacing) (set .top) top p)) (omega (arith, points-at-most (set .spacing) (set .top) top p, few-primitives (set .spacing) (set .top) top (set .«point_mode») p))
 
--- ---- every index stands in a primitive
+-- ---- the indices are whole primitives
 
 threes : (s : Spacing) (t : ℕ) → Cases s t (λ p c. widthOf false p * (primitiveCount c / widthOf false p) ≡ primitiveCount c)
 unfolding primitiveCount

@@ -13,30 +13,30 @@ use Rattle.text.specs.Heads.{drawnLine, discardedLine, refusedLine}
 use Rattle.text.specs.Lines.{rows}
 use Rattle.patch_text.specs.Widths.{widthOf}
 
--- ---- of lists
+-- ---- the text of lists
 
--- the lines of P points and I indices: the counts, a line a point, a line a primitive of `width` indices
+-- the text of a mesh of P points and I indices: the counts, a line per point, a line per primitive of `width` indices
 abbrev pub listText : ℕ → List ℕ → List ℕ → ℕ → ℕ → List ℕ
 listText width vertices indices P I = drawnLine P I ++ rows 3 vertices 0 P ++ rows width indices 0 (I / width)
 
--- lists of v and i words hold P points and I indices
+-- lists of v and i words have room for P points and I indices
 pub record Mesh (width v i P I : ℕ) : Type 0 where
   pub some : 1 ≤ width
   pub most : width ≤ 3
   pub vertices : 3 * P ≤ v
   pub indices : I ≤ i
 
--- ---- of patches
+-- ---- the text of patches
 
--- the points of a patch stand at the front of a list, and P is how many
+-- the P points of a patch are at the front of a list
 pub record Placed (set : Settings) (p : Patch) (P : ℕ) (vertices : List ℕ) : Type 0 where
   pub count : P ≡ pointsOf set p
   pub lines : rows 3 vertices 0 P ≡ rows 3 (pointWords set p) 0 (pointsOf set p)
 
--- the text of a patch that is drawn
+-- the text of a drawn patch
 unfoldable pub drawnText : Settings → Patch → List ℕ
 drawnText set p = listText (widthOf (set .«point_mode») p) (pointWords set p) (connectionWords set p) (pointsOf set p) (indicesOf set p)
 
--- what is said of a patch that is drawn into full-size lists: its top is bad, it is discarded, or drawn
+-- the text of the answer for a patch with full-size lists: bad top level, discarded or drawn
 abbrev pub recordText : Settings → Patch → List ℕ
 recordText set p = cond (isTop (set .top)) (cond (discards p) discardedLine (drawnText set p)) (refusedLine 11)

@@ -4,7 +4,7 @@ use mathlib.Core.Bool.{Bool, true, false}
 use Rattle.patch.specs.declared.kinds.Patch.{Patch}
 use Rattle.patch.specs.declared.kinds.Patch.the-variants.{Triangles, Quads, Isolines}
 
--- one for a dot, whatever the kind; three for a triangle, two for a line
+-- a dot has one, a line two, a triangle three
 abbrev pub widthOf : Bool → Patch → ℕ
 widthOf true p = 1
 widthOf false (Triangles a b c i) = 3

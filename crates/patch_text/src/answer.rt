@@ -1,4 +1,4 @@
-// The answer to one patch, as text.
+// The text of the answer for one patch.
 ghost use Prim.Native.Nat.{_+_, _≤_};
 ghost use lib.ListN.{length};
 ghost use Rattle.buffer.specs.Over.{Wrote};
@@ -11,7 +11,7 @@ use patch::settings::Settings;
 use tessellate::answer::IndicesAnswer;
 use tessellate::answer::PointsAnswer;
 
-// The points of a patch stand in their list: draws the indices and says what came of both.
+// Draws the indices of a patch whose points are in `vertices`, and writes the text for both.
 fn put_indexed(
     out: &mut [u8],
     at: usize,
@@ -42,7 +42,7 @@ fn put_indexed(
     }
 }
 
-// Draws a patch into two full-size lists and says what came of it.
+// Draws a patch into two full-size lists, and writes the text of the answer.
 pub fn put_patch(
     out: &mut [u8],
     at: usize,

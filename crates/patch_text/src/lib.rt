@@ -1,4 +1,4 @@
-// The text that answers one patch.
+// The text of the answer for one patch.
 pub mod answer;
 mod mesh_text;
 mod width;

@@ -1,10 +1,10 @@
-// The text of a drawn patch: the counts, a line a point, a line a primitive.
+// The text of a drawn patch: the counts, a line per point, a line per primitive.
 ghost use Prim.Native.Nat.{_+_, _*_, _/_, _≤_};
 ghost use lib.ListN.{length};
 ghost use Rattle.buffer.specs.Over.{Wrote};
 ghost use Rattle.patch_text.specs.Answers.{Mesh, listText};
 
-// The first `points` points of a list of vertices, and the first `words` indices of a list of indices, `width` to a primitive.
+// Writes the first `points` points of a vertex list, and the first `words` indices of an index list, `width` per primitive.
 pub fn put_mesh(
     out: &mut [u8],
     at: usize,

@@ -1,2 +1,2 @@
--- The laws of the table of points.
+-- The laws of `point_table`.
 pub mod Trees

@@ -1,5 +1,4 @@
--- The table of points: what a search in it passes, and the table with one point more.
--- Assumes nothing.
+-- The table of points: what a search in it passes, and the table with one more point. Assumes nothing.
 use Prim.Native.Nat.{ℕ, zero, suc, _+_, _-_, _*_, _/_, _%_, _≤_, _<_}
 use mathlib.Core.Path.{_≡_, refl, sym, ap, subst, _∙_}
 use mathlib.Core.Bool.{Bool, true, false, true≢false}
@@ -22,7 +21,7 @@ test-false : (b : Bool) → (b ≡ true → ⊥) → b ≡ false
 test-false true h = absurd (h refl)
 test-false false h = refl
 
--- ---- a search: the points at the places so far do not lie at p
+-- ---- a search: no point at the places so far equals p
 pub data Passed (ps : List Point) (t : List ℕ) (slots : ℕ) (p rest : Point) (x : ℕ) : Type 0 where
   passing : (d : ℕ) → rest ≡ restAfter p d → x ≡ placeAt t slots p d
       → ((e : ℕ) → e < d → (0 < getD t (placeAt t slots p e) 0) × (samePoint (at ps (getD t (placeAt t slots p e) 0 - 1)) p ≡ false)) → Passed ps t slots p rest x
@@ -44,7 +43,7 @@ module _ (ps : List Point) (t : List ℕ) (slots : ℕ) (p : Point) where
   unfolding restAfter
   rest-step d = refl
 
-  -- past a point that lies elsewhere
+  -- past a point other than p
   pub passed-more : {rest rest′ : Point} {x : ℕ} (k b : ℕ) → Passed ps t slots p rest x → k ≡ getD t x 0 → 0 < k → samePoint (at ps (k - 1)) p ≡ false → rest′ ≡ turned rest → b ≡ rest .u % 2
       → Passed ps t slots p rest′ (slots + 2 * (k - 1) + b)
   passed-more {rest} {rest′} {x} k b (passing d r e h) v l s r′ f =
@@ -56,7 +55,7 @@ module _ (ps : List Point) (t : List ℕ) (slots : ℕ) (p : Point) where
         | no y ↦ h i (omega arith)
       ])
 
-  -- to an empty place: no point of the table lies at p
+  -- at an empty place: no point in the table equals p
   meets : {rest : Point} {x : ℕ} → Passed ps t slots p rest x → getD t x 0 ≡ 0 → (i : ℕ) → samePoint (at ps i) p ≡ true → Held t slots p (suc i) → ⊥
   meets (passing d r e h) z i s (held y (steps b f o) v) = elim (decLe d b) [
     | yes m ↦ elim (decLe b d) [
@@ -76,7 +75,7 @@ module _ (ps : List Point) (t : List ℕ) (slots : ℕ) (p : Point) where
   pub passed-way : {rest : Point} {x : ℕ} → Passed ps t slots p rest x → Way t slots p x
   passed-way (passing d r e h) = steps d e (λ i l. h i l .0)
 
--- ---- a search ends: at a point that lies at p, or at an empty place
+-- ---- a search ends at a point equal to p, or at an empty place
 module _ {ps : List Point} {slots n : ℕ} {t : List ℕ} {p rest : Point} {x : ℕ} (h : Passed ps t slots p rest x) (l : x < slots + 2 * n) where
   pub sought-at : (k : ℕ) → k ≡ getD t x 0 → 0 < k → samePoint (at ps (k - 1)) p ≡ true → Sought ps slots n t p x
   sought-at k e g s = record { place = l; found = λ z. rw (← e) s; none = λ z. absurd (omega arith); way = passed-way ps t slots p h }
@@ -84,7 +83,7 @@ module _ {ps : List Point} {slots n : ℕ} {t : List ℕ} {p rest : Point} {x : 
   pub sought-empty : PointTable ps slots n t → getD t x 0 ≡ 0 → Sought ps slots n t p x
   sought-empty g z = record { place = l; found = λ m. absurd (omega arith); none = λ e. passed-all ps t slots p g h e; way = passed-way ps t slots p h }
 
--- ---- the table with one point more, at an empty place
+-- ---- the table with one more point, at an empty place
 module _ (t : List ℕ) (slots x v : ℕ) (z : getD t x 0 ≡ 0) where
   apart : (y : ℕ) → 0 < getD t y 0 → y ≡ x → ⊥
   apart y l e = omega (arith, ap (λ (j : ℕ). getD t j 0) e)
@@ -142,7 +141,7 @@ zero-at (suc n) (suc k) = zero-at n k
 pub table-none : (ps : List Point) (slots n : ℕ) → slots ≤ length (replicate {A = ℕ} n 0) → PointTable ps slots 0 (replicate n 0)
 table-none ps slots n l = record { room = omega arith; most = λ x. omega (arith, zero-at n x); down = λ x m. absurd (omega (arith, zero-at n x)); there = λ i m. absurd (omega arith) }
 
--- ---- what a search says of a point of the list
+-- ---- what a search for the next point shows
 module _ {ps : List Point} {slots n : ℕ} {t : List ℕ} {p : Point} {x : ℕ} (s : Sought ps slots n t p x) (e : p ≡ at ps n) where
   pub sought-new : getD t x 0 ≡ 0 → repeats ps n ≡ false
   sought-new z = some-none (λ i. samePoint (at ps i) (at ps n)) n (λ i l. rw e at (s .none z i l))

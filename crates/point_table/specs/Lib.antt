@@ -1,2 +1,2 @@
--- The definitions of the table of points.
+-- The definitions of `point_table`.
 pub mod Trees

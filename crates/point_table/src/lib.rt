@@ -1,7 +1,7 @@
-// A table of points in trees: `slots` places, one for each slot, then two places for each point. A place holds 0, or one more than the
-// number of a point. A point is looked for at the place of its slot and, as long as another point is there, at one of that point's
-// two places, by the next bit of its coordinates. Points that part at a bit part in the tree, so no search passes more than 96 points,
-// whatever their slots.
+// A table of points as binary trees: one place for each of `slots` slots, then two places for each point. A place holds 0, or
+// one more than the number of a point. The search for a point starts at the place of its slot; where it meets another point it
+// goes to one of that point's two places, by the next bit of the coordinates. Points that differ in a bit go different ways, so
+// no search passes more than 96 points, whatever their slots.
 ghost use mathlib.Core.Path.{_≡_};
 ghost use Prim.Native.Nat.{_+_, _*_, _/_, _%_, _≤_, _<_};
 ghost use lib.ListN.{length};
@@ -12,7 +12,7 @@ use mesh::Point;
 use searches::point::lies_at;
 use searches::point::point_at;
 
-// The slot of a point, of so many.
+// Returns the slot of a point, of `slots` slots.
 pub fn slot_of(p: Point, slots: usize) -> usize
     requires { ⌜ 0 < slots ⌝ }
     ensures { λ r. ⌜ r ≡ slotOf slots p ⌝ ∗ ⌜ r < slots ⌝ }
@@ -20,14 +20,14 @@ pub fn slot_of(p: Point, slots: usize) -> usize
     ((p.u as u64 + 65 * (p.v as u64) + 4225 * (p.w as u64)) % (slots as u64)) as usize
 }
 
-// The next bit of coordinates: the last bit of the first one.
+// Returns the next bit of the coordinates: the lowest bit of the first.
 fn next_bit(p: Point) -> usize
     ensures { λ r. ⌜ (r ≡ p .u % 2) × (r ≤ 1) ⌝ }
 {
     (p.u % 2) as usize
 }
 
-// What is left of them: the others come first.
+// Returns the coordinates after one step: the lowest bit of the first is dropped, and the first becomes the last.
 fn turn(p: Point) -> Point
     ensures { λ r. ⌜ r ≡ turned p ⌝ }
 {
@@ -38,7 +38,7 @@ fn turn(p: Point) -> Point
     }
 }
 
-// The place of a point at p in the table of the first `count` points, or the empty place that it would get.
+// Returns the place of a point equal to p in the table of the first `count` points, or the empty place for it.
 pub fn seek(points: &[u32], count: usize, table: &[u16], slots: usize, p: Point) -> usize
     requires { ⌜ PointTable (readPoints (now points)) slots count (now table) ⌝ ∗ ⌜ count ≤ length (now points) / 3 ⌝ ∗ ⌜ 0 < slots ⌝ }
     ensures { λ x. ⌜ Sought (readPoints (now (points .entry))) slots count (now (table .entry)) p x ⌝ }
@@ -57,7 +57,7 @@ pub fn seek(points: &[u32], count: usize, table: &[u16], slots: usize, p: Point)
     x
 }
 
-// Puts the points into an empty table, up to the first one that lies where an earlier one lies; the number of that one, or of all points.
+// Puts the points into an empty table, up to the first point that equals an earlier point; returns the number of that point, or of all points.
 pub fn fill(points: &[u32], table: &mut [u16], slots: usize) -> usize
     requires { ⌜ PointTable (readPoints (now points)) slots 0 (now table) ⌝ ∗ ⌜ 0 < slots ⌝ ∗ ⌜ slots + 2 * (length (now points) / 3) ≤ length (now table) ⌝ ∗ ⌜ length (now points) / 3 < 65536 ⌝ }
     ensures { λ r. ⌜ r ≡ firstRepeated (readPoints (now (points .entry))) ⌝ ∗ ⌜ PointTable (readPoints (now (points .entry))) slots r (now (table .exit)) ⌝ }

@@ -1,5 +1,4 @@
--- A quad patch whose places stand in rows: its outline, and its inner points.
--- Assumes nothing.
+-- A quad patch whose places are in rows: its outline, and its inner points. Assumes nothing.
 use Prim.Native.Nat.{ℕ, _+_, _-_, _*_, _≤_}
 use mathlib.Core.Path.{_≡_, refl}
 use mathlib.Core.List.{List, [], _∷_}
@@ -25,14 +24,14 @@ inner-are rows columns =
     (grid-same (crossing (middle rows) (middle columns)) (inner (whole rows) (whole columns)) (length rows - 1 - 1) (length columns - 1 - 1)
     (λ r c l k. same-point _ _ (middle-at columns c k) (middle-at rows r l) refl))
 
--- the outline, and the inner points
+-- the patch's points are the outline, then the inner points
 quad-parts : (e0 e1 e2 e3 rows columns : List ℕ) {es : List Run} → AllSame es (whole e0 ∷ whole e1 ∷ whole e2 ∷ whole e3 ∷ []) → (xs : List ℕ) (at : ℕ)
     → at + 3 * length (quadPatch (whole e0) (whole e1) (whole e2) (whole e3) (whole rows) (whole columns)) ≤ length xs
     → Parts (quadPatch (whole e0) (whole e1) (whole e2) (whole e3) (whole rows) (whole columns)) (ring quadPlace 0 es 0)
     (gridPoints (middle rows) (middle columns)) xs at
 quad-parts e0 e1 e2 e3 rows columns s xs at room = record { is = rw (ring-same quadPlace 0 0 s, inner-are rows columns); room = room }
 
--- ---- the writing of both parts
+-- ---- writing both parts
 module _ {e0 e1 e2 e3 rows columns : List ℕ} (good : GoodRow e0 × GoodRow e1 × GoodRow e2 × GoodRow e3 × GoodRow rows × GoodRow columns) (xs : List ℕ) (at : ℕ)
     (room : at + 3 * length (quadPatch (whole e0) (whole e1) (whole e2) (whole e3) (whole rows) (whole columns)) ≤ length xs) where
   parts : Parts (quadPatch (whole e0) (whole e1) (whole e2) (whole e3) (whole rows) (whole columns))

@@ -10,7 +10,7 @@ ghost use Rattle.vertices.specs.Rows.{listed, whole, Clear, GoodRow};
 ghost use Rattle.vertices.specs.Edges.{edgePoints};
 use vertices::place::quad_place;
 
-// Edge k of the outline: a point for each place.
+// Writes the points of edge k of the outline, one per place.
 fn write_edge(out: &mut [u32], at: usize, row: &[u32], k: u32) -> usize
     requires { ⌜ k < 4 ⌝ ∗ ⌜ Clear 0 (listed (now row)) ⌝ ∗ ⌜ at + 3 * length (now row) ≤ length (now out) ⌝ }
     ensures { λ w. ⌜ Wrote (now (out .entry)) at (vertexWords (edgePoints quadPlace k (listed (now (row .entry))) 0)) (now (out .exit)) w ⌝ }
@@ -25,7 +25,7 @@ fn write_edge(out: &mut [u32], at: usize, row: &[u32], k: u32) -> usize
     to
 }
 
-// The outline, each edge without its end.
+// Writes the outline; each edge is without its end.
 fn write_outline(
     out: &mut [u32],
     at: usize,
@@ -43,7 +43,7 @@ fn write_outline(
     write_edge(out, w, e3, 3)
 }
 
-// A patch, where each row has the places of an edge, its end's too.
+// Writes a patch; each row has the places of an edge, its end included.
 pub fn write_rows(
     out: &mut [u32],
     at: usize,

@@ -1,5 +1,4 @@
--- A quad patch whose rows are the rows of its edges.
--- Assumes nothing.
+-- A quad patch whose rows are those of its edges. Assumes nothing.
 use Prim.Native.Nat.{ℕ, suc, _+_, _-_, _*_, _≤_}
 use mathlib.Core.Path.{_≡_, refl, ap}
 use mathlib.Core.List.{List, [], _∷_}
@@ -34,7 +33,7 @@ module _ (e0 e1 e2 e3 rows columns : Segments) {x0 x1 x2 x3 xs ys : List ℕ} (h
   same : quadPatch (whole x0) (whole x1) (whole x2) (whole x3) (whole xs) (whole ys) ≡ quadPatch (run e0) (run e1) (run e2) (run e3) (run rows) (run columns)
   same = quad-are (run e0) (run e1) (run e2) (run e3) (run rows) (run columns) h0 h1 h2 h3 h k
 
-  -- they are good rows, and there is room for what they give
+  -- the rows are good, and there is room for the points
   pub rows-ready : AllValid (e0 ∷ e1 ∷ e2 ∷ e3 ∷ rows ∷ columns ∷ []) → (out : List ℕ) (at : ℕ) → at + 3 * length (quadPatch (run e0) (run e1) (run e2) (run e3) (run rows) (run columns)) ≤ length out
       → (GoodRow x0 × GoodRow x1 × GoodRow x2 × GoodRow x3 × GoodRow xs × GoodRow ys) × (at + 3 * length (quadPatch (whole x0) (whole x1) (whole x2) (whole x3) (whole xs) (whole ys)) ≤ length out)
   rows-ready v out at room =

@@ -1,4 +1,4 @@
-// The points of a quad patch by the segments of its edges, whose rows stand in the table or are filled in.
+// The points of a quad patch from the segments of its edges; the rows of places come from the table or are computed.
 ghost use Prim.Native.Nat.{_+_, _*_, _≤_};
 ghost use mathlib.Core.List.{[], _∷_};
 ghost use lib.ListN.{length};
@@ -13,7 +13,7 @@ use quad_rows::write_rows;
 use stored_rows::row_of;
 use stored_rows::widest;
 
-// A patch whose rows stand in the table.
+// Writes a patch whose rows are in the table.
 fn write_stored(
     out: &mut [u32],
     at: usize,
@@ -37,7 +37,7 @@ fn write_stored(
     write_rows(out, at, r0, r1, r2, r3, r4, r5)
 }
 
-// A patch whose rows are filled in by division, one every 65 words.
+// Writes a patch whose rows are computed by division, one every 65 words.
 fn write_divided(
     out: &mut [u32],
     at: usize,
@@ -68,8 +68,8 @@ fn write_divided(
     write_rows(out, at, r0, r1, r2, r3, r4, r5)
 }
 
-// The grid has m - 1 rows of n - 1 points, where `rows` has m segments and `columns` n.
-// Of equal spacing the places are the table's, of which no more rows are laid out than the edges need.
+// Writes a patch; the grid has m - 1 rows of n - 1 points, where `rows` has m segments and `columns` n. For equal spacing the
+// places come from the table, of which no more rows are copied than the edges need.
 pub fn write_quad_patch(
     out: &mut [u32],
     at: usize,
@@ -108,7 +108,7 @@ pub fn write_quad_patch(
     write_divided(out, at, e0, e1, e2, e3, rows, columns)
 }
 
-// The plain patch: its four corners.
+// Writes the plain patch: its four corners.
 pub fn write_plain_quad(out: &mut [u32], at: usize) -> usize
     requires { ⌜ at + 12 ≤ length (now out) ⌝ }
     ensures { λ w. ⌜ Wrote (now (out .entry)) at (vertexWords quadCorners) (now (out .exit)) w ⌝ }

@@ -1,4 +1,4 @@
--- The program never says 11: a record that was read has an allowed top level. Assumes nothing.
+-- The program never answers 11: a record that was read has a good top level. Assumes nothing.
 use Prim.Native.Nat.{ℕ}
 use mathlib.Core.Path.{_≡_, refl}
 use mathlib.Core.Bool.{cond}

@@ -1,4 +1,4 @@
--- The answer to what stands in a job where a record is read. Assumes nothing.
+-- The program's text for what it reads at a record's place in a job. Assumes nothing.
 use Prim.Native.Nat.{ℕ}
 use mathlib.Core.List.{List, []}
 use Rattle.job.specs.declared.next.NextRecord.{NextRecord}
@@ -7,14 +7,14 @@ use Rattle.job.specs.Patches.{patchOf}
 use Rattle.text.specs.Heads.{refusedLine}
 use Rattle.patch_text.specs.Answers.{recordText}
 
--- its text: no line at the end, and an 8 without its place
+-- the text: empty at the end of the job; for answer 8 it omits the place
 abbrev pub reply : NextRecord → List ℕ
 reply (Read r next) = recordText (r .settings) (patchOf r)
 reply End = []
 reply CutRecord = refusedLine 7
 reply (UnknownSetting place next) = refusedLine 8
 
--- where reading goes on, in bytes that end at `end`: past the record, also after an 8; a 7 is the last
+-- where reading continues, in bytes that end at `end`: after the record, also for answer 8; a cut record is the last
 abbrev pub goesOn : ℕ → NextRecord → ℕ
 goesOn end (Read r next) = next .at
 goesOn end End = end

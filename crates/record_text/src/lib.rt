@@ -1,2 +1,2 @@
-// The text that answers one record of a job, or what stands in its place.
+// The text for one record of a job, or for what is in its place.
 pub mod reply;

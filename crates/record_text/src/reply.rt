@@ -1,4 +1,4 @@
-// The answer to what stands in a job where a record is read.
+// The text for what is at a record's place in a job.
 ghost use mathlib.Core.Path.{_≡_};
 ghost use Prim.Native.Nat.{_+_, _≤_};
 ghost use lib.ListN.{length};
@@ -11,7 +11,7 @@ use job::next::NextRecord;
 use job::record::Record;
 use patch_text::answer::put_patch;
 
-// A record that was read, drawn into full-size lists.
+// Draws a record into full-size lists, and writes the text.
 fn put_record(
     out: &mut [u8],
     at: usize,
@@ -27,7 +27,7 @@ fn put_record(
     put_patch(out, at, patch, settings, vertices, indices)
 }
 
-// A record, or why there is none.
+// Writes the text for a record, or for the answer in its place.
 pub fn put_reply(
     out: &mut [u8],
     at: usize,
@@ -46,7 +46,7 @@ pub fn put_reply(
     }
 }
 
-// Where reading goes on, in bytes that end at `end`.
+// Returns where reading continues, in bytes that end at `end`.
 pub fn next_place(found: NextRecord, end: usize) -> usize
     ensures { λ r. ⌜ r ≡ goesOn end found ⌝ }
 {

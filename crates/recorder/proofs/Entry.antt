@@ -1,4 +1,4 @@
--- Both sides of an entry that was written are what drawing answered. Assumes nothing.
+-- The recorded and the replayed answer of a written entry are the answer that drawing gave. Assumes nothing.
 use Prim.Native.Nat.{ℕ, _+_, _<_}
 use mathlib.Core.Path.{_≡_, refl, sym, ap, subst, _∙_}
 use mathlib.Core.Bool.{Bool, true, false, cond}
@@ -30,7 +30,7 @@ use Rattle.replay_entry.proofs.Today.{replayed-read, read-top}
 use Rattle.replay_entry.proofs.Sides.{equal-same}
 use Rattle.recorder.specs.Recordings.{Call, Made, answered, outcomeBytes, entryBytes}
 
--- both counts of a patch fit two bytes
+-- both counts of a patch fit into two bytes
 counts-fit : (set : Settings) (p : Patch) → Top (set .top) → (patchOutcome set p .points < 65536) × (patchOutcome set p .indices < 65536)
 unfolding patchOutcome
 counts-fit set p top = go (discards p)

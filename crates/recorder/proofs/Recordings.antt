@@ -33,7 +33,7 @@ header-length : length headerBytes ≡ 5
 unfolding lowBytes
 header-length = refl
 
--- replaying says that all of them agree, and how many there are
+-- a replay answers that all entries agree, and how many there are
 pub recording-agrees : (cs : List Call) → AllMade cs → replayOf (recordingOf cs) ≡ AllAgree (length cs)
 recording-agrees cs w =
     replay-more 0 headerBytes (entriesBytes cs) header-length

@@ -1,5 +1,4 @@
--- The recording of calls that were made: each record as the writer of job files writes it, and what drawing answered to it. Assumes
--- nothing.
+-- The recording of a list of calls: each record as `job_writer` writes it, with the answer that drawing gave. Assumes nothing.
 use Prim.Native.Nat.{ℕ}
 use mathlib.Core.List.{List, [], _∷_, _++_}
 use lib.ListN.{length, getD}
@@ -18,13 +17,13 @@ use Rattle.job_writer.specs.Whole.{Writable}
 use Rattle.replay_entry.specs.declared.outcome.Outcome.{Outcome}
 use Rattle.replay.specs.Replays.{mark}
 
--- a call: a record, and what the two drawing operations answered to it
+-- a call: a record, and the answers of the two drawing operations to it
 pub record Call : Type 0 where
   pub entry : Record
   pub points : PointsAnswer
   pub indices : IndicesAnswer
 
--- the call was made: the record can be written, and both operations drew its patch into full-size lists
+-- the call was made: the record can be written, and both operations were called for its patch with full-size lists
 pub record Made (c : Call) : Type 0 where
   pub writable : Writable One (c .entry)
   pub levels : Agrees (c .entry)
@@ -41,7 +40,7 @@ pub data AllMade : List Call → Type 0 where
   none : AllMade []
   more : {c : Call} {cs : List Call} → Made c → AllMade cs → AllMade (c ∷ cs)
 
--- the answer's number and both counts, zero unless drawn
+-- the number of the answer and both counts, which are 0 unless drawn
 abbrev pub answered : Call → Outcome
 answered c = record {
   answer = toldPoints (c .points) .number;
@@ -49,15 +48,15 @@ answered c = record {
   indices = getD (toldIndices (c .indices) .values) 0 0;
 }
 
--- in an entry: a byte, and two bytes for each count, low byte first
+-- an answer in an entry: one byte for its number, two for each count, low byte first
 abbrev pub outcomeBytes : Outcome → List ℕ
 outcomeBytes o = (o .answer ∷ []) ++ (lowBytes 2 (o .points) ++ lowBytes 2 (o .indices))
 
--- an entry: the record, and what was answered
+-- an entry: the record, then the answer
 unfoldable pub entryBytes : Call → List ℕ
 entryBytes c = recordBytes One (c .entry) ++ outcomeBytes (answered c)
 
--- entries, one after the other
+-- the bytes of entries, joined
 unfoldable pub entriesBytes : List Call → List ℕ
 entriesBytes [] = []
 entriesBytes (c ∷ cs) = entryBytes c ++ entriesBytes cs
@@ -66,6 +65,6 @@ entriesBytes (c ∷ cs) = entryBytes c ++ entriesBytes cs
 abbrev pub headerBytes : List ℕ
 headerBytes = mark ++ lowBytes 2 1
 
--- the recording of some calls
+-- the recording of a list of calls
 abbrev pub recordingOf : List Call → List ℕ
 recordingOf cs = headerBytes ++ entriesBytes cs

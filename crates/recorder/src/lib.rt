@@ -1,1 +1,1 @@
-// Definitions and theorems with no code: recordings that are written as job files are, each record with what drawing answered to it.
+// Recordings written like job files, each record with the answer that drawing gave. Definitions and theorems, with no code to run.

@@ -1,4 +1,4 @@
--- When each answer of a replay is given. Assumes nothing.
+-- When a replay gives each answer. Assumes nothing.
 use Prim.Native.Nat.{ℕ, zero, suc, _+_, _-_, _*_, _≤_, _<_}
 use mathlib.Core.Path.{_≡_, refl, sym, subst, _∙_}
 use mathlib.Core.Bool.{Bool, true, false, cond, false≢true}
@@ -20,7 +20,7 @@ use Rattle.replay.proofs.Headers.{start-short, start-other, start-versi
 use Rattle.replay.proofs.Steps.{entries-step, entries-none, entries-cut}
 
 module _ (bs : List ℕ) where
-  -- what is said from entry i on
+  -- the answer from entry i on
   abbrev from : ℕ → Replay
   from i = entriesFrom i (drop (5 + entrySize * i) bs)
 
@@ -32,14 +32,14 @@ module _ (bs : List ℕ) where
       let n : 5 + 34 * i + 34 ≡ 5 + 34 * suc i = omega arith in
       entries-step i (drop (5 + entrySize * i) bs) (omega (arith, left i)) ∙ rw (drop-drop entrySize (5 + entrySize * i) bs, n)
 
-  -- entries that agree are passed over
+  -- entries that agree do not change the answer
   skip : (n : ℕ) → 5 + entrySize * n ≤ length bs → AgreeBefore bs n → from 0 ≡ from n
   skip zero h a = refl
   skip (suc n) h a =
       let e = entryAt bs n in
       skip n (omega arith) (λ i l. a i (omega arith)) ∙ step n h ∙ rw (equal-same (recorded e) (replayed e) (a n (omega arith)))
 
-  -- ---- from what an answer means to the answer
+  -- ---- if an answer is right, it is given
 
   headed : {r : Replay} → Headed bs → from 0 ≡ r → replayOf bs ≡ r
   unfolding replayOf
@@ -63,7 +63,7 @@ module _ (bs : List ℕ) where
       let e = entryAt bs k in
       headed h (skip k (omega arith) s ∙ step k l ∙ rw (differ-same (recorded e) (replayed e) d, ← ea, ← eb))
 
-  -- ---- from the answer to what it means
+  -- ---- if an answer is given, it is right
 
   one-more : (i : ℕ) → AgreeBefore bs i → AgreesAt bs i → AgreeBefore bs (suc i)
   one-more i a e j l = elim (decLt j i) [
@@ -79,7 +79,7 @@ module _ (bs : List ℕ) where
       | no l ↦ rw (entries-cut i (drop (5 + entrySize * i) bs) (omega (arith, left i)) (omega (arith, left i, h .long))) (h, omega (arith, h .long), rw e at a)
     ]
 
-    -- one entry, and those after it
+    -- one entry, then those after it
     turn : (i : ℕ) → 5 + entrySize * suc i ≤ length bs → AgreeBefore bs i → (AgreeBefore bs (suc i) → ReplayMeans bs (from (suc i))) → ReplayMeans bs (from i)
     turn i l a rest = subst (ReplayMeans bs) (sym (step i l)) (go (agrees (entryAt bs i)) refl)
       where
@@ -109,6 +109,6 @@ module _ (bs : List ℕ) where
     | no h ↦ let k : length bs < 5 = omega arith in rw (means-replay NotARecording (inl k)) (inl k)
   ]
 
-  -- an answer is given exactly where it is the right one
+  -- each answer is given exactly if it is right
   pub replay-exactly : (r : Replay) → replayOf bs ≡ r ↔ ReplayMeans bs r
   replay-exactly r = (λ e. rw e at replay-means, means-replay r)

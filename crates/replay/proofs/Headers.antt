@@ -1,4 +1,4 @@
--- What the header of a recording says, test by test. Assumes nothing.
+-- The answer for the header of a recording, test by test. Assumes nothing.
 use Prim.Native.Nat.{ℕ, _-_, _≤_, _<_}
 use mathlib.Core.Path.{_≡_, subst, sym, ap, _∙_}
 use mathlib.Core.Bool.{Bool, true, false, cond, or-true, false≢true}
@@ -34,24 +34,24 @@ module _ (bs : List ℕ) where
   unfolding startOf
   start-right h m e = rw (le-ltb _ _ h, m, e)
 
-  -- under 5 bytes nothing follows
+  -- under 5 bytes there are no entries
   pub replay-short : length bs < 5 → replayOf bs ≡ NotARecording
   unfolding replayOf
   replay-short h = rw (start-short h)
 
-  -- else what follows the header, as the code takes it
+  -- else the entries after the header, as the code takes them
   pub replay-long : {s r : Replay} → s ≡ startOf bs → r ≡ goOn s (take (length bs - 5) (drop 5 bs)) → r ≡ replayOf bs
   unfolding replayOf
   replay-long e h = h ∙ rw (e, take-all (length bs - 5) (drop 5 bs) (omega (arith, length-drop 5 bs)))
 
--- a header that is read has all its bytes
+-- a header that is accepted has all its bytes
 pub start-open : (bs : List ℕ) → isOpen (startOf bs) ≡ true → 5 ≤ length bs
 start-open bs h = elim (decLe 5 (length bs)) [
   | yes l ↦ l
   | no l ↦ absurd (false≢true (sym (ap isOpen (start-short bs (omega arith))) ∙ h))
 ]
 
--- a header counts no entry
+-- after the header the number of entries is 0
 pub start-countable : (bs : List ℕ) {s : Replay} {n : ℕ} → s ≡ startOf bs → n ≤ 18446744073709551615 → Countable s n
 unfolding startOf
 start-countable bs {n = n} e h = subst (λ (r : Replay). Countable r n) (sym e) (go (notARecording bs) (eqb (versionIn bs) 1))

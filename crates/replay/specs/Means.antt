@@ -1,4 +1,4 @@
--- When each answer of a replay is the right one. Assumes nothing.
+-- When each answer of a replay is right. Assumes nothing.
 use Prim.Native.Nat.{ℕ, suc, _+_, _-_, _*_, _/_, _%_, _≤_, _<_}
 use mathlib.Core.Path.{_≡_}
 use mathlib.Core.List.{List, [], _∷_}
@@ -11,7 +11,7 @@ use Rattle.replay_entry.specs.Entries.{recorded, replayed}
 use Rattle.replay.specs.Replays.{mark, entrySize, replayOf}
 use Rattle.replay.specs.Told.{toldReplay}
 
--- a recording's header: the mark, and version 1
+-- the bytes begin with a recording's header: the mark, and version 1
 pub record Headed (bs : List ℕ) : Type 0 where
   pub long : 5 ≤ length bs
   pub marked : take 3 bs ≡ mark
@@ -21,7 +21,7 @@ pub record Headed (bs : List ℕ) : Type 0 where
 abbrev pub entryAt : List ℕ → ℕ → List ℕ
 entryAt bs i = take entrySize (drop (5 + entrySize * i) bs)
 
--- what was recorded in entry i is what is answered today
+-- the recorded and the replayed answer of entry i are equal
 abbrev pub AgreesAt : List ℕ → ℕ → Type 0
 AgreesAt bs i = recorded (entryAt bs i) ≡ replayed (entryAt bs i)
 
@@ -33,7 +33,7 @@ AgreeBefore bs n = (i : ℕ) → i < n → AgreesAt bs i
 abbrev pub wholeEntries : List ℕ → ℕ
 wholeEntries bs = (length bs - 5) / entrySize
 
--- an answer is the right one
+-- the answer is right
 abbrev pub ReplayMeans : List ℕ → Replay → Type 0
 ReplayMeans bs NotARecording = (length bs < 5) ⊎ (take 3 bs ≡ mark → ⊥)
 ReplayMeans bs UnknownVersion = (5 ≤ length bs) × (take 3 bs ≡ mark) × (versionIn bs ≡ 1 → ⊥)
@@ -42,7 +42,7 @@ ReplayMeans bs CutEntry = Headed bs × (1 ≤ (length bs - 5) % entrySize) × Ag
 ReplayMeans bs (Differs k a b) =
     Headed bs × (5 + entrySize * suc k ≤ length bs) × AgreeBefore bs k × (AgreesAt bs k → ⊥) × (a ≡ recorded (entryAt bs k)) × (b ≡ replayed (entryAt bs k))
 
--- what a replay promises: the answer, which is given exactly where it is the right one, and by number exactly when it is a 5, a 6 and a 7
+-- the contract of a replay: each answer is given exactly if it is right; by number, exactly when 5, 6 and 7 are given
 pub record ReplaySaid (bs : List ℕ) (r : Replay) : Type 0 where
   pub is : r ≡ replayOf bs
   pub exactly : (x : Replay) → r ≡ x ↔ ReplayMeans bs x

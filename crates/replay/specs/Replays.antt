@@ -1,4 +1,4 @@
--- What a replay says of a whole recording. Assumes nothing.
+-- The answer of a replay of a whole recording. Assumes nothing.
 use Prim.Native.Nat.{ℕ, zero, suc, _+_, _/_, _≤_}
 use mathlib.Core.Bool.{Bool, cond}
 use mathlib.Core.List.{List, [], _∷_}
@@ -9,33 +9,33 @@ use Rattle.replay.specs.declared.answer.Replay.{Replay}
 use Rattle.replay.specs.declared.answer.Replay.the-variants.{AllAgree, Differs, NotARecording, UnknownVersion, CutEntry}
 use Rattle.replay_entry.specs.Entries.{recorded, replayed, agrees}
 
--- the mark: the letters TSR
+-- the mark: the bytes of "TSR"
 abbrev pub mark : List ℕ
 mark = 0x54 ∷ 0x53 ∷ 0x52 ∷ []
 
--- how many bytes an entry has: a record of 29, a number, and two counts of two bytes
+-- how many bytes an entry has: a record of 29, the answer's number, and two counts of two bytes each
 abbrev pub entrySize : ℕ
 entrySize = 34
 
--- 5 applies: under 5 bytes, or another mark
+-- answer 5, not a recording: under 5 bytes, or another mark
 abbrev pub notARecording : List ℕ → Bool
 notARecording bs = lacksMark mark bs
 
--- what the header says: 5, 6 for a version that is not 1, or that all of no entries agree so far
+-- the answer after the header: 5, 6 if the version is not 1, or that all of 0 entries agree
 unfoldable pub startOf : List ℕ → Replay
 startOf bs = cond (notARecording bs) NotARecording (cond (eqb (versionIn bs) 1) (AllAgree 0) UnknownVersion)
 
--- what is said of n whole entries and of what is left after them, where the first of them is entry k
+-- the answer for n whole entries, the first of which is entry k, and the bytes after them
 unfoldable pub sayEntries : ℕ → ℕ → List ℕ → Replay
 sayEntries zero k bs = cond (eqb (length bs) 0) (AllAgree k) CutEntry
 sayEntries (suc n) k bs =
     cond (agrees (take entrySize bs)) (sayEntries n (suc k) (drop entrySize bs)) (Differs k (recorded (take entrySize bs)) (replayed (take entrySize bs)))
 
--- what is said of entries that begin with entry k
+-- the answer for entries of which the first is entry k
 abbrev pub entriesFrom : ℕ → List ℕ → Replay
 entriesFrom k bs = sayEntries (length bs / entrySize) k bs
 
--- the bytes that follow what was said so far: they change it only where all agree
+-- the answer after further bytes: they matter only if all entries so far agree
 abbrev pub goOn : Replay → List ℕ → Replay
 goOn (AllAgree k) bs = entriesFrom k bs
 goOn (Differs k a b) bs = Differs k a b
@@ -43,11 +43,11 @@ goOn NotARecording bs = NotARecording
 goOn UnknownVersion bs = UnknownVersion
 goOn CutEntry bs = CutEntry
 
--- what is said of the bytes of a recording: of its header, then of the entries after it
+-- the answer for the bytes of a recording: its header, then its entries
 unfoldable pub replayOf : List ℕ → Replay
 replayOf bs = goOn (startOf bs) (drop 5 bs)
 
--- n entries more can be counted in 64 bits
+-- counting n more entries stays within 64 bits
 abbrev pub Countable : Replay → ℕ → Type 0
 Countable (AllAgree k) n = k + n ≤ 18446744073709551615
 Countable (Differs k a b) n = Unit {0}

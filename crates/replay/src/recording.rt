@@ -1,4 +1,4 @@
-// A recording: a header of five bytes, then entries of 34 bytes. It is replayed whole, or piece by piece.
+// A recording: a header of five bytes, then entries of 34 bytes. It is replayed as a whole, or piece by piece.
 ghost use mathlib.Core.Path.{_≡_};
 ghost use Prim.Native.Nat.{_+_, _/_, _≤_};
 ghost use lib.ListN.{length};
@@ -12,12 +12,12 @@ use replay_entry::entry::read_recorded;
 use replay_entry::entry::replay_record;
 use replay_entry::outcome::same_outcome;
 
-// What a recording begins with, and the one version that is read.
+// The first bytes of a recording, and the only version that is read.
 pub const MARK: [u8; 3] = *b"TSR";
 
 const VERSION: u16 = 1;
 
-// What its header says: all of no entries agree so far, or the refusal.
+// Returns the answer after the header: that all of 0 entries agree, or the refusal.
 pub fn read_start(bytes: &[u8]) -> Replay
     ensures { λ r. ⌜ r ≡ startOf (now (bytes .entry)) ⌝ }
 {
@@ -30,7 +30,7 @@ pub fn read_start(bytes: &[u8]) -> Replay
     Replay::AllAgree { entries: 0 }
 }
 
-// Entries from number `first` on: a cut one is found only where all before it agree.
+// Replays the entries from number `first` on; a cut entry is reported only if all entries before it agree.
 fn replay_entries(bytes: &[u8], first: u64, vertices: &mut [u32], indices: &mut [u16]) -> Replay
     requires { ⌜ FullSize (length (now vertices)) (length (now indices)) ⌝ ∗ ⌜ first + length (now bytes) / 34 ≤ 18446744073709551615 ⌝ }
     ensures { λ r. ⌜ r ≡ entriesFrom first (now (bytes .entry)) ⌝ }
@@ -58,7 +58,7 @@ fn replay_entries(bytes: &[u8], first: u64, vertices: &mut [u32], indices: &mut 
     Replay::AllAgree { entries: entry }
 }
 
-// The next piece of a recording, after what was said so far: only where all agree does it change anything.
+// Replays the next piece of a recording; it changes the answer only if all entries so far agree.
 pub fn go_on(so_far: Replay, bytes: &[u8], vertices: &mut [u32], indices: &mut [u16]) -> Replay
     requires { ⌜ FullSize (length (now vertices)) (length (now indices)) ⌝ ∗ ⌜ Countable «so_far» (length (now bytes) / 34) ⌝ }
     ensures { λ r. ⌜ r ≡ goOn «so_far» (now (bytes .entry)) ⌝ }
@@ -76,7 +76,7 @@ pub fn go_on(so_far: Replay, bytes: &[u8], vertices: &mut [u32], indices: &mut [
     }
 }
 
-// A whole recording.
+// Replays a whole recording.
 pub fn replay(bytes: &[u8]) -> Replay
     ensures { λ r. ⌜ ReplaySaid (now (bytes .entry)) r ⌝ }
 {

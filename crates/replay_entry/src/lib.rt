@@ -1,4 +1,4 @@
-// One entry of a recording: what was recorded of a call, and what is answered to it today.
+// One entry of a recording: the recorded answer, and the answer that a replay gives.
 pub mod entry;
 pub mod outcome;
 mod patch_outcome;

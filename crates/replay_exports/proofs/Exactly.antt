@@ -1,4 +1,4 @@
--- A call that replays answers each number exactly where it means. Assumes nothing.
+-- A call that replays gives each number exactly if it is right. Assumes nothing.
 use Prim.Native.Nat.{ℕ}
 use mathlib.Core.Path.{_≡_, refl, sym, _∙_}
 use mathlib.Core.Bool.{cond}
@@ -15,7 +15,7 @@ use Rattle.answer_codes.specs.Reports.{Reports}
 use Rattle.answer_codes.proofs.Exactly.{number-exactly, answered-exactly}
 use Rattle.replay_exports.specs.Calls.{callNumber, sevenWords, sideIn, ReplayCalled, ReplayExactly}
 
--- the answer that a number and seven words stand for
+-- the answer with this number and these seven words
 abbrev answerIn : ℕ → List ℕ → Replay
 answerIn n w =
     cond (eqb n 0) (AllAgree (getD w 0 0))

@@ -1,4 +1,4 @@
-// Replaying, as a call.
+// The exported call.
 ghost use Rattle.replay_exports.specs.Calls.{ReplayCalled};
 use crate::words::number_of;
 use crate::words::words_of;

@@ -1,4 +1,4 @@
-// An answer as a number, and the words that are told beside it.
+// An answer as a number, and as the words in memory.
 ghost use mathlib.Core.Path.{_≡_};
 ghost use Rattle.replay.specs.Told.{toldReplay};
 ghost use Rattle.replay_exports.specs.Calls.{callNumber, sevenWords};
@@ -21,7 +21,7 @@ pub(crate) fn number_of(answer: Replay) -> u32
     }
 }
 
-// An entry, and both sides of it.
+// The words for an entry and both its answers.
 fn seven_words(entry: u64, recorded: Outcome, replayed: Outcome) -> [u64; 7]
     ensures { λ r. ⌜ r ≡ sevenWords (toldReplay (Replay.Differs entry recorded replayed) .values) ⌝ }
 {

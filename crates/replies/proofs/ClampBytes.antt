@@ -1,4 +1,4 @@
--- The bytes of a measured patch's levels. Assumes nothing.
+-- The bytes for a measured patch's levels. Assumes nothing.
 use Prim.Native.Nat.{ℕ}
 use mathlib.Core.Path.{_≡_, refl, _∙_}
 use mathlib.Core.List.{List, _∷_}
@@ -10,13 +10,13 @@ use Rattle.tessellate.specs.declared.answer.Size.the-variants.{Counts}
 use Rattle.tessellate.specs.Answers.{toldSize}
 use Rattle.replies.specs.Clamps.{clampBytes}
 
--- there are six of them
+-- there are six bytes
 pub six-numbers : (p i : ℕ) (c : Clamps) → clampNumbers c ≡ clampBytes (p ∷ i ∷ clampNumbers c)
 six-numbers p i (Triangles a b c d) = refl
 six-numbers p i (Quads a b c d e f) = refl
 six-numbers p i (Isolines a b) = refl
 
--- the bytes of an answer known by name
+-- the bytes of a known answer
 pub bytes-as : {size s : Size} {k : List ℕ} → size ≡ s → k ≡ clampBytes (toldSize s .values) → k ≡ clampBytes (toldSize size .values)
 bytes-as e h = rw e h
 

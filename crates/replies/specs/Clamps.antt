@@ -3,7 +3,7 @@ use Prim.Native.Nat.{ℕ}
 use mathlib.Core.List.{List, [], _∷_}
 use lib.ListN.{getD}
 
--- the bytes that measuring writes for an answer's values: those after the two counts, 0 where there is none
+-- the bytes that measuring writes: the values of the answer after the two counts, or 0
 abbrev pub clampBytes : List ℕ → List ℕ
 clampBytes vs = getD vs 2 0 ∷ getD vs 3 0 ∷ getD vs 4 0 ∷ getD vs 5 0 ∷ getD vs 6 0 ∷ getD vs 7 0 ∷ []
 

@@ -1,4 +1,4 @@
--- Answers as numbers, each with the values that are told beside it. Assumes nothing.
+-- Answers as a number with two values. Assumes nothing.
 use Prim.Native.Nat.{ℕ}
 use mathlib.Core.Path.{_≡_}
 use mathlib.Core.List.{List, [], _∷_}
@@ -7,11 +7,11 @@ use lib.ListN.{getD}
 use Rattle.tessellate.specs.Answers.{Told}
 use Rattle.replies.specs.declared.reply.Reply.{Reply}
 
--- an answer's number and its two values, 0 where there is none
+-- the number of an answer and its first two values; 0 for a value that it lacks
 abbrev pub replyOf : Told → Reply
 replyOf t = record { number = t .number; first = getD (t .values) 0 0; second = getD (t .values) 1 0 }
 
--- the same field by field: r is what `replyOf` gives
+-- r is `replyOf t`, field by field
 pub record Tells (t : Told) (r : Reply) : Type 0 where
   pub number : r .number ≡ t .number
   pub first : r .first ≡ getD (t .values) 0 0
@@ -21,18 +21,18 @@ pub record Tells (t : Told) (r : Reply) : Type 0 where
 abbrev pub unknownSetting : ℕ → Told
 unknownSetting place = record { number = 8; values = place ∷ [] }
 
--- answer 11: the top level is none
+-- answer 11, bad top: the number is not a top level
 abbrev pub badTop : Told
 badTop = record { number = 11; values = [] }
 
--- the words that a call writes for an answer's values: two of them, or one
+-- the words that a call writes for the values of an answer: two, or one
 abbrev pub twoWords : List ℕ → List ℕ
 twoWords vs = getD vs 0 0 ∷ getD vs 1 0 ∷ []
 
 abbrev pub oneWord : List ℕ → List ℕ
 oneWord vs = getD vs 0 0 ∷ []
 
--- r is an answer's number, and the counts hold the words of its values
+-- r is the number of the answer t, and the counts c′ hold the words of its values
 pub record Says (words : List ℕ → List ℕ) (t : Told) (c′ : List ℕ) (r : ℕ) : Type 0 where
   pub number : r ≡ t .number
   pub counts : c′ ≡ words (t .values)

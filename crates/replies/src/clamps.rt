@@ -1,4 +1,4 @@
-// What measuring says of each level, as bytes in the caller's memory.
+// Where each level lies, as bytes in the caller's memory.
 ghost use mathlib.Core.Path.{_≡_};
 ghost use Rattle.level_clamps.specs.declared.Clamps.the-variants.{Triangles, Quads, Isolines};
 ghost use Rattle.level_clamps.specs.Numbers.{clampNumber, clampNumbers};

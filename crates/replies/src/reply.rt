@@ -1,4 +1,4 @@
-// Answers as numbers, each with the values that are told beside it, and how they reach the caller's memory.
+// Answers as a number with two values, and how they are written to the caller's memory.
 ghost use mathlib.Core.Path.{_≡_};
 ghost use mathlib.Core.List.{[], _∷_};
 ghost use Prim.Native.Nat.{_<_};
@@ -8,14 +8,14 @@ use tessellate::answer::IndicesAnswer;
 use tessellate::answer::PointsAnswer;
 use tessellate::answer::Size;
 
-// A value that is not told is 0.
+// A value that the answer lacks is 0.
 pub struct Reply {
     pub number: u32,
     pub first: u32,
     pub second: u32,
 }
 
-// A number with no values.
+// A number without values.
 pub fn refusal(number: u32) -> Reply
     ensures { λ r. ⌜ Tells (refused number) r ⌝ }
 {
@@ -26,7 +26,7 @@ pub fn refusal(number: u32) -> Reply
     }
 }
 
-// The number 0 with its values.
+// The number 0 with two values.
 pub fn success(first: u32, second: u32) -> Reply
     ensures { λ r. ⌜ Tells (drewBoth first second) r ⌝ }
 {
@@ -90,7 +90,7 @@ pub fn of_indices(answer: IndicesAnswer) -> Reply
     }
 }
 
-// Both values are written whatever the answer is.
+// Writes both values, whatever the answer is.
 pub fn say_two(reply: Reply, counts: &mut [u32; 2]) -> u32
     ensures { λ r. ⌜ r ≡ reply .number ⌝ ∗ ⌜ now (counts .exit) ≡ reply .first ∷ reply .second ∷ [] ⌝ }
 {
@@ -98,7 +98,7 @@ pub fn say_two(reply: Reply, counts: &mut [u32; 2]) -> u32
     reply.number
 }
 
-// The one value of an answer that has no second.
+// Writes the value of an answer that has only one.
 pub fn say_one(reply: Reply, count: &mut [u32; 1]) -> u32
     ensures { λ r. ⌜ r ≡ reply .number ⌝ ∗ ⌜ now (count .exit) ≡ reply .first ∷ [] ⌝ }
 {

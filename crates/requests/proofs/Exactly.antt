@@ -1,4 +1,4 @@
--- A call answers exactly what is right, where its operation does. Assumes nothing.
+-- A call gives exactly the right answers if its operation does. Assumes nothing.
 use Prim.Native.Nat.{ℕ}
 use mathlib.Core.Path.{_≡_, refl, sym, ap, _∙_}
 use mathlib.Core.Bool.{Bool, true, false, cond}
@@ -17,13 +17,13 @@ use Rattle.requests.specs.Asked.{known}
 use Rattle.requests.specs.Exactly.{CallAnswer, unknown, found, toldCall, CallMeans, CalledExactly}
 use Rattle.requests.proofs.Known.{known-cases, one-first, not-all}
 
--- an operation that answers `right`, as it means
+-- an operation whose answer is `right`, which holds exactly for its meaning
 pub record Answers {A : Type 0} (bs : List ℕ) (told : A → Told) (Means : A → Type 0) (right bad : A) : Type 0 where
   pub exactly : (v : A) → right ≡ v ↔ Means v
   pub bad-number : told bad ≡ badTop
   pub bad-top : (Top (topIn bs) → ⊥) → right ≡ bad
 
--- answers that can be read back from their number and their words by `back`
+-- `back` recovers an answer from its number and words
 pub record Readable {A : Type 0} (words : List ℕ → List ℕ) (told : A → Told) (back : ℕ → List ℕ → A) : Type 0 where
   pub same : (v : A) → back (told v .number) (words (told v .values)) ≡ v
   pub no-eight : (v : A) → eqb (told v .number) 8 ≡ false
@@ -82,6 +82,6 @@ module _ {A : Type 0} (bs : List ℕ) (told : A → Told) (Means : A → Type 0)
       pub called-exactly : CalledExactly words told bs Means w r
       called-exactly = answered-exactly answerIn (same-answer answer) told-is same-answer answer-exactly
 
-      -- the number n is answered exactly where that means which n stands for beside the words
+      -- the call gives the number n exactly if the answer that n and the words give is right
       pub number-called : (n : ℕ) → toldCall told (answerIn n w) .number ≡ n → (r ≡ n) ↔ CallMeans bs Means (answerIn n w)
       number-called n e = number-exactly answerIn (same-answer answer) told-is answer-exactly n e

@@ -1,4 +1,4 @@
--- Which answer a call gives: its own for known settings, else that of the refusal. Assumes nothing.
+-- Which answer a call gives: its operation's for known settings, else the refusal. Assumes nothing.
 use Prim.Native.Nat.{ℕ, _<_, _≤_}
 use mathlib.Core.Path.{_≡_, refl, sym, _∙_}
 use mathlib.Core.Bool.{Bool, true, false, cond}
@@ -28,7 +28,7 @@ module _ {A : Type 0} (bs : List ℕ) (bad : A) (unknown : ℕ → A) (t : A) wh
   unfolding known
   all-known e h = rw (e, le-ltb (firstUnknown bs 0) 5 h)
 
--- 0 is said by an operation, and then of what it drew
+-- the answer 0 comes from the operation
 pub known-zero : (bs : List ℕ) (t : Told) → known bs badTop unknownSetting t .number ≡ 0 → known bs badTop unknownSetting t ≡ t
 unfolding known
 known-zero bs t = go (isTop (topIn bs)) (ltb (firstUnknown bs 0) 5)
@@ -38,8 +38,8 @@ known-zero bs t = go (isTop (topIn bs)) (ltb (firstUnknown bs 0) 5)
     go true true e = absurd (omega arith)
     go true false e = refl
 
--- ---- settings that are refused or known, for anything that is said of them
--- the top is none; or it is one, and a setting byte is the first out of range; or all are in range
+-- ---- settings that are refused or known, for any property of the answer
+-- the top level is bad; or it is good and a setting byte is out of range, this one first; or all are in range
 pub known-cases : {A : Type 0} (bs : List ℕ) (bad : A) (other : ℕ → A) (t : A) (P : A → Type 0) → ((Top (topIn bs) → ⊥) → P bad)
     → ((k : ℕ) → Top (topIn bs) → FirstOver choices bs 0 k → P (other k)) → (Top (topIn bs) → AllBelow choices bs 0 → P t) → P (known bs bad other t)
 unfolding known
@@ -50,7 +50,7 @@ known-cases bs bad other t P p q r = go (isTop (topIn bs)) (ltb (firstUnknown bs
     go true true e f = q (firstUnknown bs 0) (top-as (topIn bs) e) (first-is choices bs 0 (firstUnknown bs 0) .0 (refl, ltb-true (firstUnknown bs 0) 5 f))
     go true false e f = r (top-as (topIn bs) e) (first-none choices bs 0 .0 (ltb-false (firstUnknown bs 0) 5 f))
 
--- one byte is the first out of range, and then not all are in range
+-- only one byte is the first out of range, and then not all are in range
 pub one-first : (bs : List ℕ) (k m : ℕ) → FirstOver choices bs 0 k → FirstOver choices bs 0 m → k ≡ m
 one-first bs k m f g = sym (first-is choices bs 0 k .1 f .0) ∙ first-is choices bs 0 m .1 g .0
 

@@ -1,4 +1,4 @@
--- What the reading of a call gives, and what follows for the call. Assumes nothing.
+-- What reading a call's input gives, and what follows for the call. Assumes nothing.
 use Prim.Native.Nat.{ℕ, suc, _<_, _≤_}
 use mathlib.Core.Path.{_≡_, refl, sym, ap, _∙_}
 use mathlib.Core.Bool.{Bool, true, false, cond}
@@ -22,7 +22,7 @@ use Rattle.requests.specs.Inputs.{topIn, patchIn, settingsIn}
 use Rattle.requests.specs.Asked.{known, askedIn}
 use Rattle.requests.proofs.Known.{top-bad, setting-unknown, all-known}
 
--- ---- the reading, return by return
+-- ---- reading, return by return
 module _ (bs : List ℕ) (xs : List Float) {top : ℕ} (last : top ≡ topIn bs) where
   pub asked-bad : {reply : Reply} → isTop top ≡ false → Tells badTop reply → Refused reply ≡ askedIn bs xs
   asked-bad e h = ap Refused (tells-is h) ∙ sym (top-bad bs _ _ _ (rw last at e))
@@ -37,7 +37,7 @@ module _ (bs : List ℕ) (xs : List Float) {top : ℕ} (last : top ≡ topIn bs)
     asked-known h es ep = rw (es, ep, last) (sym (all-known bs _ _ _ (rw last at good) (rw first at h)))
 
 -- ---- what follows
--- a refused call: what is told in place of whatever an operation would tell
+-- a refused call: the refusal, whatever the operation would answer
 pub record Instead (bs : List ℕ) (reply : Reply) : Type 0 where
   pub told : Told
   pub less : ℕ
@@ -46,7 +46,7 @@ pub record Instead (bs : List ℕ) (reply : Reply) : Type 0 where
   pub answer : (t : Told) → known bs badTop unknownSetting t ≡ told
   pub clamps : clampBytes (told .values) ≡ noClamps
 
--- a call whose settings are known: the operation tells
+-- a call with known settings: its operation answers
 pub record Granted (bs : List ℕ) (xs : List Float) (set : Settings) (p : Patch) : Type 0 where
   pub top : isTop (topIn bs) ≡ true
   pub first : 5 ≤ firstUnknown bs 0
@@ -90,7 +90,7 @@ module _ (bs : List ℕ) (xs : List Float) {a : Asked} (is : a ≡ askedIn bs xs
       go true true f g h = let z : _≡_ {A = ℕ} 0 1 = cc in absurd (omega arith)
       go true false f g h = record { top = f; first = ltb-false place 5 g; settings = cc; patch = cc }
 
--- an operation's answer for known settings is the call's
+-- the operation's answer is the call's
 module _ {bs : List ℕ} {xs : List Float} {set : Settings} {p : Patch} (g : Granted bs xs set p) where
   pub granted : {A : Type 0} (bad : A) (unknown : ℕ → A) (t : A) → known bs bad unknown t ≡ t
   granted bad unknown t = all-known bs bad unknown t (g .top) (g .first)

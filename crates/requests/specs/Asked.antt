@@ -1,4 +1,4 @@
--- What a call asks for, for every input: bs are the setting bytes and xs the levels. Assumes nothing.
+-- What a call asks for, for every input: bs are the setting bytes, xs the levels. Assumes nothing.
 use Prim.Native.Nat.{ℕ}
 use mathlib.Core.Bool.{cond}
 use mathlib.Core.List.{List}
@@ -11,7 +11,7 @@ use Rattle.requests.specs.Inputs.{topIn, patchIn, settingsIn}
 use Rattle.requests.specs.declared.asked.Asked.{Asked}
 use Rattle.requests.specs.declared.asked.Asked.the-variants.{Refused, Known}
 
--- an operation's answer t is for known settings only; a bad top is told before all else, and then an 8
+-- the answer t if all settings are known; a bad top level comes first, then an unknown setting
 unfoldable pub known : {A : Type 0} → List ℕ → A → (ℕ → A) → A → A
 known bs bad unknown t = cond (isTop (topIn bs)) (cond (ltb (firstUnknown bs 0) 5) (unknown (firstUnknown bs 0)) t) bad
 

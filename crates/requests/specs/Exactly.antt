@@ -1,4 +1,4 @@
--- When a call answers what, for any operation, whose answers are of type A. Assumes nothing.
+-- When a call gives which answer, for an operation with answers of type A. Assumes nothing.
 use Prim.Native.Nat.{ℕ}
 use mathlib.Core.List.{List}
 use Rattle.level.specs.Top.{Top}
@@ -8,7 +8,7 @@ use Rattle.replies.specs.Replies.{unknownSetting}
 use Rattle.answer_codes.specs.Reports.{AnsweredExactly}
 use Rattle.requests.specs.Inputs.{topIn}
 
--- what a call answers: the place of the first setting byte that is out of range, or what its operation answers
+-- the answer of a call: an unknown setting, by its place, or the operation's answer
 pub data CallAnswer (A : Type 0) : Type 0 where
   unknown : ℕ → CallAnswer A
   found : A → CallAnswer A
@@ -17,12 +17,12 @@ abbrev pub toldCall : {A : Type 0} → (A → Told) → CallAnswer A → Told
 toldCall told (unknown place) = unknownSetting place
 toldCall told (found v) = told v
 
--- when each is right, of setting bytes bs, where Means says it of the operation's: a bad top comes first of all, then an unknown setting, and
--- beside a top the operation answers only where all settings are in range
+-- when each answer is right for the setting bytes bs, where `Means` says when the operation's are: a bad top level comes first,
+-- then an unknown setting; with a good top level the operation answers only if all settings are in range
 abbrev pub CallMeans : {A : Type 0} → List ℕ → (A → Type 0) → CallAnswer A → Type 0
 CallMeans bs Means (unknown place) = Top (topIn bs) × FirstOver choices bs 0 place
 CallMeans bs Means (found v) = (Top (topIn bs) → AllBelow choices bs 0) × Means v
 
--- a call answered the number r and left the words w, which it writes for an answer's values by `words`
+-- the call answered the number r and left the words w; `words` gives the words for an answer's values
 abbrev pub CalledExactly : {A : Type 0} → (List ℕ → List ℕ) → (A → Told) → List ℕ → (A → Type 0) → List ℕ → ℕ → Type 0
 CalledExactly words told bs Means w r = AnsweredExactly (λ a. toldCall told a .number) (λ a. words (toldCall told a .values)) (CallMeans bs Means) w r

@@ -1,4 +1,4 @@
--- What a caller hands over: six setting bytes and six levels. Assumes nothing.
+-- What a caller passes: six setting bytes and six levels. Assumes nothing.
 use Prim.Native.Nat.{ℕ}
 use mathlib.Core.List.{List}
 use lib.Ieee.{Float, nan}
@@ -14,7 +14,7 @@ use Rattle.patch.specs.declared.settings.Settings.{Settings}
 abbrev pub levelAt : List Float → ℕ → Float
 levelAt xs k = getD xs k nan
 
--- six levels in the order of a job record: outer one to four, inner one and two
+-- six levels in the order of a job record: four outer, two inner
 abbrev pub levelsIn : List Float → Levels
 levelsIn xs = record {
   outer0 = levelAt xs 0;
@@ -25,14 +25,14 @@ levelsIn xs = record {
   inner1 = levelAt xs 5;
 }
 
--- the patch that setting bytes bs and levels xs ask for: the first byte is its kind
+-- the patch of the setting bytes bs and the levels xs; byte 0 is its kind
 abbrev pub patchIn : List ℕ → List Float → Patch
 patchIn bs xs = patchWith (kindOf (byteAt bs 0)) (levelsIn xs)
 
--- the top level: the last setting byte
+-- the top level: setting byte 5
 abbrev pub topIn : List ℕ → ℕ
 topIn bs = byteAt bs 5
 
--- how it is to be drawn: the five bytes after the kind
+-- the settings: the bytes after the kind
 abbrev pub settingsIn : List ℕ → Settings
 settingsIn bs = settingsAt bs 0 (topIn bs)

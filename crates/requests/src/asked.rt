@@ -1,4 +1,4 @@
-// A call's settings and patch, or why it is refused: a bad top first of all, and then a setting that is unknown.
+// A call's settings and patch, or why it is refused: a bad top level first, then an unknown setting.
 ghost use mathlib.Core.Path.{_≡_};
 ghost use Rattle.requests.specs.Asked.{askedIn};
 use crate::input::patch_in;

@@ -1,4 +1,4 @@
-// The top level and the patch that a caller's settings and levels ask for.
+// The top level and the patch that a caller's setting bytes and levels describe.
 ghost use mathlib.Core.Path.{_≡_};
 ghost use Prim.Native.Nat.{_≤_};
 ghost use lib.ListN.{length};
@@ -6,7 +6,7 @@ ghost use Rattle.requests.specs.Inputs.{topIn, patchIn};
 use job_fields::setting::Kind;
 use patch::kinds::Patch;
 
-// The top level, whether or not it is one.
+// Returns the top level, good or bad.
 pub fn top_in(settings: &[u8]) -> u32
     requires { ⌜ 6 ≤ length (now settings) ⌝ }
     ensures { λ r. ⌜ r ≡ topIn (now (settings .entry)) ⌝ }

@@ -1,5 +1,4 @@
--- A band is written strip after strip.
--- Assumes nothing.
+-- A band is written strip by strip. Assumes nothing.
 use Prim.Native.Nat.{ℕ, _+_, _*_, _≤_, _<_}
 use mathlib.Core.Path.{_≡_, refl, ap, _∙_, subst}
 use mathlib.Core.Bool.{Bool}
@@ -21,7 +20,7 @@ use Rattle.cover.specs.Band.{from, Edge, bandFrom}
 use Rattle.cover.proofs.Ring.{ring-before}
 use Rattle.strip_blocks.specs.Blocks.{on}
 
--- a strip between two lines of vertices, by what the outer line follows
+-- a strip between two lines, where the outer line follows F
 pub outer-follows : (positive : Bool) (i : Line) {o : Line} {F : ℕ → ℕ} {p : ℕ} {xs xs′ : List ℕ} {at w : ℕ} → Follows o F p
     → Wrote xs at (indices positive (strip (vertex o) (vertex i) (o .count) (i .count))) xs′ w → Wrote xs at (indices positive (strip F (vertex i) p (i .count))) xs′ w
 outer-follows positive i {xs = xs} {xs′ = xs′} {at = at} {w = w} h s =
@@ -31,12 +30,12 @@ outer-follows positive i {xs = xs} {xs′ = xs′} {at = at} {w = w} h s =
 abbrev pub Side : Bool → (ℕ → ℕ) → ℕ → Line → List ℕ → ℕ → List ℕ → ℕ → Type 0
 Side positive A p i xs at xs′ w = Wrote xs at (indices positive (strip A (vertex i) p (i .count))) xs′ w
 
--- the place after it
+-- the place after the strip
 pub side-next : (positive : Bool) (A : ℕ → ℕ) (p : ℕ) (i : Line) {xs xs′ : List ℕ} {at w : ℕ} → Side positive A p i xs at xs′ w → w ≡ at + 3 * (p + i .count)
 side-next positive A p i s = omega (arith, words-length A (vertex i) (outerNext p (i .count)) positive (p + i .count) 0 0)
 
 module _ (positive : Bool) (F : ℕ → ℕ) (o o′ : ℕ) (e : Edge) (i : Line) (same : o ≡ o′) (h : Follows i (e .line) (e .r)) where
-  -- the strip of an edge, by what its inner line follows
+  -- the strip of an edge, where the inner line follows the edge's line
   side-follows : {xs xs′ : List ℕ} {at w : ℕ} → Side positive (from o F) (e .p) i xs at xs′ w → Wrote xs at (indices positive (strip (from o′ F) (e .line) (e .p) (e .r))) xs′ w
   side-follows {xs} {xs′} {at} {w} s =
       subst (λ (ts : List Triangle). Wrote xs at (indices positive ts) xs′ w)
@@ -44,7 +43,7 @@ module _ (positive : Bool) (F : ℕ → ℕ) (o o′ : ℕ) (e : Edge) (i : Line
       ∙ strip-same (from o′ F) (from o′ F) (vertex i) (e .line) (e .p) (e .r) (λ k l. refl) (h .at))
       s
 
-  -- that strip, then the edges after it
+  -- that strip, then the strips of the edges after it
   pub band-step : (es : List Edge) {xs xs₁ xs₂ : List ℕ} {at w w′ : ℕ} → at ≤ length xs → Side positive (from o F) (e .p) i xs at xs₁ w
       → Wrote xs₁ w (indices positive (bandFrom F (o′ + e .p) es)) xs₂ w′ → Wrote xs at (indices positive (bandFrom F o′ (e ∷ es))) xs₂ w′
   unfolding bandFrom
@@ -55,7 +54,7 @@ module _ (positive : Bool) (F : ℕ → ℕ) (o o′ : ℕ) (e : Edge) (i : Line
   unfolding bandFrom
   band-last p = rw append-nil (side-follows p)
 
--- ---- a band of three strips, of which each is written over what the one before left after it
+-- ---- a band of three strips; each overwrites the extra triangle of the one before
 pub band-is : (positive : Bool) (F : ℕ → ℕ) (e0 e1 e2 : Edge) → indices positive (bandFrom F 0 (e0 ∷ e1 ∷ e2 ∷ []))
     ≡ indices positive (strip (from 0 F) (e0 .line) (e0 .p) (e0 .r)) ++ (indices positive (strip (from (0 + e0 .p) F) (e1 .line) (e1 .p) (e1 .r)) ++ indices positive (strip (from (0 + e0 .p + e1 .p) F) (e2 .line) (e2 .p) (e2 .r)))
 unfolding bandFrom
@@ -66,7 +65,7 @@ band-is positive F e0 e1 e2 =
     ap (λ (ts : List Triangle). indices positive (S0 ++ (S1 ++ ts))) (append-nil S2)
     ∙ indices-append positive S0 (S1 ++ S2) ∙ ap (λ (ws : List ℕ). indices positive S0 ++ ws) (indices-append positive S1 S2)
 
--- strips between lines that count up by one, and the rings' own
+-- lines of consecutive vertices, and lines of a ring
 pub on-ring : (base total o x i : ℕ) → x ≡ base + o → o + i < total → base + total < 65536 → on x i ≡ from o (ringAt base total) i
 on-ring base total o x i e h small = omega (arith, ring-before base total (o + i) h)
 

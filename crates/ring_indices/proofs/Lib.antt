@@ -1,4 +1,4 @@
--- The laws of bands, for the crates above; `Rings` and `Nests` serve this crate only.
+-- The laws of bands, for other crates; `Rings` and `Nests` are used in this crate only.
 mod Rings
 pub mod Bands
 mod Nests

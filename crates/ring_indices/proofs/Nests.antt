@@ -1,5 +1,4 @@
--- The words of nested rings, band after band.
--- Assumes nothing.
+-- The words of nested rings, band by band. Assumes nothing.
 use Prim.Native.Nat.{ℕ, zero, suc, _+_, _-_, _*_, _≤_}
 use mathlib.Core.Path.{_≡_}
 use mathlib.Core.Bool.{Bool}
@@ -13,12 +12,12 @@ use Rattle.cover.specs.Band.{bandFrom, band}
 use Rattle.cover.specs.Nest.{ringEdges, nest, count}
 use Rattle.cover.proofs.Length.{nest-length}
 
--- the words of one band
+-- the index words of one band
 abbrev pub bandWords : Bool → ℕ → ℕ → ℕ → ℕ → ℕ → List ℕ
 bandWords positive base a b c r = indices positive (band (ringAt base (a + b + c)) (ringEdges (base + (a + b + c)) r a b c))
 
 module _ (positive : Bool) (base a b c : ℕ) where
-  -- a word for each corner
+  -- one word per corner
   pub band-length : (r : ℕ) → length (bandWords positive base a b c r) ≡ 3 * (a + b + c + 3 * r)
   unfolding bandFrom
   band-length r =
@@ -29,7 +28,7 @@ module _ (positive : Bool) (base a b c : ℕ) where
   pub nest-words-length : (n : ℕ) → length (indices positive (nest base a b c n)) ≡ 3 * count a b c n
   nest-words-length n = omega (arith, indices-length positive (nest base a b c n), nest-length n base a b c)
 
-  -- the outermost band, then what lies inside it
+  -- the outermost band, then what is inside it
   pub nest-more : (n : ℕ) → 2 ≤ n
       → indices positive (nest base a b c n) ≡ bandWords positive base a b c (n - 2) ++ indices positive (nest (base + (a + b + c)) (n - 2) (n - 2) (n - 2) (n - 2))
   unfolding nest
@@ -39,7 +38,7 @@ module _ (positive : Bool) (base a b c : ℕ) where
       let e : suc (suc r) - 2 ≡ r = omega arith in
       rw e (indices-append positive (band (ringAt base (a + b + c)) (ringEdges (base + (a + b + c)) r a b c)) (nest (base + (a + b + c)) r r r r))
 
-  -- nothing inside, and one triangle
+  -- no triangle inside, or one
   pub nest-none : (n : ℕ) → n ≡ 0 → indices positive (nest base a b c n) ≡ []
   unfolding nest indices
   nest-none n h = rw h

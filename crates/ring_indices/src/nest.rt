@@ -11,7 +11,7 @@ ghost use Rattle.cover.specs.Nest.{ringEdges, nest, count};
 use crate::ring::Ring;
 use strip::triangle::Triangle;
 
-// Three strips, from a ring whose edges have c0, c1 and c2 segments to the one inside, whose edges have r each.
+// Writes the three strips from a ring whose edges have c0, c1 and c2 segments to the ring inside, whose edges have r each.
 fn write_band(
     out: &mut [u16],
     at: usize,
@@ -36,8 +36,8 @@ fn write_band(
     outer.write_strip(out, w, c0 + c1, c2, inner.line(2 * r, r), positive)
 }
 
-// The same where both rings' edges are long and of one length each, by four pairs at a time. The first two strips leave a triangle after
-// them, over which the next one is written.
+// The same for long edges of one length per ring, four pairs at a time. Each of the first two strips writes one triangle too
+// many, and the next strip overwrites it.
 fn write_long_band(
     out: &mut [u16],
     at: usize,
@@ -62,7 +62,7 @@ fn write_long_band(
     strip_blocks::write_long(out, w, x2, y2, x0, y0, r, pattern, positive)
 }
 
-// The same in the way that is quicker.
+// The same, by `write_long_band` where that applies.
 fn write_wide_band(
     out: &mut [u16],
     at: usize,
@@ -88,7 +88,7 @@ fn write_wide_band(
     write_band(out, at, base, c0, c1, c2, r, positive)
 }
 
-// Band after band inwards; for odd n the innermost ring is one triangle more.
+// Writes band after band inwards; for odd n the innermost ring is one more triangle.
 pub fn write_nest(
     out: &mut [u16],
     at: usize,

@@ -10,14 +10,14 @@ ghost use Rattle.cover.specs.Band.{from};
 ghost use Rattle.cover.specs.Ring.{ringAt};
 use strip::line::Line;
 
-// `total` vertices numbered from base; a ring of none is the one vertex at its centre.
+// `total` vertices, numbered from `base`; a ring with a total of 0 is the single vertex at the centre.
 pub struct Ring {
     pub base: u32,
     pub total: u32,
 }
 
 impl Ring {
-    // The line from the ring's o-th vertex over n segments; it closes where the ring does.
+    // Returns the line of n segments from the ring's vertex o on; it ends at the first vertex if it runs to the ring's end.
     pub fn line(self, o: u32, n: u32) -> Line
         requires { ⌜ o + n ≤ self .total ⌝ ∗ ⌜ self .base + self .total < 65536 ⌝ }
         ensures { λ r. ⌜ Follows r (from o (ringAt (self .base) (self .total))) n ⌝ }
@@ -41,7 +41,7 @@ impl Ring {
         }
     }
 
-    // The strip from p segments of the ring, its o-th vertex first, to a line inside it.
+    // Writes the strip from p segments of the ring, starting at its vertex o, to a line inside.
     pub fn write_strip(
         self,
         out: &mut [u16],

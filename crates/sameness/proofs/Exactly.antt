@@ -1,5 +1,4 @@
--- Each answer is given exactly where it means what it says; "no differences" exactly where both meshes are the same.
--- Assumes nothing.
+-- Each answer is given exactly if it is right; "no differences" exactly if both meshes are the same. Assumes nothing.
 use Prim.Native.Nat.{ℕ, _*_, _%_}
 use mathlib.Core.Path.{_≡_, refl, sym, ap, _∙_}
 use mathlib.Core.Bool.{Bool, true, false, cond, _&&_, true≢false}
@@ -103,7 +102,7 @@ module _ (pw iw : List ℕ) where
   is-apart : AllApart pw → equal ≡ false
   is-apart h = not-true equal (λ e. let w = equal-is e in h (w .i) (w .j) (w .earlier) (w .point) (w .equal))
 
-  -- a mesh is refused, or not, exactly where that is meant
+  -- a mesh is refused exactly if the refusal is right
   pub check-means : CheckMeans (checked pw iw) pw iw
   unfolding checked
   check-means = go threes unknown equal refl refl refl
@@ -145,7 +144,7 @@ module _ (lp li rp ri : List ℕ) (room : ℕ) where
   means-answer (NoRoom n) h = rw (means-check lp li Sound (h .0 .0), means-check rp ri Sound (h .0 .1), h .0 .2, lt-ltb room (3 * n) (h .1))
   means-answer (Differences n) h = rw (means-check lp li Sound (h .0 .0), means-check rp ri Sound (h .0 .1), h .0 .2, le-ltb room (3 * n) (h .1))
 
-  -- "no differences" is said exactly where both can be compared and hold the same points and triangles, whatever the room
+  -- "no differences" is answered exactly if both meshes can be compared and have the same points and triangles, whatever the room
   pub same-told : Comparable lp li → Comparable rp ri → SameMesh (readMesh lp li) (readMesh rp ri) → verdict lp li rp ri room ≡ Differences 0
   same-told l r s = means-answer (Differences 0) ((l, r, ap length (same-none (readMesh lp li) (readMesh rp ri) s)), omega arith)
 

@@ -1,4 +1,4 @@
--- The theorems of comparing, lowest first.
+-- The laws of `sameness`, lowest first.
 pub mod Lists
 pub mod Rotations
 pub mod Sames

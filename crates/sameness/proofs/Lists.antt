@@ -1,5 +1,4 @@
--- One list lacks nothing of another exactly where it has every entry of it.
--- Assumes nothing.
+-- One list lacks nothing of another exactly if it has all its entries. Assumes nothing.
 use Prim.Native.Nat.{ℕ, zero, suc, _+_, _<_}
 use mathlib.Core.Path.{_≡_, refl, ap}
 use mathlib.Core.Bool.{Bool, true, false, cond, not, _&&_, true≢false}
@@ -15,7 +14,7 @@ use Rattle.sameness.specs.Same.{In, Within}
 use Rattle.compare.proofs.Passing.{one, passing-none}
 use Rattle.differences.proofs.Tests.{lacks-found}
 
--- ---- no number passes
+-- ---- no number passes the test
 skipped : (b : Bool) (k : ℕ) (ks : List ℕ) → cond b (k ∷ []) [] ++ ks ≡ [] → (b ≡ false) × (ks ≡ [])
 skipped true k ks e = absurd (omega (arith, ap length e))
 skipped false k ks e = (refl, e)
@@ -32,7 +31,7 @@ pub none-passing : (t : ℕ → Bool) (n : ℕ) → passing t n ≡ [] → Below
 unfolding passing
 none-passing t n h j l = let e : 0 + j ≡ j = omega arith in rw e at (none-flat t 0 n h j l)
 
--- ---- an entry is not listed where the other list has it, or an earlier entry is the same
+-- ---- an entry is not listed if the other list has it, or an earlier entry is the same
 which : (x y : Bool) → (not x && not y) ≡ false → (x ≡ true) ⊎ (y ≡ true)
 which true y e = inl refl
 which false true e = inr refl

@@ -1,5 +1,4 @@
--- The test of two triangles is the one for the same corners up to rotation, which is kept from one triangle to the next.
--- Assumes nothing.
+-- The test of two triangles holds exactly if they are equal up to rotation, and this relation is transitive. Assumes nothing.
 use mathlib.Core.Path.{_≡_, refl, sym, ap, _∙_}
 use mathlib.Core.Bool.{Bool, true, false, _&&_, _||_, true≢false}
 use mathlib.Core.Logic.{_⊎_, inl, inr}

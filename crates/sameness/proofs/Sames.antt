@@ -1,5 +1,5 @@
--- No differences exactly where both meshes hold the same points and the same triangles; none from itself; the sides exchanged.
--- Assumes nothing.
+-- There are no differences exactly if both meshes have the same points and triangles; a mesh does not differ from itself;
+-- exchanging the meshes exchanges the sides. Assumes nothing.
 use Prim.Native.Nat.{ℕ, _-_}
 use mathlib.Core.Path.{_≡_, refl, ap, _∙_}
 use mathlib.Core.Logic.{inl}
@@ -24,7 +24,7 @@ pub empty : {A : Type 0} (xs : List A) → length xs ≡ 0 → xs ≡ []
 empty [] e = refl
 empty (x ∷ xs) e = absurd (omega arith)
 
--- ---- the same: no differences
+-- ---- equal meshes have no differences
 pub same-none : (l r : Mesh) → SameMesh l r → differences l r ≡ []
 same-none l r s = empty (differences l r)
     (parts-count l r ∙ rw (
@@ -34,7 +34,7 @@ same-none l r s = empty (differences l r)
       within-none sameFace _ face-is is-face rotation-joins (r .faces) (l .faces) (s .rightFaces),
     ))
 
--- ---- no differences: the same
+-- ---- meshes without differences are equal
 pub none-same : (l r : Mesh) → differences l r ≡ [] → SameMesh l r
 none-same l r e =
     let n = ap length e in
@@ -55,7 +55,7 @@ self-none m = same-none m m (record {
   rightFaces = λ k l. (k, l, inl refl);
 })
 
--- ---- the sides exchanged: each part comes back with its side exchanged, the right one before the left one
+-- ---- exchanging the meshes: each part comes with its side exchanged
 each-exchanged : (kind side : ℕ) (ks : List ℕ) → each kind (1 - side) ks ≡ map exchanged (each kind side ks)
 each-exchanged kind side [] = refl
 each-exchanged kind side (k ∷ ks) = ap (λ ds. record { kind = kind; side = 1 - side; number = k } ∷ ds) (each-exchanged kind side ks)

@@ -1,3 +1,3 @@
--- The definitions of what an answer of comparing means.
+-- The definitions of `sameness`.
 pub mod Same
 pub mod Refusals

@@ -1,5 +1,4 @@
--- Why a mesh is refused, in words of its points and indices.
--- Assumes nothing.
+-- Why a mesh is refused, in terms of its points and indices. Assumes nothing.
 use Prim.Native.Nat.{ℕ, _*_, _%_, _≤_, _<_}
 use mathlib.Core.Path.{_≡_}
 use mathlib.Core.List.{List}
@@ -15,7 +14,7 @@ use Rattle.compare.specs.declared.answer.Comparison.the-variants.{Differences, 
 use Rattle.differences.specs.Meshes.{readMesh}
 use Rattle.differences.specs.Differences.{differences}
 
--- point words and indices both come in threes
+-- the numbers of point words and of indices are multiples of three
 pub record InThrees (pw iw : List ℕ) : Type 0 where
   pub points : length pw % 3 ≡ 0
   pub indices : length iw % 3 ≡ 0
@@ -34,13 +33,13 @@ pub record Comparable (pw iw : List ℕ) : Type 0 where
   pub known : AllKnown pw iw
   pub apart : AllApart pw
 
--- an index past the points
+-- index k is not the number of a point
 pub record PastPoints (pw iw : List ℕ) : Type 0 where
   pub k : ℕ
   pub index : k < length iw
   pub past : length (readPoints pw) ≤ getD iw k 0
 
--- two equal points
+-- points i and j are equal
 pub record TwoEqual (pw : List ℕ) : Type 0 where
   pub i : ℕ
   pub j : ℕ
@@ -48,22 +47,22 @@ pub record TwoEqual (pw : List ℕ) : Type 0 where
   pub point : j < length (readPoints pw)
   pub equal : at (readPoints pw) i ≡ at (readPoints pw) j
 
--- what each refusal means, in this order: the later ones speak of meshes without the earlier faults
+-- what each fault means; each presumes that the faults before it are absent
 abbrev pub FaultMeans : Fault → List ℕ → List ℕ → Type 0
 FaultMeans NotThrees pw iw = InThrees pw iw → ⊥
 FaultMeans UnknownIndex pw iw = InThrees pw iw × PastPoints pw iw
 FaultMeans EqualPoints pw iw = InThrees pw iw × AllKnown pw iw × TwoEqual pw
 
--- what looking at a mesh says
+-- what the check of one mesh means
 abbrev pub CheckMeans : Checked → List ℕ → List ℕ → Type 0
 CheckMeans Sound pw iw = Comparable pw iw
 CheckMeans (Refused f) pw iw = FaultMeans f pw iw
 
--- the number of differences, if both can be compared
+-- both meshes can be compared, and have n differences
 abbrev pub Counts : List ℕ → List ℕ → List ℕ → List ℕ → ℕ → Type 0
 Counts lp li rp ri n = Comparable lp li × Comparable rp ri × (length (differences (readMesh lp li) (readMesh rp ri)) ≡ n)
 
--- what each answer means for a list of `room` words: the left mesh is refused first, and room is asked for last
+-- what each answer means, for a list of `room` words: the left mesh is checked first, and room last
 abbrev pub AnswerMeans : Comparison → List ℕ → List ℕ → List ℕ → List ℕ → ℕ → Type 0
 AnswerMeans (LeftRefused f) lp li rp ri room = FaultMeans f lp li
 AnswerMeans (RightRefused f) lp li rp ri room = Comparable lp li × FaultMeans f rp ri

@@ -1,5 +1,4 @@
--- When two meshes hold the same points and the same triangles.
--- Assumes nothing.
+-- When two meshes have the same points and the same triangles. Assumes nothing.
 use Prim.Native.Nat.{ℕ, _-_, _<_}
 use mathlib.Core.Path.{_≡_}
 use mathlib.Core.Logic.{_⊎_}
@@ -8,7 +7,7 @@ use Rattle.differences.specs.Lacking.{Row}
 use Rattle.differences.specs.Meshes.{Mesh, rotated}
 use Rattle.differences.specs.Differences.{Difference}
 
--- the same corners up to rotation
+-- the triangles are equal up to rotation
 abbrev pub Rotation : Face → Face → Type 0
 Rotation f g = (f ≡ g) ⊎ ((f ≡ rotated g) ⊎ (f ≡ rotated (rotated g)))
 
@@ -20,7 +19,7 @@ In Same ys x = (i : ℕ) × (i < ys .count) × Same (ys .entry i) x
 abbrev pub Within : {A : Type 0} → (A → A → Type 0) → Row A → Row A → Type 0
 Within Same xs ys = (k : ℕ) → k < xs .count → In Same ys (xs .entry k)
 
--- both meshes hold the same points, by coordinates, and the same triangles, up to rotation
+-- both meshes have the same points, by coordinates, and the same triangles, up to rotation
 pub record SameMesh (l r : Mesh) : Type 0 where
   pub leftPoints : Within _≡_ (l .points) (r .points)
   pub rightPoints : Within _≡_ (r .points) (l .points)

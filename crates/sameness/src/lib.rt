@@ -1,1 +1,1 @@
-// What an answer of comparing means, in words of the two meshes: definitions and theorems, with nothing to run.
+// What each answer of comparing means, in terms of the two meshes. Definitions and theorems, with no code to run.

@@ -1,5 +1,4 @@
--- The test of two points is the one for equal points.
--- Assumes nothing.
+-- The test `samePoint` holds exactly if the points are equal. Assumes nothing.
 use mathlib.Core.Path.{_≡_, refl, sym}
 use mathlib.Core.Bool.{Bool, true, false, _&&_, true≢false}
 use lib.Dec.{eqb}

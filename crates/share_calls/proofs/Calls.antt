@@ -1,5 +1,5 @@
--- One call from C: what it does to the session that stands in memory. Either something stands against it that only C knows, and then it
--- leaves everything, or it is the operation's call. Assumes nothing.
+-- One call from C and the session in memory: either a refusal that only calls from C have applies and changes nothing, or the
+-- call is that of the operation. Assumes nothing.
 use Prim.Native.Nat.{ℕ, zero, suc, _≤_, _<_}
 use mathlib.Core.Path.{_≡_, refl, sym, ap, _∙_}
 use mathlib.Core.Bool.{Bool, true, false, cond, true≢false}
@@ -39,19 +39,19 @@ requestOf clear = runs.clear
 abbrev pub callOf : Call → runs.Call
 callOf c = record { by = designerOf (c .by); request = requestOf (c .request); vertices = c .vertices; indices = c .indices }
 
--- what stands against a call; the number 0 where nothing does
+-- the refusal of a call, or the number 0
 unfoldable pub against : ℕ → Request → Bool → Told
 against d (draw bs xs) ok = asked bs d ok done
 against d clear ok = clearSays d ok
 
--- what a call has to say: that, or what its operation says
+-- the answer of a call: its refusal, or the operation's answer
 abbrev pub orElse : Told → Told → Told
 orElse a t = unlessRefused (a .number) t a
 
 abbrev pub saysOf : ℕ → Request → Bool → Told → Told
 saysOf d r ok t = orElse (against d r ok) t
 
--- what stands against a call is told by the call
+-- a call that is refused answers its refusal
 asked-or : (bs : List ℕ) (d : ℕ) (ok : Bool) (t : Told) → asked bs d ok t ≡ orElse (asked bs d ok done) t
 asked-or bs d ok t = go (asked bs d ok done .number) refl
   where
@@ -68,7 +68,7 @@ clear-or d true = go (ltb 1 d)
     go false = refl
 clear-or d false = refl
 
--- nothing stands against a call only where its designer is one
+-- a call that is not refused has designer 0 or 1
 known-designer : (d : ℕ) (r : Request) (ok : Bool) → against d r ok .number ≡ 0 → d ≤ 1
 unfolding against asked clearSays
 known-designer d r ok e = ltb-false 1 d (go r e)
@@ -88,7 +88,7 @@ known-designer d r ok e = ltb-false 1 d (go r e)
     go (draw bs xs) e = drawing (isTop (topIn bs)) ok (ltb 1 d) (ltb (firstUnknown bs 0) 5) (firstUnknown bs 0) e
     go clear e = clearing ok (ltb 1 d) e
 
--- two numbers that are not the same are two designers
+-- different numbers are different designers
 apart : (d e : ℕ) → d ≤ 1 → e ≤ 1 → eqb e d ≡ false → same (designerOf d) (designerOf e) ≡ false
 apart zero zero h k f = absurd (true≢false f)
 apart zero (suc zero) h k f = refl
@@ -99,12 +99,12 @@ apart zero (suc (suc e)) h k f = absurd (omega arith)
 apart (suc zero) (suc (suc e)) h k f = absurd (omega arith)
 
 -- ---- answers and sessions, call by call
--- the counts that stand in memory beside an answer
+-- the counts in memory after an answer
 abbrev pub countsFor : Request → Told → List ℕ
 countsFor (draw bs xs) t = twoWords (t .values)
 countsFor clear t = []
 
--- the same of the own part of the state, where only the lengths of the lists are looked at
+-- the same for the own part of the state, which depends only on the lengths of the lists
 abbrev ownAgainst : OwnState → Call → Told
 ownAgainst o c = against (c .by) (c .request) (lent (c .vertices) (c .indices) (o .vertexLength) (o .indexLength))
 
@@ -144,7 +144,7 @@ module _ (s : Session) (g : Good s) where
       go zero = length-next s g (callOf c)
       go (suc n) = (refl, refl)
 
-  -- of a good session only the lengths are looked at
+  -- for a good session only the lengths matter
   same-against : (d : Designer) (c : Call) → standsAgainst s c ≡ ownAgainst (ownState d (s .state)) c
   same-against d c =
       ap (against (c .by) (c .request)) (and-true (lent (c .vertices) (c .indices) (s .state .vertices .length) (s .state .indices .length)) (state-test (s .state) (g .sound)))
@@ -178,7 +178,7 @@ module _ (s : Session) (g : Good s) where
         go zero = own-next s g (designerOf d) (callOf c) (named c e)
         go (suc n) = refl
 
-    -- a call of anybody else, known or not, leaves the view
+    -- a call of another designer, known or not, keeps the view
     pub other-view : d ≤ 1 → (c : Call) → eqb (c .by) d ≡ false → runs.view (designerOf d) (step s c) ≡ runs.view (designerOf d) s
     other-view h c e = go (standsAgainst s c .number) refl
       where
@@ -186,11 +186,11 @@ module _ (s : Session) (g : Good s) where
         go zero f = other-next s g (designerOf d) (callOf c) (apart d (c .by) h (known-designer (c .by) (c .request) _ f) e)
         go (suc n) f = refl
 
--- ---- what is made is this
+-- ---- the calls that were made do this
 answered-of : (d : ℕ) {n n′ : ℕ} {c c′ : List ℕ} → n ≡ n′ → c ≡ c′ → _≡_ {A = Answered} (record { to = d; number = n; counts = c }) (record { to = d; number = n′; counts = c′ })
 answered-of d e f = cc
 
--- refused by what stands against it, or by the operation
+-- refused by the call, or by the operation
 either : (a t : Told) (new old : Session) → unlessRefused (orElse a t .number) new old ≡ unlessRefused (a .number) (unlessRefused (t .number) new old) old
 either a t new old = go (a .number) refl
   where

@@ -1,4 +1,4 @@
--- Until it draws, a call from C looks at the lists that it is lent by their lengths only. Assumes nothing.
+-- Until it draws, a call from C uses only the lengths of the lists it is lent. Assumes nothing.
 use Prim.Native.Nat.{ℕ}
 use mathlib.Core.Path.{_≡_, sym, ap, ap₂, _∙_}
 use mathlib.Core.List.{List}
@@ -18,7 +18,7 @@ pub record SameAnswer (r s : ℕ) (c e w u : List ℕ) : Type 0 where
   pub counts : c ≡ e
   pub words : w ≡ u
 
--- lists of equal lengths get the same answer and leave the same state; of clearing the promise itself says so
+-- lists of equal lengths get the same answer and leave the same state; for clearing the contract itself says so
 pub by-lengths : (bs : List ℕ) (xs : List Float) (d : ℕ) {w w′ u′ v v′ i i′ l l′ k k′ c′ e′ : List ℕ} {r s : ℕ} → DrawCalled bs xs d w w′ v v′ i i′ c′ r
     → DrawCalled bs xs d w u′ l l′ k k′ e′ s → length v ≡ length l → length i ≡ length k → SameAnswer r s c′ e′ w′ u′
 by-lengths bs xs d {w} h g m n =

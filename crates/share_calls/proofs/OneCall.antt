@@ -1,5 +1,5 @@
--- What one drawing on shared lists appends, taken by itself: all points and indices of the patch, demand 3, and each spot held once. Assumes
--- nothing.
+-- What one drawing on shared lists appends, taken by itself: all points and indices of the patch, demand 3, and that exactly
+-- one triangle holds each spot. Assumes nothing.
 use Prim.Native.Nat.{ℕ, zero, suc, _+_, _-_, _*_}
 use mathlib.Core.Path.{_≡_, refl, sym, ap, _∙_}
 use mathlib.Core.Bool.{Bool, true, false, cond}
@@ -43,7 +43,7 @@ use Rattle.share_runs.proofs.OneCall.{lowered, written, one-call, once-call}
 use Rattle.third_demand.specs.Written.{drawnPoints}
 use Rattle.third_demand.proofs.AllPoints.{AllPoints}
 
--- 0 is said by the operation
+-- the answer 0 comes from the operation
 asked-zero : (bs : List ℕ) (d : ℕ) (ok : Bool) (t : Told) → asked bs d ok t .number ≡ 0 → asked bs d ok t ≡ t
 asked-zero bs d ok t z = go (asked bs d ok done .number) refl
   where
@@ -51,14 +51,14 @@ asked-zero bs d ok t z = go (asked bs d ok done .number) refl
     go zero e = asked-none bs d ok t e
     go (suc n) e = let f = ap (λ (x : Told). x .number) (asked-some bs d ok t n e) in absurd (omega arith)
 
--- and then with the counts of the patch
+-- with the counts of the patch
 verdict-zero : (set : Settings) (p : Patch) (ok : Bool) (n v i : ℕ) → verdict set p ok n v i .number ≡ 0 → verdict set p ok n v i ≡ drewBoth (pointsOf set p) (indicesOf set p)
 unfolding verdict partVerdict roomVerdict
 verdict-zero set p ok n v i e =
     let h = passed set p ok n v i e in
     rw (h .top, h .state, h .drawn, le-ltb 65535 (n + pointsOf set p) (h .numbered), le-ltb v (3 * pointsOf set p) (h .vertices), le-ltb i (indicesOf set p) (h .indices))
 
--- and of settings that are all in range
+-- and all settings are in range
 settings-zero : (bs : List ℕ) (d : ℕ) (ok : Bool) (t : Told) → 0 ≡ asked bs d ok t .number → AllBelow choices bs 0
 unfolding asked
 settings-zero bs d ok t e = first-none choices bs 0 .0 (ltb-false (firstUnknown bs 0) 5 (go (isTop (topIn bs)) ok (ltb 1 d) (ltb (firstUnknown bs 0) 5) e))
@@ -70,7 +70,7 @@ settings-zero bs d ok t e = first-none choices bs 0 .0 (ltb-false (firstUnknown 
     go true true false true e = absurd (omega arith)
     go true true false false e = refl
 
--- ---- of the operation
+-- ---- for the operation
 module _ (d : Designer) (s : State) (set : Settings) (p : Patch) {v v′ i i′ : List ℕ} (r : DrawResult) (m k : ℕ) (h : DidDraw d s set p v v′ i i′ r)
     (e : toldDraw (r .answer) ≡ drewBoth m k) where
   -- both parts had room
@@ -93,7 +93,7 @@ module _ (d : Designer) (s : State) (set : Settings) (p : Patch) {v v′ i i′ 
       rw (written i (firstFree d (s .indices)) k (newIndices d s set p) (omega (arith, g .words, index-words n set p)) (omega (arith, g .indices)) (h .indices ∙ rw drawn-number))
       (lowered n (connectionWords set p))
 
-  -- and the points are all of the patch
+  -- the points are all points of the patch
   pub appended-all : AllPoints set p (drawnPoints m (drop (firstFree d (s .vertices)) v′))
   appended-all = record {
     top = top-as (set .top) (fits .vertices .top);
@@ -101,7 +101,7 @@ module _ (d : Designer) (s : State) (set : Settings) (p : Patch) {v v′ i i′ 
     are = ap readPoints appended-points ∙ read-points (points (subdivision (set .spacing) (set .top) p));
   }
 
--- ---- of the call
+-- ---- for the call
 module _ (bs : List ℕ) (xs : List Float) (d : ℕ) {w w′ v v′ i i′ c′ : List ℕ} (h : DrawCalled bs xs d w w′ v v′ i i′ c′ 0) where
   abbrev set : Settings
   set = settingsIn bs
@@ -115,7 +115,7 @@ module _ (bs : List ℕ) (xs : List Float) (d : ℕ) {w w′ v v′ i i′ c′ 
   abbrev s : State
   s = stateIn w
 
-  -- a call that answered 0 is a drawing of its operation, with the counts that stand in memory
+  -- a call that answered 0 is a drawing of its operation, with the counts in memory
   abbrev drawn : DrawResult
   drawn = record { answer = Drawn (getD c′ 0 0) (getD c′ 1 0); state = drawnState by s set p }
 
@@ -133,12 +133,12 @@ module _ (bs : List ℕ) (xs : List Float) (d : ℕ) {w w′ v v′ i i′ c′ 
   pub called-known : AllBelow choices bs 0
   called-known = settings-zero bs d (accepted (length v) (length i) s) _ (h .says .number)
 
-  -- the points and indices that it appended, read off the lists that it left; the indices less the number that they are counted from
+  -- the points and indices that it appended, read from the lists at exit; from each index the number of earlier points is subtracted
   pub called-one : Demand set p (drawnPoints (getD c′ 0 0) (drop (firstFree by (s .vertices)) v′))
       (map (λ x. x - pointsIn by s) (take (getD c′ 1 0) (drop (firstFree by (s .indices)) i′)))
   called-one = one-call by s set p drawn (getD c′ 0 0) (getD c′ 1 0) draw-call refl
 
-  -- and every spot is held once
+  -- exactly one triangle holds each spot
   pub called-once : SpotsOnce set p (drawnPoints (getD c′ 0 0) (drop (firstFree by (s .vertices)) v′))
       (map (λ x. x - pointsIn by s) (take (getD c′ 1 0) (drop (firstFree by (s .indices)) i′)))
   called-once = once-call by s set p drawn (getD c′ 0 0) (getD c′ 1 0) draw-call refl
@@ -150,6 +150,6 @@ module _ (bs : List ℕ) (xs : List Float) (d : ℕ) {w w′ v v′ i i′ c′ 
   pub called-index-words : map (λ x. x - pointsIn by s) (take (getD c′ 1 0) (drop (firstFree by (s .indices)) i′)) ≡ connectionWords set p
   called-index-words = appended-indices by s set p drawn (getD c′ 0 0) (getD c′ 1 0) draw-call refl
 
-  -- and the points are all of the patch
+  -- the points are all points of the patch
   pub called-all : AllPoints set p (drawnPoints (getD c′ 0 0) (drop (firstFree by (s .vertices)) v′))
   called-all = appended-all by s set p drawn (getD c′ 0 0) (getD c′ 1 0) draw-call refl

@@ -1,4 +1,4 @@
--- Runs of the exported calls: the other's calls, and calls of nobody, do not show in what a designer gets. Assumes nothing.
+-- Runs of the exported calls: the calls of the other designer, and of unknown designers, do not affect what a designer gets. Assumes nothing.
 use Prim.Native.Nat.{ℕ, _≤_}
 use mathlib.Core.Path.{_≡_, refl, sym, ap, ap₂, _∙_}
 use mathlib.Core.Bool.{Bool, true, false, cond}
@@ -24,7 +24,7 @@ use Rattle.share_calls.proofs.Calls.{reply, step, ownReply, ownStep, vi
 played : {m m′ : Memory} {cs : List Call} {xs : List Answered} → Ran m cs xs m′ → Played step reply (sessionIn m) cs xs (sessionIn m′)
 played = ran-is Made sessionIn step reply made-is
 
--- a start that was answered with 0: the quotas fit, and the session in memory is the operation's
+-- a start that was answered with 0: the quotas fit, and the session in memory is that of the operation
 record Is-begun (q v i : List ℕ) (m : Memory) : Type 0 where
   fit : quotasFit (length v) (length i) (quotaIn q 0) (quotaIn q 2) ≡ true
   is : sessionIn m ≡ begun (quotaIn q 0) (quotaIn q 2) v i
@@ -46,13 +46,13 @@ module _ (d : ℕ) (known : d ≤ 1) where
   abbrev its : Answered → Bool
   its a = eqb (a .to) d
 
-  -- the answers come of the own part of the state and the own calls
+  -- the answers depend only on the own part of the state and the own calls
   own-answers : (s : Session) → Good s → (cs : List Call) → answersOf d (replies step reply s cs) ≡ replies ownStep ownReply (ownState (designerOf d) (s .state)) (callsOf d cs)
   own-answers =
       answered step Good good-step mine (λ (s : Session). ownState (designerOf d) (s .state)) ownStep (λ s g c e. own-step s g d c e)
       (λ s g c e. ap (λ (w : View). w .state) (other-view s g d known c e)) its reply ownReply (λ s c. refl) (λ s g c e. own-reply s g d c e)
 
-  -- and the view comes of the own view and the own calls
+  -- the view depends only on the own view and the own calls
   own-views : (s : Session) → Good s → (cs : List Call) → runs.view (designerOf d) (after step s cs) ≡ after viewStep (runs.view (designerOf d) s) (callsOf d cs)
   own-views = seen step Good good-step mine (λ (s : Session). runs.view (designerOf d) s) viewStep (λ s g c e. own-view s g d c e) (λ s g c e. other-view s g d known c e)
 
@@ -64,8 +64,8 @@ module _ (d : ℕ) (known : d ≤ 1) where
         → answersOf d xs ≡ replies ownStep ownReply (ownState (designerOf d) (sessionIn m₀ .state)) (callsOf d cs)
     answers-are {cs} r = ap (answersOf d) (played r .told) ∙ own-answers (sessionIn m₀) good-start cs
 
-    -- what one designer has of a run, and of another in which nobody else's calls were made: the same answers with their counts, the same
-    -- quotas and used words, and the same words in both parts
+    -- what one designer gets from a run is the same as from a run in which nobody else's calls were made: answers with their
+    -- counts, quotas and used words, and the words of both parts
     pub undisturbed : (cs : List Call) {xs ys : List Answered} {m m′ : Memory} → Ran m₀ cs xs m → Ran m₀ (callsOf d cs) ys m′
         → (answersOf d xs ≡ answersOf d ys) × (view d m ≡ view d m′)
     undisturbed cs r r′ =
@@ -76,7 +76,7 @@ module _ (d : ℕ) (known : d ≤ 1) where
               ∙ sym (own-views s good-start (callsOf d cs)) ∙ ap (runs.view (designerOf d)) (sym (played r′ .left)),
         )
 
-  -- answers depend on the own quota, the own calls and the lengths of the two lists at the start alone
+  -- answers depend only on the own quota, the own calls and the lengths of the two lists at the start
   pub own-runs : (q q′ v v′ i i′ : List ℕ) → quotaOf d q ≡ quotaOf d q′ → length v ≡ length v′ → length i ≡ length i′ → (cs cs′ : List Call)
       → callsOf d cs ≡ callsOf d cs′ → {xs ys : List Answered} {m₀ m₀′ m m′ : Memory} → Begun q v i m₀ → Begun q′ v′ i′ m₀′ → Ran m₀ cs xs m → Ran m₀′ cs′ ys m′
       → answersOf d xs ≡ answersOf d ys
@@ -86,7 +86,7 @@ module _ (d : ℕ) (known : d ≤ 1) where
       ap own (begun-is b .is) ∙ start-own-state (designerOf d) (quotaIn q 0) (quotaIn q 2) (quotaIn q′ 0) (quotaIn q′ 2) v v′ i i′ e n k ∙ ap own (sym (begun-is b′ .is)) in
       answers-are b r ∙ ap₂ (λ (o : OwnState) (l : List Call). replies ownStep ownReply o l) same f ∙ sym (answers-are b′ r′)
 
--- a run leaves lists of the start's lengths
+-- a run leaves lists of the same lengths as at the start
 kept-lengths : (s : Session) → Good s → (cs : List Call) → (length (after step s cs .vertices) ≡ length (s .vertices)) × (length (after step s cs .indices) ≡ length (s .indices))
 kept-lengths s g cs = (
   kept-after step Good good-step (λ (x : Session). length (x .vertices)) (λ x h c. length-step x h c .0) s g cs,
@@ -104,8 +104,7 @@ same-lengths {q} {v} {i} {cs = cs} b r =
     let e = played r .left ∙ ap (λ (x : Session). after step x cs) (begun-is b .is) in
     record { vertices = ap (λ (x : Session). length (x .vertices)) e ∙ h .0; indices = ap (λ (x : Session). length (x .indices)) e ∙ h .1 }
 
--- a fresh start, on the lists that a run left, begins anew: a designer's answers are those after a start with the same own quota on lists
--- that nobody used before
+-- after a new start on the lists that a run left, a designer's answers are those after a start with the same own quota on unused lists
 pub anew : (d : ℕ) → d ≤ 1 → (q q′ q″ v i : List ℕ) (before cs cs′ : List Call) {xs ys zs : List Answered} {m₀ m m₁ m₁′ m₂ m₂′ : Memory}
     → Begun q v i m₀ → Ran m₀ before xs m → Begun q′ (m .vertices) (m .indices) m₁ → Ran m₁ cs ys m₁′ → Begun q″ v i m₂ → Ran m₂ cs′ zs m₂′
     → quotaOf d q′ ≡ quotaOf d q″ → callsOf d cs ≡ callsOf d cs′ → answersOf d ys ≡ answersOf d zs

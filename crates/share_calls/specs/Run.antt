@@ -1,6 +1,5 @@
--- A start and the calls after it, one after the other, as a program in C makes them: what each was handed, answered and left, by the calls'
--- promises alone. The state is ten words in the caller's memory.
--- Assumes nothing.
+-- A start and the calls after it, as a C program makes them: what each call was given, answered and left, by the contracts of
+-- the calls alone. The state is ten words in the caller's memory. Assumes nothing.
 use Prim.Native.Nat.{ℕ}
 use mathlib.Core.Path.{_≡_}
 use mathlib.Core.List.{List, []}
@@ -16,40 +15,40 @@ use Rattle.share_runs.specs.Steps as steps
 use Rattle.share_runs.specs.Session.{Session, View}
 use Rattle.share_runs.specs.Session as session
 
--- what is asked for after the start: drawing, with six setting bytes and six levels, or clearing
+-- what a call after the start asks for: drawing, with six setting bytes and six levels, or clearing
 pub data Request : Type 0 where
   draw : List ℕ → List Float → Request
   clear : Request
 
--- a call: the number handed over as the designer, any number; what is asked for; and the lengths of the two lists that are lent with it
+-- a call: any number for the designer, what is asked for, and the lengths of the two lists lent
 pub record Call : Type 0 where
   pub by : ℕ
   pub request : Request
   pub vertices : ℕ
   pub indices : ℕ
 
--- the caller's memory between calls: the ten words of the state, and the two lists
+-- the caller's memory between two calls: the ten words of the state, and the two lists
 pub record Memory : Type 0 where
   pub words : List ℕ
   pub vertices : List ℕ
   pub indices : List ℕ
 
--- an answer: to whom, its number, and the two counts of drawing as they stand in memory
+-- an answer: the designer, its number, and the two counts that drawing leaves in memory
 pub record Answered : Type 0 where
   pub to : ℕ
   pub number : ℕ
   pub counts : List ℕ
 
--- a start with the quotas q on the lists v and i that was answered with 0: the memory that it leaves
+-- a start with the quotas q on the lists v and i was answered with 0, and left this memory
 pub data Begun (q v i : List ℕ) : Memory → Type 0 where
   begin : (w w′ : List ℕ) → StartCalled q (length v) (length i) w w′ 0 → Begun q v i (record { words = w′; vertices = v; indices = i })
 
--- the two lists v and i that a call of this answer was lent are those in memory, unless it was refused
+-- the lists v and i, lent to a call with this answer, are those in memory, unless the call was refused
 pub record SameLists (m : Memory) (r : ℕ) (v i : List ℕ) : Type 0 where
   pub vertices : r ≡ 0 → v ≡ m .vertices
   pub indices : r ≡ 0 → i ≡ m .indices
 
--- one call: handed the ten words as they stand, it answers, and leaves the next memory
+-- one call, given the ten words in memory: its answer, and the memory after it
 pub data Made : Memory → Call → Answered → Memory → Type 0 where
   drew : (m : Memory) (d : ℕ) (bs : List ℕ) (xs : List Float) (w′ v v′ i i′ c′ : List ℕ) (r : ℕ) → DrawCalled bs xs d (m .words) w′ v v′ i i′ c′ r
       → SameLists m r v i
@@ -59,25 +58,25 @@ pub data Made : Memory → Call → Answered → Memory → Type 0 where
       → Made m (record { by = d; request = clear; vertices = v; indices = i }) (record { to = d; number = r; counts = [] })
       (record { words = w′; vertices = m .vertices; indices = m .indices })
 
--- calls, the answers to them, and the memory after them
+-- calls, their answers, and the memory after them
 abbrev pub Ran : Memory → List Call → List Answered → Memory → Type 0
 Ran m cs xs m′ = steps.Ran Made m cs xs m′
 
--- the calls that name the designer of number d, and the answers to them
+-- the calls with the designer d, and the answers to them
 abbrev pub callsOf : ℕ → List Call → List Call
 callsOf d cs = those (λ c. eqb (c .by) d) cs
 
 abbrev pub answersOf : ℕ → List Answered → List Answered
 answersOf d ys = those (λ a. eqb (a .to) d) ys
 
--- the session that stands in memory
+-- the session that the memory holds
 abbrev pub sessionIn : Memory → Session
 sessionIn m = record { state = stateIn (m .words); vertices = m .vertices; indices = m .indices }
 
--- what the designer of number d has there: quotas, used words and the words of both parts
+-- what designer d sees in memory: quotas, used words and the words of both parts
 abbrev pub view : ℕ → Memory → View
 view d m = session.view (designerOf d) (sessionIn m)
 
--- what the four words of a start give that designer
+-- the quota of designer d in the four words of a start
 abbrev pub quotaOf : ℕ → List ℕ → Quota
 quotaOf d q = session.quotaOf (designerOf d) (quotaIn q 0) (quotaIn q 2)

@@ -1,2 +1,2 @@
-// Runs of the exported calls on a shared pair of lists: that neither designer's calls show in what the other gets, refusals that only C has
-// among them, and what one call appends. Definitions and theorems, with nothing to run.
+// Runs of the exported calls on shared lists: one designer's calls do not affect what the other gets, also with refusals that
+// only calls from C can have, and what one call appends. Definitions and theorems, with no code to run.

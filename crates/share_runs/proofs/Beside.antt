@@ -1,5 +1,4 @@
--- Laws of `over xs at ws` and a part of the list xs: ws written inside the part, before it or behind it.
--- Assumes nothing.
+-- Laws of `over xs at ws` for a part of the list xs, where ws is written inside the part, before it or after it. Assumes nothing.
 use mathlib.Core.Path.{_≡_, sym, ap, _∙_}
 use mathlib.Core.List.{List, _++_, append-assoc}
 use Prim.Native.Nat.{ℕ, _+_, _-_, _≤_}
@@ -9,11 +8,11 @@ use lib.ListN.{length, take, drop, length-take, length-drop}
 use lib.Seq.{length-take-le, take-append-le, take-append-add, drop-append-add, drop-at, take-take, drop-drop, take-add}
 use Rattle.buffer.specs.Over.{over}
 
--- a part's end
+-- the end of a part
 drop-take : (m r : ℕ) (l : List ℕ) → m ≤ length l → drop m (take (m + r) l) ≡ take r (drop m l)
 drop-take m r l h = rw take-add (drop-at (take m l) (take r (drop m l)) m (length-take-le m l h))
 
--- written from u words behind a on
+-- written from u words after a on
 drop-over : (xs : List ℕ) (a u : ℕ) (ws : List ℕ) → a ≤ length xs → drop a (over xs (a + u) ws) ≡ over (drop a xs) u ws
 unfolding over
 drop-over xs a u ws h =
@@ -41,7 +40,7 @@ take-over xs q u ws h k =
 pub inside : (xs : List ℕ) (a q u : ℕ) (ws : List ℕ) → u + length ws ≤ q → a + q ≤ length xs → take q (drop a (over xs (a + u) ws)) ≡ over (take q (drop a xs)) u ws
 inside xs a q u ws h k = rw (drop-over xs a u ws (omega arith)) (take-over (drop a xs) q u ws h (omega (arith, length-drop a xs)))
 
--- written behind the part
+-- written after the part
 pub behind : (xs : List ℕ) (a q b : ℕ) (ws : List ℕ) → a + q ≤ b → b ≤ length xs → take q (drop a (over xs b ws)) ≡ take q (drop a xs)
 unfolding over
 behind xs a q b ws h k =

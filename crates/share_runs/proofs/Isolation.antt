@@ -1,6 +1,5 @@
--- Isolation: whatever one designer does or is refused, the other's answers, counts and words are the same as without it; and answers
--- depend on the own quotas, the own calls and the lengths of the two lists alone.
--- Assumes nothing.
+-- Isolation: whatever one designer does or is refused, the other's answers, counts and words are the same as without it.
+-- Answers depend only on the designer's own quotas and calls, and on the lengths of the two lists. Assumes nothing.
 use Prim.Native.Nat.{ℕ, _+_}
 use mathlib.Core.Path.{_≡_, refl, sym, ap, _∙_}
 use mathlib.Core.Bool.{Bool, true}
@@ -41,36 +40,36 @@ module _ (d : Designer) where
   abbrev its : Answered → Bool
   its a = same d (a .to)
 
-  -- the view after calls is that of the own calls alone
+  -- the view after calls is that after the designer's own calls
   own-view : (s : Session) → Good s → (cs : List Call) → view d (play s cs) ≡ viewAfter (view d s) (callsOf d cs)
   own-view = seen next Good good-next mine (view d) viewNext (λ s g c e. own-next s g d c (same-is d (c .by) e)) (λ s g c e. other-next s g d c e)
 
-  -- and so are the answers
+  -- so are the answers
   own-answers : (s : Session) → Good s → (cs : List Call) → answersOf d (answers s cs) ≡ ownStateAnswers (ownState d (s .state)) (callsOf d cs)
   own-answers =
       answered next Good good-next mine (λ (s : Session). ownState d (s .state)) ownStateNext (λ s g c e. own-state-next s g d c (same-is d (c .by) e))
       (λ s g c e. ap (λ (w : View). w .state) (other-next s g d c e)) its reply ownReply (λ s c. refl)
       (λ s g c e. ap (λ (t : Told). record { to = c .by; told = t }) (own-answer s g d c (same-is d (c .by) e)))
 
-  -- the own calls are all of the own calls
+  -- selecting a designer's calls twice changes nothing
   own-calls : (cs : List Call) → callsOf d (callsOf d cs) ≡ callsOf d cs
   own-calls = those-twice mine
 
--- calls leave the lists' lengths
+-- calls keep the lengths of the lists
 pub kept-lengths : (s : Session) → Good s → (cs : List Call) → (length (play s cs .vertices) ≡ length (s .vertices)) × (length (play s cs .indices) ≡ length (s .indices))
 kept-lengths s g cs = (
   kept-after next Good good-next (λ (x : Session). length (x .vertices)) (λ x h c. length-next x h c .0) s g cs,
   kept-after next Good good-next (λ (x : Session). length (x .indices)) (λ x h c. length-next x h c .1) s g cs,
 )
 
--- what one designer has of calls, and of the own calls among them played alone
+-- what one designer gets from all calls is the same as from the designer's own calls alone
 pub record Undisturbed (d : Designer) (s : Session) (cs : List Call) : Type 0 where
   -- the answers, with their counts
   pub answered : answersOf d (answers s cs) ≡ answersOf d (answers s (callsOf d cs))
-  -- the part of the state and the words of both parts
+  -- the part of the state, and the words of both parts
   pub left : view d (play s cs) ≡ view d (play s (callsOf d cs))
 
--- whatever the other does or is refused
+-- whatever the other designer does or is refused
 pub isolated : (a b : Quota) (v i : List ℕ) → quotasFit (length v) (length i) a b ≡ true → (d : Designer) (cs : List Call) → Undisturbed d (begun a b v i) cs
 isolated a b v i ok d cs =
     let s = begun a b v i in
@@ -80,13 +79,13 @@ isolated a b v i ok d cs =
       left = own-view d s g cs ∙ ap (viewAfter (view d s)) (sym (own-calls d cs)) ∙ sym (own-view d s g (callsOf d cs));
     }
 
--- the part of the state that a start gives depends on the own quota and the lengths
+-- a designer's part of the state after a start depends on the own quota and the lengths
 pub start-own-state : (d : Designer) (a b a′ b′ : Quota) (v v′ i i′ : List ℕ) → quotaOf d a b ≡ quotaOf d a′ b′ → length v ≡ length v′ → length i ≡ length i′
     → ownState d (begun a b v i .state) ≡ ownState d (begun a′ b′ v′ i′ .state)
 start-own-state First a b a′ b′ v v′ i i′ q m n = rw (q, m, n)
 start-own-state Second a b a′ b′ v v′ i i′ q m n = rw (q, m, n)
 
--- answers depend on the own quota and calls, and the lengths of the lists at the start, alone
+-- answers depend only on the own quota and calls, and on the lengths of the lists at the start
 pub own-only : (d : Designer) (a b a′ b′ : Quota) (v v′ i i′ : List ℕ) → quotasFit (length v) (length i) a b ≡ true → quotasFit (length v′) (length i′) a′ b′ ≡ true
     → quotaOf d a b ≡ quotaOf d a′ b′ → length v ≡ length v′ → length i ≡ length i′ → (cs cs′ : List Call) → callsOf d cs ≡ callsOf d cs′
     → answersOf d (answers (begun a b v i) cs) ≡ answersOf d (answers (begun a′ b′ v′ i′) cs′)

@@ -1,5 +1,4 @@
--- Until it draws, a call looks at the lists that it is lent by their lengths only.
--- Assumes nothing.
+-- Until it draws, a call uses only the lengths of the lists it is lent. Assumes nothing.
 use Prim.Native.Nat.{ℕ}
 use mathlib.Core.Path.{_≡_, sym, ap, _∙_}
 use mathlib.Core.List.{List}
@@ -14,7 +13,7 @@ use Rattle.shares.specs.Answers.{toldDraw, drawVerdict}
 use Rattle.shared_lists.specs.Operations.{unlessRefused}
 use Rattle.shares.specs.Operations.{drawnState, DidDraw}
 
--- lists of equal lengths get the same answer, and the same state to hand on; of clearing the promise itself says so
+-- lists of equal lengths get the same answer, and the same state to pass on; for clearing the contract itself says so
 pub by-lengths : (d : Designer) (s : State) (set : Settings) (p : Patch) {v v′ i i′ w w′ j j′ : List ℕ} (r q : DrawResult) → DidDraw d s set p v v′ i i′ r
     → DidDraw d s set p w w′ j j′ q → length v ≡ length w → length i ≡ length j → (toldDraw (r .answer) ≡ toldDraw (q .answer)) × (r .state ≡ q .state)
 by-lengths d s set p {i = i} {w = w} r q h k m n =

@@ -1,5 +1,4 @@
--- Demand 3 of what one call appends, taken by itself, and that it holds each spot once.
--- Assumes nothing.
+-- Demand 3 for what one call appends, taken by itself, and that exactly one triangle holds each spot. Assumes nothing.
 use Prim.Native.Nat.{ℕ, _+_, _-_, _*_, _≤_}
 use mathlib.Core.Path.{_≡_, refl, sym, ap, _∙_}
 use mathlib.Core.List.{List, [], _∷_, map}
@@ -29,20 +28,20 @@ use Rattle.shares.proofs.Parts.{lent-words}
 use Rattle.shares.proofs.Counts.{point-words, index-words}
 use Rattle.shares.proofs.Drawn.{ready}
 
--- numbers raised by n, and n taken off again
+-- n added to numbers, and subtracted again
 pub lowered : (n : ℕ) (xs : List ℕ) → map (λ x. x - n) (map (λ x. n + x) xs) ≡ xs
 lowered n [] = refl
 lowered n (x ∷ xs) =
     let e : n + x - n ≡ x = omega arith in
     rw (e, lowered n xs)
 
--- the words from a on, m of them, are those that were written there
+-- the m words from a on are those that were written there
 pub written : (xs : List ℕ) {xs′ : List ℕ} (a m : ℕ) (ws : List ℕ) → m ≡ length ws → a ≤ length xs → xs′ ≡ over xs a ws → take m (drop a xs′) ≡ ws
 written xs {xs′} a m ws e h is =
     let n : a + m - a ≡ m = omega arith in
     rw is (ap (λ (j : ℕ). take j (drop a (over xs a ws))) (sym n) ∙ lent-words xs a (a + m) ws (omega arith) h)
 
--- the points and indices that a call appended, read off the lists that it left; the indices less the number that they are counted from
+-- the points and indices that a call appended, read from the lists at exit; from each index the number of earlier points is subtracted
 pub one-call : (d : Designer) (s : State) (set : Settings) (p : Patch) {v v′ i i′ : List ℕ} (r : DrawResult) (m k : ℕ) → DidDraw d s set p v v′ i i′ r
     → toldDraw (r .answer) ≡ drewBoth m k
     → Demand set p (readPoints (take (3 * m) (drop (firstFree d (s .vertices)) v′))) (map (λ x. x - pointsIn d s) (take k (drop (firstFree d (s .indices)) i′)))
@@ -57,7 +56,7 @@ one-call d s set p {v} {v′} {i} {i′} r m k h e =
     let ws = written i (firstFree d (s .indices)) k (newIndices d s set p) (omega (arith, g .words, index-words n set p)) (omega (arith, g .indices)) is in
     rw (ps, read-points (points c), ws, lowered n (connectionWords set p)) (demand set (top-as (set .top) (g .vertices .top)) p (g .vertices .drawn))
 
--- and every spot is held once
+-- exactly one triangle holds each spot
 pub once-call : (d : Designer) (s : State) (set : Settings) (p : Patch) {v v′ i i′ : List ℕ} (r : DrawResult) (m k : ℕ) → DidDraw d s set p v v′ i i′ r
     → toldDraw (r .answer) ≡ drewBoth m k
     → SpotsOnce set p (readPoints (take (3 * m) (drop (firstFree d (s .vertices)) v′))) (map (λ x. x - pointsIn d s) (take k (drop (firstFree d (s .indices)) i′)))

@@ -1,5 +1,4 @@
--- A designer alone: the answers and the words that come of the own part of the state and the own calls.
--- Assumes nothing.
+-- One designer alone: the answers and words that follow from the own part of the state and the own calls. Assumes nothing.
 use Prim.Native.Nat.{ℕ, _+_, _-_, _/_}
 use mathlib.Core.List.{List}
 use lib.ListN.{length}
@@ -16,18 +15,18 @@ use Rattle.shares.specs.Operations.{shifted}
 use Rattle.share_runs.specs.Steps.{after, replies}
 use Rattle.share_runs.specs.Session.{Request, draw, clear, Call, Answered, OwnState, View}
 
--- the answer to a request, lent lists of v and i words
+-- the answer to a request, with lists of v and i words lent
 unfoldable pub answerOf : OwnState → Request → ℕ → ℕ → Told
 answerOf a (draw set p) v i =
     verdict set p (lent v i (a .vertexLength) (a .indexLength)) (a .vertices .used / 3) (a .vertices .quota - a .vertices .used)
     (a .indices .quota - a .indices .used)
 answerOf a clear v i = clearVerdict (lent v i (a .vertexLength) (a .indexLength))
 
--- an own part with other numbers of used words
+-- the own part of the state, with other numbers of used words
 abbrev pub ownStateWith : ℕ → ℕ → OwnState → OwnState
 ownStateWith v i a = record { vertexLength = a .vertexLength; indexLength = a .indexLength; vertices = usedTo v (a .vertices); indices = usedTo i (a .indices) }
 
--- the index words that are appended
+-- the index words that drawing appends
 abbrev pub indexWordsOf : OwnState → Settings → Patch → List ℕ
 indexWordsOf a set p = shifted (a .vertices .used / 3) set p
 
@@ -36,7 +35,7 @@ unfoldable pub ownStateServed : OwnState → Request → OwnState
 ownStateServed a (draw set p) = ownStateWith (a .vertices .used + length (pointWords set p)) (a .indices .used + length (indexWordsOf a set p)) a
 ownStateServed a clear = ownStateWith 0 0 a
 
--- the view after it
+-- the view after a request that was not refused
 unfoldable pub viewServed : View → Request → View
 viewServed w (draw set p) = record {
   state = ownStateServed (w .state) (draw set p);
@@ -45,7 +44,7 @@ viewServed w (draw set p) = record {
 }
 viewServed w clear = record { state = ownStateServed (w .state) clear; vertices = w .vertices; indices = w .indices }
 
--- call by call
+-- the answer, the state and the view for one call
 abbrev pub callAnswer : OwnState → Call → Told
 callAnswer a c = answerOf a (c .request) (c .vertices) (c .indices)
 

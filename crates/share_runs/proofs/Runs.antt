@@ -1,5 +1,4 @@
--- Calls of the operations are what the definitions play, so the other's calls do not show in them.
--- Assumes nothing.
+-- Calls of the operations do what the definitions say, so the other designer's calls do not affect them. Assumes nothing.
 use Prim.Native.Nat.{ℕ, zero, suc}
 use mathlib.Core.Path.{_≡_, refl, sym, ap, subst, _∙_}
 use mathlib.Core.Bool.{Bool, true, false, cond}
@@ -54,7 +53,7 @@ made-is _ _ _ _ (cleared s d v i r h) = (
     go (suc n) e = session-of (h .state ∙ ap (λ (n : ℕ). unlessRefused n (clearedState d (s .state)) (s .state)) e) refl refl
 
 -- ---- an accepted start
--- the quotas fit, and the session is the definitions'
+-- the quotas fit, and the session is that of the definitions
 record Is-begun (a b : Quota) (v i : List ℕ) (s : Session) : Type 0 where
   fit : quotasFit (length v) (length i) a b ≡ true
   is : s ≡ begun a b v i
@@ -68,13 +67,13 @@ begun-is {a} {b} {v} {i} (begin s h) = go (quotasFit (length v) (length i) a b) 
     go true e k j = let same : s ≡ startState (length v) (length i) a b = cc in record { fit = e; is = session-of same refl refl }
     go false e k j = let z : _≡_ {A = ℕ} 0 12 = ap (λ (t : Told). t .number) k in absurd (omega arith)
 
--- what a run from an accepted start plays
+-- a run from an accepted start is that of the definitions
 run-is : {a b : Quota} {v i : List ℕ} {s s′ : Session} {cs : List Call} {xs : List Answered} → Begun a b v i s → Ran s cs xs s′
     → Played next reply (begun a b v i) cs xs s′
 run-is {s′ = s′} {cs = cs} {xs = xs} b r = subst (λ (x : Session). Played next reply x cs xs s′) (begun-is b .is) (ran-is Made (λ x. x) next reply made-is r)
 
--- what one designer has of a run, and of another in which the other's calls were never made: the same answers with their counts, the same
--- part of the state and the same words
+-- what one designer gets from a run is the same as from a run in which the other's calls were never made: answers with their
+-- counts, part of the state, and words
 pub undisturbed : (a b : Quota) (v i : List ℕ) (d : Designer) (cs : List Call) {xs ys : List Answered} {s₀ s s′ : Session} → Begun a b v i s₀
     → Ran s₀ cs xs s → Ran s₀ (callsOf d cs) ys s′ → (answersOf d xs ≡ answersOf d ys) × (view d s ≡ view d s′)
 undisturbed a b v i d cs g r r′ =
@@ -83,14 +82,14 @@ undisturbed a b v i d cs g r r′ =
     let q = run-is g r′ in
     (ap (answersOf d) (p .told) ∙ h .answered ∙ ap (answersOf d) (sym (q .told)), ap (view d) (p .left) ∙ h .left ∙ ap (view d) (sym (q .left)))
 
--- answers depend on the own quota, the own calls and the lengths of the two lists at the start alone
+-- answers depend only on the own quota, the own calls and the lengths of the two lists at the start
 pub own-runs : (d : Designer) (a b a′ b′ : Quota) (v v′ i i′ : List ℕ) → quotaOf d a b ≡ quotaOf d a′ b′ → length v ≡ length v′ → length i ≡ length i′
     → (cs cs′ : List Call) → callsOf d cs ≡ callsOf d cs′ → {xs ys : List Answered} {s₀ s₀′ s s′ : Session} → Begun a b v i s₀ → Begun a′ b′ v′ i′ s₀′
     → Ran s₀ cs xs s → Ran s₀′ cs′ ys s′ → answersOf d xs ≡ answersOf d ys
 own-runs d a b a′ b′ v v′ i i′ q m n cs cs′ e g g′ r r′ =
     ap (answersOf d) (run-is g r .told) ∙ own-only d a b a′ b′ v v′ i i′ (begun-is g .fit) (begun-is g′ .fit) q m n cs cs′ e ∙ ap (answersOf d) (sym (run-is g′ r′ .told))
 
--- a run leaves lists of the start's lengths
+-- a run leaves lists of the same lengths as at the start
 pub record SameLengths (v i : List ℕ) (s : Session) : Type 0 where
   pub vertices : length (s .vertices) ≡ length v
   pub indices : length (s .indices) ≡ length i
@@ -101,8 +100,7 @@ same-lengths {a} {b} {v} {i} {cs = cs} g r =
     let e = run-is g r .left in
     record { vertices = ap (λ (x : Session). length (x .vertices)) e ∙ h .0; indices = ap (λ (x : Session). length (x .indices)) e ∙ h .1 }
 
--- a fresh start, on the lists that a run left, begins anew: a designer's answers are those after a start with the same own quota on lists
--- that nobody used before
+-- after a new start on the lists that a run left, a designer's answers are those after a start with the same own quota on unused lists
 pub anew : (d : Designer) (a b a′ b′ a″ b″ : Quota) (v i : List ℕ) (before cs cs′ : List Call) {xs ys zs : List Answered} {s₀ s s₁ s₁′ s₂ s₂′ : Session}
     → Begun a b v i s₀ → Ran s₀ before xs s → Begun a′ b′ (s .vertices) (s .indices) s₁ → Ran s₁ cs ys s₁′ → Begun a″ b″ v i s₂ → Ran s₂ cs′ zs s₂′
     → quotaOf d a′ b′ ≡ quotaOf d a″ b″ → callsOf d cs ≡ callsOf d cs′ → answersOf d ys ≡ answersOf d zs

@@ -1,5 +1,4 @@
--- What one designer sees of one list, when words are appended to the own part and to the other's.
--- Assumes nothing.
+-- What one designer sees of one list, when words are appended to the own part and to the other's. Assumes nothing.
 use Prim.Native.Nat.{ℕ, _+_, _≤_}
 use mathlib.Core.Path.{_≡_, refl, sym}
 use mathlib.Core.Bool.{false, true≢false, true}
@@ -16,14 +15,14 @@ use Rattle.share_runs.specs.Session.{same}
 use Rattle.share_runs.proofs.Beside.{inside, behind, before}
 use Rattle.shared_lists.proofs.Sound.{Sound, lies}
 
--- one designer is the other
+-- two designers are equal if `same` says so
 pub same-is : (d e : Designer) → same d e ≡ true → e ≡ d
 same-is First First h = refl
 same-is First Second h = absurd (true≢false (sym h))
 same-is Second First h = absurd (true≢false (sym h))
 same-is Second Second h = refl
 
--- ---- shares: the number of used words changes in the own share alone, and no length
+-- ---- shares: the number of used words changes in the own share only, and no length changes
 pub own-share : (d : Designer) (n : ℕ) (t : SharedList) → share d (withUsed d n t) ≡ usedTo n (share d t)
 own-share First n t = refl
 own-share Second n t = refl
@@ -38,7 +37,7 @@ pub same-length : (e : Designer) (n : ℕ) (t : SharedList) → withUsed e n t .
 same-length First n t = refl
 same-length Second n t = refl
 
--- a part lies where it lay
+-- a part stays where it is
 pub same-part : (d e : Designer) (n : ℕ) (t : SharedList) (xs : List ℕ) → part d (withUsed e n t) xs ≡ part d t xs
 same-part First First n t xs = refl
 same-part First Second n t xs = refl
@@ -51,12 +50,12 @@ module _ (t : SharedList) (xs : List ℕ) (s : Sound t) (fits : length xs ≡ t 
   pub append-length : (d : Designer) (ws : List ℕ) → share d t .used + length ws ≤ share d t .quota → length (appended d ws t xs) ≡ length xs
   append-length d ws h = over-length xs (firstFree d t) ws (omega (arith, lies d s))
 
-  -- to the own part: after its used words
+  -- appending to the own part: after its used words
   pub append-own : (d : Designer) (ws : List ℕ) → share d t .used + length ws ≤ share d t .quota
       → part d t (appended d ws t xs) ≡ over (part d t xs) (share d t .used) ws
   append-own d ws h = inside xs (partStart d t) (share d t .quota) (share d t .used) ws h (omega (arith, lies d s))
 
-  -- to the other's part: nothing changes
+  -- appending to the other's part: nothing changes
   pub append-other : (d e : Designer) → same d e ≡ false → (ws : List ℕ) → share e t .used + length ws ≤ share e t .quota
       → part d t (appended e ws t xs) ≡ part d t xs
   append-other First First h ws k = absurd (true≢false h)

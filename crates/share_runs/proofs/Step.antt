@@ -1,5 +1,4 @@
--- One call: the session stays good, the own call goes by the own view, and the other's leaves it.
--- Assumes nothing.
+-- One call: the session stays good, an own call depends on the own view, and the other's call keeps that view. Assumes nothing.
 use Prim.Native.Nat.{ℕ, zero, suc, _+_, _*_, _%_, _≤_}
 use mathlib.Core.Path.{_≡_, refl, sym, ap, _∙_}
 use mathlib.Core.Bool.{false}
@@ -25,13 +24,13 @@ use Rattle.shares.proofs.Counts.{point-words, index-words}
 use Rattle.share_runs.proofs.Seen.{own-share, other-share, same-length, same-part, append-length, append-own, append-other}
 use Rattle.share_runs.proofs.OwnState.{answerOf, ownStateServed, viewServed, ownStateNext, viewNext, callAnswer}
 
--- a session as it can be after a start: a sound state, and lists of the start's lengths
+-- a session that can occur after a start: a sound state, and lists of the start's lengths
 pub record Good (s : Session) : Type 0 where
   pub sound : SoundState (s .state)
   pub vertices : length (s .vertices) ≡ s .state .vertices .length
   pub indices : length (s .indices) ≡ s .state .indices .length
 
--- the room that a request takes
+-- the room that a request needs
 pub record Room (s : State) (d : Designer) (set : Settings) (p : Patch) : Type 0 where
   pub vertices : share d (s .vertices) .used + length (pointWords set p) ≤ share d (s .vertices) .quota
   pub indices : share d (s .indices) .used + length (newIndices d s set p) ≤ share d (s .indices) .quota
@@ -56,7 +55,7 @@ module _ (s : State) (f : SoundState s) where
       }
   has-room d clear v i h = tt
 
-  -- the answer goes by the own part of the state and the lengths of the lists that are lent
+  -- the answer depends only on the own part of the state and the lengths of the lists lent
   pub answer-own : (d : Designer) (r : Request) (v i : ℕ) → answerTo s d r v i ≡ answerOf (ownState d s) r v i
   unfolding answerTo answerOf
   answer-own d (draw set p) v i = rw (and-true (lent v i (s .vertices .length) (s .indices .length)) (state-test s f))
@@ -71,7 +70,7 @@ same-view : {m m′ n n′ : ℕ} {s s′ t t′ : Share} {xs xs′ ys ys′ : L
 same-view a b c d e f = cc
 
 module _ (s : Session) (g : Good s) where
-  -- served, the lists keep their lengths
+  -- a served request keeps the lengths of the lists
   length-served : (d : Designer) (r : Request) → Served (s .state) d r
       → (length (served s d r .vertices) ≡ length (s .vertices)) × (length (served s d r .indices) ≡ length (s .indices))
   unfolding served
@@ -81,7 +80,7 @@ module _ (s : Session) (g : Good s) where
   )
   length-served d clear h = (refl, refl)
 
-  -- it stays good
+  -- a served request keeps the session good
   good-served : (d : Designer) (r : Request) → Served (s .state) d r → Good (served s d r)
   unfolding served
   good-served d (draw set p) h = record {
@@ -103,7 +102,7 @@ module _ (s : Session) (g : Good s) where
     indices = g .indices ∙ sym (same-length d 0 (s .state .indices));
   }
 
-  -- the own request goes by the own view
+  -- an own request depends only on the own view
   own-served : (d : Designer) (r : Request) → Served (s .state) d r → view d (served s d r) ≡ viewServed (view d s) r
   unfolding served viewServed ownStateServed made
   own-served d (draw set p) h =
@@ -113,7 +112,7 @@ module _ (s : Session) (g : Good s) where
   own-served d clear h =
       same-view (same-length d _ _) (same-length d _ _) (own-share d _ _) (own-share d _ _) (same-part d d 0 (s .state .vertices) _) (same-part d d 0 (s .state .indices) _)
 
-  -- the other's leaves it
+  -- the other's request keeps the view
   other-served : (d e : Designer) → same d e ≡ false → (r : Request) → Served (s .state) e r → view d (served s e r) ≡ view d s
   unfolding served made
   other-served d e n (draw set p) h =
@@ -123,7 +122,7 @@ module _ (s : Session) (g : Good s) where
   other-served d e n clear h =
       same-view (same-length e _ _) (same-length e _ _) (other-share d e n _ _) (other-share d e n _ _) (same-part d e 0 (s .state .vertices) _) (same-part d e 0 (s .state .indices) _)
 
-  -- ---- the same of a call, refused or not
+  -- ---- the same for a call, refused or not
   pub good-next : (c : Call) → Good (next s c)
   good-next c = go (answer s c .number) refl
     where
@@ -148,7 +147,7 @@ module _ (s : Session) (g : Good s) where
       go zero e = other-served d (c .by) n (c .request) (has-room (s .state) (g .sound) (c .by) (c .request) (c .vertices) (c .indices) e)
       go (suc k) e = refl
 
-  -- the answer
+  -- the answer depends on the own part of the state
   pub own-answer : (d : Designer) (c : Call) → c .by ≡ d → answer s c ≡ callAnswer (ownState d (s .state)) c
   own-answer d c e = answer-own (s .state) (g .sound) (c .by) (c .request) (c .vertices) (c .indices) ∙ ap (λ (x : Designer). callAnswer (ownState x (s .state)) c) e
 
@@ -165,7 +164,7 @@ module _ (s : Session) (g : Good s) where
           (ap (λ (x : Designer). answerTo (s .state) x (c .request) (c .vertices) (c .indices) .number) (sym e) ∙ h))
       go (suc k) h = refl
 
-  -- and the own part of the state
+  -- the own part of the state changes by itself
   pub own-state-next : (d : Designer) (c : Call) → c .by ≡ d → ownState d (next s c .state) ≡ ownStateNext (ownState d (s .state)) c
   unfolding viewServed
   own-state-next d c e = ap (λ (w : View). w .state) (own-next d c e) ∙ go (callAnswer (ownState d (s .state)) c .number) (c .request)

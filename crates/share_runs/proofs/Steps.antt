@@ -1,11 +1,11 @@
--- Isolation of anything that answers step by step: where what one sees after an own step comes of what one saw, and the others' steps leave
--- it, one sees the same without the others' steps. Assumes nothing.
+-- Isolation for anything that answers step by step: if an own step changes a view by that view alone, and the others' steps
+-- keep it, the view is the same without the others' steps. Assumes nothing.
 use mathlib.Core.Path.{_≡_, refl, sym, ap, ap₂, _∙_}
 use mathlib.Core.Bool.{Bool, true, false, cond}
 use mathlib.Core.List.{List, [], _∷_}
 use Rattle.share_runs.specs.Steps.{those, after, replies, Ran, none, more}
 
--- the own ones are all own
+-- selecting own calls twice changes nothing
 pub those-twice : {A : Type 0} (mine : A → Bool) (xs : List A) → those mine (those mine xs) ≡ those mine xs
 unfolding those
 those-twice mine [] = refl
@@ -16,12 +16,12 @@ those-twice {A} mine (x ∷ xs) = go (mine x) refl (those-twice mine xs)
     go true e h = rw e (ap (λ (l : List A). x ∷ l) h)
     go false e h = h
 
--- a run is what the steps give, from s to s′
+-- a run from s to s′ with the answers that the steps give
 pub record Played {S C A : Type 0} (step : S → C → S) (reply : S → C → A) (s : S) (cs : List C) (xs : List A) (s′ : S) : Type 0 where
   pub told : xs ≡ replies step reply s cs
   pub left : s′ ≡ after step s cs
 
--- where each call that was made is a step of what one sees of the state
+-- each call that was made is a step of the view
 module _ {M S C A : Type 0} (Made : M → C → A → M → Type 0) (see : M → S) (step : S → C → S) (reply : S → C → A)
     (made : (m m′ : M) (c : C) (a : A) → Made m c a m′ → (a ≡ reply (see m) c) × (see m′ ≡ step (see m) c)) where
   pub ran-is : {m m′ : M} {cs : List C} {xs : List A} → Ran Made m cs xs m′ → Played step reply (see m) cs xs (see m′)
@@ -42,7 +42,7 @@ module _ {S C : Type 0} (step : S → C → S) (Good : S → Type 0) (good : (s 
   good-after s g [] = g
   good-after s g (c ∷ cs) = good-after (step s c) (good s g c) cs
 
-  -- what every step leaves, calls leave
+  -- what every step keeps, calls keep
   pub kept-after : {X : Type 0} (see : S → X) → ((s : S) → Good s → (c : C) → see (step s c) ≡ see s) → (s : S) → Good s → (cs : List C)
       → see (after step s cs) ≡ see s
   unfolding after
@@ -52,7 +52,7 @@ module _ {S C : Type 0} (step : S → C → S) (Good : S → Type 0) (good : (s 
   module _ (mine : C → Bool) {X : Type 0} (see : S → X) (react : X → C → X)
       (own : (s : S) → Good s → (c : C) → mine c ≡ true → see (step s c) ≡ react (see s) c)
       (other : (s : S) → Good s → (c : C) → mine c ≡ false → see (step s c) ≡ see s) where
-    -- what is seen comes of the own calls alone
+    -- the view depends on the own calls only
     pub seen : (s : S) → Good s → (cs : List C) → see (after step s cs) ≡ after react (see s) (those mine cs)
     unfolding after those
     seen s g [] = refl
@@ -65,7 +65,7 @@ module _ {S C : Type 0} (step : S → C → S) (Good : S → Type 0) (good : (s 
 
     module _ {A : Type 0} (whose : A → Bool) (reply : S → C → A) (answer : X → C → A) (named : (s : S) (c : C) → whose (reply s c) ≡ mine c)
         (own-reply : (s : S) → Good s → (c : C) → mine c ≡ true → reply s c ≡ answer (see s) c) where
-      -- and so do the own answers
+      -- so do the own answers
       pub answered : (s : S) → Good s → (cs : List C) → those whose (replies step reply s cs) ≡ replies react answer (see s) (those mine cs)
       unfolding replies those
       answered s g [] = refl

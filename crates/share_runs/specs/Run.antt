@@ -1,5 +1,4 @@
--- A start and the calls after it, one after the other: what each was lent, answered and left, by the operations' promises alone.
--- Assumes nothing.
+-- A start and the calls after it: what each call was lent, answered and left, by the contracts of the operations alone. Assumes nothing.
 use Prim.Native.Nat.{ℕ}
 use mathlib.Core.Path.{_≡_}
 use mathlib.Core.List.{List}
@@ -20,16 +19,16 @@ use Rattle.shares.specs.Operations.{DidDraw}
 use Rattle.share_runs.specs.Steps as steps
 use Rattle.share_runs.specs.Session.{draw, clear, Call, Session, Answered}
 
--- an accepted start, with these quotas, on the lists v and i: the session that it begins
+-- a start with these quotas on the lists v and i was accepted, and began this session
 pub data Begun (a b : Quota) (v i : List ℕ) : Session → Type 0 where
   begin : (s : State) → DidStart (length v) (length i) a b (Started s) → Begun a b v i (record { state = s; vertices = v; indices = i })
 
--- the two lists v and i that a call of this answer was lent are the session's, unless it was refused
+-- the lists v and i, lent to a call with this answer, are the session's, unless the call was refused
 pub record SameLists (s : Session) (t : Told) (v i : List ℕ) : Type 0 where
   pub vertices : t .number ≡ 0 → v ≡ s .vertices
   pub indices : t .number ≡ 0 → i ≡ s .indices
 
--- one call: handed the session's state, it answers, and leaves the next session
+-- one call, given the session's state: its answer, and the session after it
 pub data Made : Session → Call → Answered → Session → Type 0 where
   drew : (s : Session) (d : Designer) (set : Settings) (p : Patch) (v v′ i i′ : List ℕ) (r : DrawResult) → DidDraw d (s .state) set p v v′ i i′ r
       → SameLists s (toldDraw (r .answer)) v i
@@ -42,6 +41,6 @@ pub data Made : Session → Call → Answered → Session → Type 0 where
       → Made s (record { by = d; request = clear; vertices = length v; indices = length i }) (record { to = d; told = toldClear (r .answer) })
       (record { state = r .state; vertices = s .vertices; indices = s .indices })
 
--- calls, the answers to them, and the session after them
+-- calls, their answers, and the session after them
 abbrev pub Ran : Session → List Call → List Answered → Session → Type 0
 Ran s cs xs s′ = steps.Ran Made s cs xs s′

@@ -1,5 +1,4 @@
--- Calls since a start, one after the other, and what one designer sees of them.
--- Assumes nothing.
+-- The calls after a start, and what one designer sees of them. Assumes nothing.
 use Prim.Native.Nat.{ℕ}
 use mathlib.Core.Bool.{Bool, true, false}
 use mathlib.Core.List.{List}
@@ -20,25 +19,25 @@ use Rattle.shared_lists.specs.Operations.{unlessRefused, startState, clearedSta
 use Rattle.shares.specs.Operations.{newIndices, drawnState}
 use Rattle.share_runs.specs.Steps.{those, after, replies}
 
--- what a designer may ask for after the start
+-- what a designer can ask for after the start
 pub data Request : Type 0 where
   draw : Settings → Patch → Request
   clear : Request
 
--- a call: who asks, for what, and the lengths of the two lists that are lent with it
+-- a call: who asks, for what, and the lengths of the two lists lent
 pub record Call : Type 0 where
   pub by : Designer
   pub request : Request
   pub vertices : ℕ
   pub indices : ℕ
 
--- the state and the two lists between calls
+-- the state and the two lists between two calls
 pub record Session : Type 0 where
   pub state : State
   pub vertices : List ℕ
   pub indices : List ℕ
 
--- the answer to a call: it looks at the lengths of the lists alone
+-- the answer to a call; of the lists only the lengths matter
 unfoldable pub answerTo : State → Designer → Request → ℕ → ℕ → Told
 answerTo s d (draw set p) v i = drawVerdict d s set p v i
 answerTo s d clear v i = clearVerdict (accepted v i s)
@@ -59,37 +58,37 @@ answer s c = answerTo (s .state) (c .by) (c .request) (c .vertices) (c .indices)
 abbrev pub next : Session → Call → Session
 next s c = unlessRefused (answer s c .number) (served s (c .by) (c .request)) s
 
--- an answer, and whose it is
+-- an answer, and the designer who gets it
 pub record Answered : Type 0 where
   pub to : Designer
   pub told : Told
 
--- the answer as it is listed
+-- the answer to a call, with its designer
 abbrev pub reply : Session → Call → Answered
 reply s c = record { to = c .by; told = answer s c }
 
--- the answers to calls, one after the other, and the session after them
+-- the answers to calls, and the session after them
 abbrev pub answers : Session → List Call → List Answered
 answers s cs = replies next reply s cs
 
 abbrev pub play : Session → List Call → Session
 play s cs = after next s cs
 
--- whether two designers are one
+-- whether two designers are the same
 abbrev pub same : Designer → Designer → Bool
 same First First = true
 same First Second = false
 same Second First = false
 same Second Second = true
 
--- a designer's calls, and the answers to them
+-- the calls of one designer, and the answers to them
 abbrev pub callsOf : Designer → List Call → List Call
 callsOf d cs = those (λ c. same d (c .by)) cs
 
 abbrev pub answersOf : Designer → List Answered → List Answered
 answersOf d xs = those (λ a. same d (a .to)) xs
 
--- a designer's part of the state, with the lengths of the start
+-- a designer's part of the state, with the lengths of the lists
 pub record OwnState : Type 0 where
   pub vertexLength : ℕ
   pub indexLength : ℕ
@@ -99,7 +98,7 @@ pub record OwnState : Type 0 where
 abbrev pub ownState : Designer → State → OwnState
 ownState d s = record { vertexLength = s .vertices .length; indexLength = s .indices .length; vertices = share d (s .vertices); indices = share d (s .indices) }
 
--- what a designer has: the part of the state and the words of both parts
+-- what a designer sees: the part of the state, and the words of both parts
 pub record View : Type 0 where
   pub state : OwnState
   pub vertices : List ℕ
@@ -108,11 +107,11 @@ pub record View : Type 0 where
 abbrev pub view : Designer → Session → View
 view d s = record { state = ownState d (s .state); vertices = part d (s .state .vertices) (s .vertices); indices = part d (s .state .indices) (s .indices) }
 
--- what a designer is given by the start
+-- the quota of a designer
 abbrev pub quotaOf : Designer → Quota → Quota → Quota
 quotaOf First a b = a
 quotaOf Second a b = b
 
--- a session that a start begins on two lists
+-- the session that a start on the lists v and i begins
 abbrev pub begun : Quota → Quota → List ℕ → List ℕ → Session
 begun a b v i = record { state = startState (length v) (length i) a b; vertices = v; indices = i }

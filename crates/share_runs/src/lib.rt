@@ -1,2 +1,2 @@
-// Runs of calls on a shared pair of lists: that neither designer's calls show in what the other gets, and what one call appends.
-// Definitions and theorems, with nothing to run.
+// Runs of calls on shared lists: one designer's calls do not affect what the other gets, and what one call appends. Definitions
+// and theorems, with no code to run.

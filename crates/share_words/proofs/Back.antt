@@ -1,5 +1,4 @@
--- A state that was stored is read back: each call is handed what the last one left.
--- Assumes nothing.
+-- A stored state reads back, so each call gets what the last one left. Assumes nothing.
 use mathlib.Core.Path.{_≡_, refl}
 use Rattle.shared_lists.specs.declared.state.State.{State}
 use Rattle.share_words.specs.Words.{stateIn, stateWords}

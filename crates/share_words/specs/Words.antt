@@ -1,4 +1,4 @@
--- The state, the quotas and a designer as words. Assumes nothing.
+-- States, quotas and designers as words. Assumes nothing.
 use Prim.Native.Nat.{ℕ, _+_}
 use mathlib.Core.Bool.{cond}
 use mathlib.Core.List.{List, [], _∷_}
@@ -10,7 +10,7 @@ use Rattle.shared_lists.specs.declared.state.SharedList.{SharedList}
 use Rattle.shared_lists.specs.declared.state.Quota.{Quota}
 use Rattle.shared_lists.specs.declared.state.State.{State}
 
--- a list's five words from k on: its length, and quota and used words of each designer
+-- a shared list from its five words at k: its length, then quota and used words of each designer
 abbrev pub listIn : List ℕ → ℕ → SharedList
 listIn ws k = record {
   length = getD ws k 0;
@@ -21,17 +21,17 @@ listIn ws k = record {
 abbrev pub listWords : SharedList → List ℕ → List ℕ
 listWords t ws = t .length ∷ t .first .quota ∷ t .first .used ∷ t .second .quota ∷ t .second .used ∷ ws
 
--- a state's ten words: those of the vertex list and then those of the index list
+-- a state from its ten words: the vertex list, then the index list
 abbrev pub stateIn : List ℕ → State
 stateIn ws = record { vertices = listIn ws 0; indices = listIn ws 5 }
 
 abbrev pub stateWords : State → List ℕ
 stateWords s = listWords (s .vertices) (listWords (s .indices) [])
 
--- a designer's quota: words for vertices, then words for indices
+-- a designer's quota from its two words at k: words for vertices, words for indices
 abbrev pub quotaIn : List ℕ → ℕ → Quota
 quotaIn ws k = record { vertices = getD ws k 0; indices = getD ws (k + 1) 0 }
 
--- the designers are 0 and 1
+-- designer 0 is the first, any other number the second
 abbrev pub designerOf : ℕ → Designer
 designerOf n = cond (eqb n 0) First Second

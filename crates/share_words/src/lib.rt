@@ -1,4 +1,3 @@
-// Shared lists as numbers: the state, the quotas and a designer as words in a caller's memory, and the answers of drawing into a
-// designer's part as replies.
+// Shared lists as numbers: the state, the quotas and the designer as words in a caller's memory, and the answers to drawing as replies.
 pub mod reply;
 pub mod words;

@@ -21,7 +21,7 @@ fn word_of(length: usize) -> u64
     length as u64
 }
 
-// The five words of a list.
+// Returns a shared list from its five words.
 fn list_in(words: &[u64; 10], at: usize) -> SharedList
     requires { ⌜ at ≤ 5 ⌝ }
     ensures { λ r. ⌜ r ≡ listIn (now (words .entry)) at ⌝ }
@@ -67,7 +67,7 @@ pub fn words_of(state: State) -> [u64; 10]
     ]
 }
 
-// The state in the caller's memory, where there is one to store.
+// Writes the state to the caller's memory if it is to be stored.
 pub fn keep(words: &mut [u64; 10], stored: bool, state: State)
     ensures { λ _. ⌜ now (words .exit) ≡ cond stored (stateWords state) (now (words .entry)) ⌝ }
 {
@@ -76,7 +76,7 @@ pub fn keep(words: &mut [u64; 10], stored: bool, state: State)
     }
 }
 
-// One designer's quota.
+// Returns one designer's quota.
 pub fn quota_in(quotas: &[u64; 4], at: usize) -> Quota
     requires { ⌜ at ≤ 2 ⌝ }
     ensures { λ r. ⌜ r ≡ quotaIn (now (quotas .entry)) at ⌝ }

@@ -1,5 +1,4 @@
--- What the tests of a state tell, as facts on numbers, designer by designer.
--- Assumes nothing.
+-- What the tests of a state show, as facts about numbers, for each designer. Assumes nothing.
 use Prim.Native.Nat.{ℕ, _+_, _-_, _%_, _≤_}
 use mathlib.Core.Path.{_≡_, refl, sym, _∙_}
 use mathlib.Core.Bool.{Bool, true, false, _&&_, false≢true}
@@ -22,12 +21,12 @@ pub and : {a b : Bool} → a ≡ true → b ≡ true → a && b ≡ true
 and {a = true} e f = f
 and {a = false} e f = absurd (false≢true e)
 
--- a second test that holds decides nothing
+-- a second test that holds does not matter
 pub and-true : (a : Bool) {b : Bool} → b ≡ true → a && b ≡ a
 and-true true f = f
 and-true false f = refl
 
--- the quotas lie in the list, and no more is used than a quota
+-- the quotas fit into the list, and neither share uses more than its quota
 pub record Sound (t : SharedList) : Type 0 where
   pub quotas : t .first .quota + t .second .quota ≤ t .length
   pub first : t .first .used ≤ t .first .quota
@@ -76,7 +75,7 @@ pub state-test : (s : State) → SoundState s → soundState s ≡ true
 unfolding soundState
 state-test s f = and (and (sound-test _ (f .vertices)) (sound-test _ (f .indices))) (whole-test _ (f .whole))
 
--- one designer's part lies in the list
+-- one designer's part fits into the list
 pub record Lies (d : Designer) (t : SharedList) : Type 0 where
   pub inside : partStart d t + share d t .quota ≤ t .length
   pub used : share d t .used ≤ share d t .quota
@@ -85,7 +84,7 @@ pub lies : (d : Designer) {t : SharedList} → Sound t → Lies d t
 lies First s = omega arith
 lies Second s = omega arith
 
--- another number of used words, up to the quota, keeps it sound
+-- another number of used words, up to the quota, keeps the list sound
 pub still-sound : (d : Designer) {t : SharedList} (n : ℕ) → Sound t → n ≤ share d t .quota → Sound (withUsed d n t)
 still-sound First n s h = omega arith
 still-sound Second n s h = omega arith
@@ -99,7 +98,7 @@ pub whole-points : (d : Designer) {t : SharedList} → Whole t → share d t .us
 whole-points First w = w .first
 whole-points Second w = w .second
 
--- a sum's test, without the sum
+-- the test of a sum, computed without the sum
 pub minus-test : (a b n : ℕ) → a ≤ n → leb b (n - a) ≡ leb (a + b) n
 minus-test a b n h = go (leb b (n - a)) refl
   where
@@ -107,7 +106,7 @@ minus-test a b n h = go (leb b (n - a)) refl
     go true e = e ∙ sym (le-leb (a + b) n (omega (arith, leb-true b (n - a) e)))
     go false e = e ∙ sym (lt-leb (a + b) n (omega (arith, leb-false b (n - a) e)))
 
--- clearing is refused for the state or the lists alone
+-- clearing is refused only because of the state or the lists
 pub cleared : (ok : Bool) → clearVerdict ok .number ≡ 0 → ok ≡ true
 unfolding clearVerdict
 cleared true h = refl

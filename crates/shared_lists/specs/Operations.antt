@@ -1,5 +1,4 @@
--- The promises of starting and of clearing: the answer, and the state to hand on.
--- Assumes nothing.
+-- The contracts of starting and of clearing: the answer, and the state to pass on. Assumes nothing.
 use Prim.Native.Nat.{ℕ, zero, suc}
 use mathlib.Core.Path.{_≡_}
 use mathlib.Core.Bool.{cond}
@@ -14,16 +13,16 @@ use Rattle.shared_lists.specs.declared.answer.ClearResult.{ClearResult}
 use Rattle.shared_lists.specs.SharedList.{withUsed}
 use Rattle.shared_lists.specs.Answers.{toldStart, toldClear, quotasFit, startVerdict, accepted, clearVerdict}
 
--- a value after an answer of this number: the new one where it is 0, else as it was
+-- a value after an answer with this number: the new one for 0, else the old one
 abbrev pub unlessRefused : {A : Type 0} → ℕ → A → A → A
 unlessRefused zero new old = new
 unlessRefused (suc n) new old = old
 
--- an unused share
+-- a share of quota q with no words used
 abbrev pub unused : ℕ → Share
 unused q = record { quota = q; used = 0 }
 
--- a list of n words, with these quotas
+-- a list of n words with these two quotas, no words used
 abbrev pub unusedList : ℕ → ℕ → ℕ → SharedList
 unusedList n a b = record { length = n; first = unused a; second = unused b }
 
@@ -31,16 +30,16 @@ unusedList n a b = record { length = n; first = unused a; second = unused b }
 abbrev pub startState : ℕ → ℕ → Quota → Quota → State
 startState v i a b = record { vertices = unusedList v (a .vertices) (b .vertices); indices = unusedList i (a .indices) (b .indices) }
 
--- starting
+-- the contract of starting
 pub record DidStart (v i : ℕ) (a b : Quota) (r : StartAnswer) : Type 0 where
   pub answer : toldStart r ≡ startVerdict v i a b
   pub is : r ≡ cond (quotasFit v i a b) (Started (startState v i a b)) QuotasTooLarge
 
--- the state after a designer's part was cleared
+-- the state after a designer's part is cleared
 abbrev pub clearedState : Designer → State → State
 clearedState d s = record { vertices = withUsed d 0 (s .vertices); indices = withUsed d 0 (s .indices) }
 
--- clearing, lent lists of v and i words
+-- the contract of clearing, with lists of v and i words lent
 pub record DidClear (d : Designer) (s : State) (v i : ℕ) (r : ClearResult) : Type 0 where
   pub answer : toldClear (r .answer) ≡ clearVerdict (accepted v i s)
   pub state : r .state ≡ unlessRefused (toldClear (r .answer) .number) (clearedState d s) s

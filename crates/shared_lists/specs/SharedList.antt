@@ -1,5 +1,4 @@
--- One list that two designers share: where each part lies, and what it has left.
--- Assumes nothing.
+-- One list that two designers share: where each part lies, and what is left of it. Assumes nothing.
 use Prim.Native.Nat.{ℕ, _+_, _-_, _%_}
 use mathlib.Core.Bool.{Bool, _&&_}
 use mathlib.Core.List.{List}
@@ -16,7 +15,7 @@ abbrev pub share : Designer → SharedList → Share
 share First t = t .first
 share Second t = t .second
 
--- where a designer's part begins: the first's at word 0, the second's right after the first's
+-- where a designer's part begins: the first designer's at word 0, the second's right after it
 abbrev pub partStart : Designer → SharedList → ℕ
 partStart First t = 0
 partStart Second t = t .first .quota
@@ -37,26 +36,26 @@ part d t xs = take (share d t .quota) (drop (partStart d t) xs)
 abbrev pub usedTo : ℕ → Share → Share
 usedTo n s = record { quota = s .quota; used = n }
 
--- a designer's share with n words used, the other's as it was
+-- a designer's share with n words used; the other share is unchanged
 abbrev pub withUsed : Designer → ℕ → SharedList → SharedList
 withUsed First n t = record { length = t .length; first = usedTo n (t .first); second = t .second }
 withUsed Second n t = record { length = t .length; first = t .first; second = usedTo n (t .second) }
 
--- words appended to a designer's part: the shares and the list
+-- a shared list after the words ws were appended to a designer's part
 abbrev pub grown : Designer → List ℕ → SharedList → SharedList
 grown d ws t = withUsed d (share d t .used + length ws) t
 
 abbrev pub appended : Designer → List ℕ → SharedList → List ℕ → List ℕ
 appended d ws t xs = over xs (firstFree d t) ws
 
--- no more used than the quota
+-- the share uses no more than its quota
 abbrev pub within : Share → Bool
 within s = leb (s .used) (s .quota)
 
--- the quotas lie in the list, and neither share has more used than its quota
+-- the quotas fit into the list, and neither share uses more than its quota
 unfoldable pub sound : SharedList → Bool
 sound t = leb (t .first .quota + t .second .quota) (t .length) && within (t .first) && within (t .second)
 
--- no share has a part of a point used
+-- each share uses a multiple of three words
 unfoldable pub whole : SharedList → Bool
 whole t = eqb (t .first .used % 3) 0 && eqb (t .second .used % 3) 0

@@ -1,4 +1,4 @@
-// What starting and clearing answer, by name.
+// The answers to starting and clearing.
 use crate::state::State;
 
 pub enum StartAnswer {
@@ -11,7 +11,7 @@ pub enum ClearAnswer {
     BadState,
 }
 
-// An answer, and the state to hand on.
+// An answer, and the state to pass on.
 pub struct ClearResult {
     pub answer: ClearAnswer,
     pub state: State,

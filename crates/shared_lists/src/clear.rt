@@ -1,4 +1,4 @@
-// Clearing a designer's part: its room is free again, and its words stay until they are written over.
+// Clearing a designer's part: its room is free again, and its words stay until they are overwritten.
 ghost use lib.ListN.{length};
 ghost use Rattle.shared_lists.specs.Operations.{DidClear};
 use crate::answer::ClearAnswer;

@@ -1,5 +1,5 @@
-// One vertex list and one index list that two designers share: the state that says whose words are whose, starting, and clearing
-// a designer's part.
+// One vertex list and one index list that two designers share: the state that says which words belong to whom, starting, and
+// clearing a designer's part.
 pub mod answer;
 pub mod clear;
 pub mod shared_list;

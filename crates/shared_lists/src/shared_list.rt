@@ -9,7 +9,6 @@ use crate::state::Share;
 use crate::state::SharedList;
 use crate::state::State;
 
-// A designer's share.
 pub fn share_of(list: SharedList, designer: Designer) -> Share
     ensures { λ r. ⌜ r ≡ share designer list ⌝ }
 {
@@ -19,7 +18,6 @@ pub fn share_of(list: SharedList, designer: Designer) -> Share
     }
 }
 
-// Where a designer's part begins.
 pub fn part_start(list: SharedList, designer: Designer) -> usize
     ensures { λ r. ⌜ r ≡ partStart designer list ⌝ }
 {
@@ -29,7 +27,7 @@ pub fn part_start(list: SharedList, designer: Designer) -> usize
     }
 }
 
-// The shares with so many words used by a designer.
+// Returns the shared list with this many words used by a designer.
 pub fn with_used(list: SharedList, designer: Designer, used: usize) -> SharedList
     ensures { λ r. ⌜ r ≡ withUsed designer used list ⌝ }
 {
@@ -56,7 +54,7 @@ pub fn with_used(list: SharedList, designer: Designer, used: usize) -> SharedLis
     }
 }
 
-// Whether two quotas lie in a list; their sum may be past the largest number.
+// Whether two quotas fit into a list; their sum may exceed the largest number.
 pub(crate) fn quotas_fit(length: usize, first: usize, second: usize) -> bool
     ensures { λ r. ⌜ r ≡ leb (first + second) length ⌝ }
 {
@@ -66,7 +64,7 @@ pub(crate) fn quotas_fit(length: usize, first: usize, second: usize) -> bool
     second <= length - first
 }
 
-// Whether the quotas lie in the list, with no more used than a quota.
+// Whether the quotas fit into the list, and neither share uses more than its quota.
 fn is_sound(list: SharedList) -> bool
     ensures { λ r. ⌜ r ≡ sound list ⌝ }
 {
@@ -93,7 +91,7 @@ fn is_whole(list: SharedList) -> bool
     second.used % 3 == 0
 }
 
-// Whether a state, and the lengths of the lists lent with it, are as they can be.
+// Whether the state can occur, and the lists lent with it have the lengths of the start.
 pub fn accepts(state: State, vertices: usize, indices: usize) -> bool
     ensures { λ r. ⌜ r ≡ accepted vertices indices state ⌝ }
 {

@@ -1,4 +1,4 @@
-// Starting: both designers' quotas, or their refusal as a whole.
+// Starting: accepts the quotas of both designers, or refuses them together.
 ghost use lib.ListN.{length};
 ghost use mathlib.Core.Path.{_≡_};
 ghost use Rattle.shared_lists.specs.Operations.{DidStart, unusedList};
@@ -9,7 +9,7 @@ use crate::state::Share;
 use crate::state::SharedList;
 use crate::state::State;
 
-// A list of which nothing is used.
+// Returns a list of which no words are used.
 fn unused(length: usize, first: usize, second: usize) -> SharedList
     ensures { λ r. ⌜ r ≡ unusedList length first second ⌝ }
 {

@@ -1,4 +1,4 @@
-// How the two lists are shared, handed from call to call.
+// The state of the two shared lists, which is passed from call to call.
 
 pub enum Designer {
     First,
@@ -23,7 +23,7 @@ pub struct State {
     pub indices: SharedList,
 }
 
-// What a designer asks for at the start, in words.
+// How many words a designer asks for at the start.
 pub struct Quota {
     pub vertices: usize,
     pub indices: usize,

@@ -1,5 +1,4 @@
--- How many words a patch has.
--- Assumes nothing.
+-- How many words a patch has. Assumes nothing.
 use Prim.Native.Nat.{ℕ, _+_, _*_}
 use mathlib.Core.Path.{_≡_}
 use lib.ListN.{length, length-map}
@@ -12,10 +11,10 @@ use Rattle.tessellate.specs.Answers.{pointsOf, indicesOf}
 use Rattle.tessellate.specs.Draws.{pointWords, connectionWords}
 use Rattle.shares.specs.Operations.{shifted}
 
--- its points
+-- the words of its points
 pub point-words : (set : Settings) (p : Patch) → length (pointWords set p) ≡ 3 * pointsOf set p
 point-words set p = words-length (points (subdivision (set .spacing) (set .top) p))
 
--- its indices, counted from anywhere
+-- the words of its indices, whatever is added to them
 pub index-words : (n : ℕ) (set : Settings) (p : Patch) → length (shifted n set p) ≡ indicesOf set p
 index-words n set p = length-map (connectionWords set p) (λ x. n + x)

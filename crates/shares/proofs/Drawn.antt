@@ -1,5 +1,4 @@
--- What the answer "drawn" gives: room in both parts for the words of the patch.
--- Assumes nothing.
+-- What the answer "drawn" shows: both parts have room for the words of the patch. Assumes nothing.
 use Prim.Native.Nat.{ℕ, _+_, _*_, _/_, _≤_}
 use mathlib.Core.Path.{_≡_, sym, ap, _∙_}
 use mathlib.Core.Bool.{Bool}
@@ -26,17 +25,17 @@ use Rattle.shares.specs.Room.{RoomFor, Appended}
 use Rattle.shared_lists.proofs.Sound.{both, state-facts, lies}
 use Rattle.shares.proofs.Passed.{Passed, passed}
 
--- a state by its two sharess
+-- a state by its two shared lists
 both-lists : {a a′ b b′ : SharedList} → a ≡ a′ → b ≡ b′ → _≡_ {A = State} (record { vertices = a; indices = b }) (record { vertices = a′; indices = b′ })
 both-lists e f = cc
 
--- where no test stands against it, the counts are the patch's
+-- if no test refuses, the counts are those of the patch
 counts : (set : Settings) (p : Patch) (ok : Bool) (n v i : ℕ) → Passed set p ok n v i → verdict set p ok n v i ≡ drewBoth (pointsOf set p) (indicesOf set p)
 unfolding verdict partVerdict roomVerdict
 counts set p ok n v i h =
     rw (h .top, h .state, h .drawn, le-ltb 65535 (n + pointsOf set p) (h .numbered), le-ltb v (3 * pointsOf set p) (h .vertices), le-ltb i (indicesOf set p) (h .indices))
 
--- what the two writers ask for
+-- what the two writers require
 pub record Ready (d : Designer) (s : State) (set : Settings) (p : Patch) (vs is : List ℕ) (m k : ℕ) : Type 0 where
   pub vertices : RoomFor set p (3 * pointsOf set p) d (s .vertices) vs
   pub indices : RoomFor set p (indicesOf set p) d (s .indices) is
@@ -69,11 +68,11 @@ module _ (d : Designer) (s : State) (set : Settings) (p : Patch) (vs is : List �
         numbered = h .numbered;
       }
 
-  -- the same, of an answer that turned out to be "drawn"
+  -- the same for an answer that is "drawn"
   pub ready-for : {m k : ℕ} (r : DrawAnswer) → r ≡ Drawn m k → toldDraw r ≡ drawVerdict d s set p (length vs) (length is) → Ready d s set p vs is m k
   ready-for {m} {k} r e h = ready m k (ap toldDraw (sym e) ∙ h)
 
-  -- both lists were appended to
+  -- words were appended to both lists
   pub drew-both : {m k : ℕ} (r : DrawAnswer) → r ≡ Drawn m k → toldDraw r ≡ drawVerdict d s set p (length vs) (length is)
       → {b : Share} → b ≡ share d (s .vertices) → {vs′ is′ : List ℕ} {t t′ : SharedList} → Appended d (pointWords set p) (s .vertices) vs vs′ t
       → Appended d (shifted (b .used / 3) set p) (s .indices) is is′ t′

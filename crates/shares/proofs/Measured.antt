@@ -1,5 +1,4 @@
--- What measuring tells of a patch whose top is one.
--- Assumes nothing.
+-- What measuring a patch with a good top level shows. Assumes nothing.
 use Prim.Native.Nat.{ℕ, _-_, _/_}
 use mathlib.Core.Path.{_≡_, refl, _∙_}
 use mathlib.Core.Bool.{Bool, true, false, cond}
@@ -17,7 +16,7 @@ use Rattle.tessellate.proofs.Measured.{measured}
 use Rattle.shared_lists.specs.declared.state.Share.{Share}
 use Rattle.shares.specs.Answers.{roomVerdict, partVerdict}
 
--- both counts, of a patch that is not discarded
+-- both counts of a patch that is not discarded
 pub record Counted (set : Settings) (p : Patch) (m k : ℕ) : Type 0 where
   pub drawn : discards p ≡ false
   pub points : m ≡ pointsOf set p
@@ -52,7 +51,7 @@ module _ (set : Settings) (p : Patch) (top : isTop (set .top) ≡ true) where
       go true d h = let z : _≡_ {A = ℕ} 0 1 = cc in absurd (omega arith)
       go false d h = record { drawn = d; points = cc; indices = cc }
 
--- what a part says, by the shares that the code found
+-- the answer of a part, by the shares that the code found
 pub part-says : (set : Settings) (p : Patch) {t : Told} {m k : ℕ} {a b a′ b′ : Share} → a ≡ a′ → b ≡ b′ → Counted set p m k
     → t ≡ roomVerdict (a .used / 3) (a .quota - a .used) (b .quota - b .used) m k
     → t ≡ partVerdict set p (a′ .used / 3) (a′ .quota - a′ .used) (b′ .quota - b′ .used)

@@ -1,5 +1,4 @@
--- Laws of `over xs at ws` and a part of the list xs that is lent on and comes back.
--- Assumes nothing.
+-- Laws of `over xs at ws` for a part of the list xs that is lent and put back. Assumes nothing.
 use mathlib.Core.Path.{_≡_, sym, ap, _∙_}
 use mathlib.Core.List.{List, _++_, append-assoc}
 use Prim.Native.Nat.{ℕ, _+_, _-_, _≤_}
@@ -22,21 +21,21 @@ put-back xs a b ws h k =
     ∙ drop-drop (length ws) a xs in
     ap (λ (l : List ℕ). take a xs ++ l) (append-assoc ws (drop (0 + length ws) Q) (drop (b - a) D) ∙ ap (λ (l : List ℕ). ws ++ l) rest)
 
--- written whole
+-- the part, written completely
 pub put-over : (xs : List ℕ) (a b : ℕ) (ys : List ℕ) → a + length ys ≡ b → putMid a (b - a) xs ys ≡ over xs a ys
 unfolding over
 put-over xs a b ys h =
     let e : b - a ≡ length ys = omega arith in
     rw e (ap (λ (l : List ℕ). take a xs ++ (ys ++ l)) (drop-drop (length ys) a xs))
 
--- read
+-- the part, read
 pub lent-words : (xs : List ℕ) (a b : ℕ) (ws : List ℕ) → a + length ws ≡ b → a ≤ length xs → take (b - a) (drop a (over xs a ws)) ≡ ws
 unfolding over
 lent-words xs a b ws h k =
     let e : b - a ≡ length ws = omega arith in
     rw (e, drop-at (take a xs) (ws ++ drop (a + length ws) xs) a (length-take-le a xs k)) (take-append-seam ws (drop (a + length ws) xs))
 
--- written again, as many words
+-- equally many words, written again
 pub over-again : (xs : List ℕ) (a : ℕ) (ws ys : List ℕ) → length ys ≡ length ws → a ≤ length xs → over (over xs a ws) a ys ≡ over xs a ys
 unfolding over
 over-again xs a ws ys e h =
@@ -48,7 +47,7 @@ over-again xs a ws ys e h =
     ∙ drop-append-seam ws D ∙ ap (λ (n : ℕ). drop (a + n) xs) (sym e) in
     rw (take-at P (ws ++ D) a p, back)
 
--- a part from a to b was written at its front with ws, and these words were then exchanged for as many others
+-- the part from a to b was written at its front with ws, and these words were then replaced by equally many others
 pub put-twice : (xs zs : List ℕ) (a b e : ℕ) (ws ys : List ℕ) → a + length ws ≤ b → b ≤ length xs → a + length ws ≡ e → length ys ≡ length ws
     → zs ≡ over xs a ws → putMid a (e - a) zs ys ≡ over xs a ys
 put-twice xs zs a b e ws ys h k m n is = rw is (put-over (over xs a ws) a e ys (omega arith) ∙ over-again xs a ws ys n (omega arith))

@@ -1,5 +1,4 @@
--- What "drawn" means, and when each answer of drawing applies.
--- Assumes nothing.
+-- What "drawn" means, and when each answer of drawing applies. Assumes nothing.
 use Prim.Native.Nat.{ℕ, _+_, _*_, _≤_}
 use mathlib.Core.Path.{_≡_, refl}
 use mathlib.Core.Bool.{Bool, true, false, cond}
@@ -13,7 +12,7 @@ use Rattle.patch.specs.Subdivide.{discards}
 use Rattle.tessellate.specs.Answers.{refused, pointsOf, indicesOf, drewBoth}
 use Rattle.shares.specs.Answers.{roomVerdict, partVerdict, verdict}
 
--- no test stood against drawing
+-- no test refuses the drawing
 pub record Passed (set : Settings) (p : Patch) (ok : Bool) (n v i : ℕ) : Type 0 where
   pub top : isTop (set .top) ≡ true
   pub state : ok ≡ true

@@ -1,5 +1,4 @@
--- The promise of drawing: the answer, the state to hand on, and both lists at exit.
--- Assumes nothing.
+-- The contract of drawing: the answer, the state to pass on, and both lists at exit. Assumes nothing.
 use Prim.Native.Nat.{ℕ, _+_}
 use mathlib.Core.Path.{_≡_}
 use mathlib.Core.List.{List, map}
@@ -14,7 +13,7 @@ use Rattle.shared_lists.specs.SharedList.{grown, appended}
 use Rattle.shared_lists.specs.Operations.{unlessRefused}
 use Rattle.shares.specs.Answers.{toldDraw, pointsIn, drawVerdict}
 
--- the words of a patch's indices, counted from the beginning of a part that holds n points
+-- the index words of a patch, each plus the n points that the part holds already
 abbrev pub shifted : ℕ → Settings → Patch → List ℕ
 shifted n set p = map (λ x. n + x) (connectionWords set p)
 
@@ -22,11 +21,11 @@ shifted n set p = map (λ x. n + x) (connectionWords set p)
 abbrev pub newIndices : Designer → State → Settings → Patch → List ℕ
 newIndices d s set p = shifted (pointsIn d s) set p
 
--- the state after a patch was drawn
+-- the state after a patch is drawn
 abbrev pub drawnState : Designer → State → Settings → Patch → State
 drawnState d s set p = record { vertices = grown d (pointWords set p) (s .vertices); indices = grown d (newIndices d s set p) (s .indices) }
 
--- drawing: v, i and v′, i′ are both lists at entry and at exit
+-- the contract of drawing: v and i are the lists at entry, v′ and i′ at exit
 pub record DidDraw (d : Designer) (s : State) (set : Settings) (p : Patch) (v v′ i i′ : List ℕ) (r : DrawResult) : Type 0 where
   pub answer : toldDraw (r .answer) ≡ drawVerdict d s set p (length v) (length i)
   pub state : r .state ≡ unlessRefused (toldDraw (r .answer) .number) (drawnState d s set p) s

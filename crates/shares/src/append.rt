@@ -1,4 +1,4 @@
-// A patch drawn into the unused words of a shared list, which are lent on as a part that starts in its middle.
+// Draws a patch into the unused words of a designer's part of a shared list.
 ghost use mathlib.Core.Path.{_≡_};
 ghost use mathlib.Core.List.{map};
 ghost use Prim.Native.Nat.{ℕ, _+_, _*_, _≤_, _<_};
@@ -16,7 +16,7 @@ use shared_lists::shared_list::with_used;
 use shared_lists::state::Designer;
 use shared_lists::state::SharedList;
 
-// The points, into the words from `from` to `to`.
+// Draws the points into the words from `from` to `to`.
 fn write_points(patch: Patch, settings: Settings, vertices: &mut [u32], from: usize, to: usize)
     requires { ⌜ Between settings patch (3 * pointsOf settings patch) from to (now vertices) ⌝ }
     ensures { λ r. ⌜ now (vertices .exit) ≡ over (now (vertices .entry)) from (pointWords settings patch) ⌝ }
@@ -24,7 +24,7 @@ fn write_points(patch: Patch, settings: Settings, vertices: &mut [u32], from: us
     tessellate::draw::draw_points(patch, settings, &mut vertices[from..to]);
 }
 
-// Every number raised by `base`.
+// Adds `base` to every number.
 fn shift(numbers: &mut [u16], base: u16)
     requires { ⌜ ((k : ℕ) → k < length (now numbers) → base + getD (now numbers) k 0 < 65536) ⌝ }
     ensures { λ r. ⌜ now (numbers .exit) ≡ map (λ x. base + x) (now (numbers .entry)) ⌝ }
@@ -36,7 +36,7 @@ fn shift(numbers: &mut [u16], base: u16)
     }
 }
 
-// The indices, `words` of them, counted from `base` on, into the words from `from` to `to`.
+// Draws the indices, `words` of them, each plus `base`, into the words from `from` to `to`.
 fn write_indices(
     patch: Patch,
     settings: Settings,
@@ -54,7 +54,7 @@ fn write_indices(
     shift(&mut indices[from..end], base);
 }
 
-// So many words of points after a designer's used ones.
+// Appends this many words of points to the words that a designer uses.
 pub(crate) fn append_points(
     list: SharedList,
     designer: Designer,
@@ -73,7 +73,7 @@ pub(crate) fn append_points(
     with_used(list, designer, used + words)
 }
 
-// So many indices after a designer's used ones.
+// Appends this many indices to those that a designer uses.
 pub(crate) fn append_indices(
     list: SharedList,
     designer: Designer,

@@ -1,4 +1,4 @@
-// Drawing into a designer's part: points and indices are both appended, or neither.
+// Drawing into a designer's part: both points and indices are appended, or neither.
 ghost use Rattle.shares.specs.Operations.{DidDraw};
 use crate::answer::DrawAnswer;
 use crate::answer::DrawResult;

@@ -1,4 +1,4 @@
-// What drawing has to say, before anything is written.
+// The answer to drawing, found before anything is written.
 ghost use mathlib.Core.Path.{_≡_};
 ghost use Prim.Native.Nat.{_-_, _/_, _≤_};
 ghost use mathlib.Core.Bool.{true};
@@ -16,7 +16,7 @@ use shared_lists::state::Share;
 use shared_lists::state::State;
 use tessellate::answer::Size;
 
-// Whether a part has room for so many points and indices more.
+// The answer for this many further points and indices, by the room in a part.
 fn room(vertices: Share, indices: Share, points: u32, words: u32) -> DrawAnswer
     requires { ⌜ vertices .used ≤ vertices .quota ⌝ ∗ ⌜ indices .used ≤ indices .quota ⌝ }
     ensures { λ r. ⌜ toldDraw r ≡ roomVerdict (vertices .used / 3) (vertices .quota - vertices .used) (indices .quota - indices .used) points words ⌝ }
@@ -36,7 +36,7 @@ fn room(vertices: Share, indices: Share, points: u32, words: u32) -> DrawAnswer
     }
 }
 
-// What a designer's part says to a patch.
+// The answer of a designer's part for a patch.
 fn part_verdict(state: State, designer: Designer, patch: Patch, settings: Settings) -> DrawAnswer
     requires { ⌜ isTop (settings .top) ≡ true ⌝ ∗ ⌜ soundState state ≡ true ⌝ }
     ensures { λ r. ⌜ toldDraw r ≡ partVerdict settings patch (pointsIn designer state) (left designer (state .vertices)) (left designer (state .indices)) ⌝ }

@@ -1,3 +1,3 @@
--- The laws of the table of sides, lowest first.
+-- The laws of `side_chains`, lowest first.
 pub mod Numbers
 pub mod Table

@@ -1,5 +1,4 @@
--- Sides by number: their ends among the words of the indices, and their triangles.
--- Assumes nothing.
+-- Sides by number: their ends in the index words, and their triangles. Assumes nothing.
 use Prim.Native.Nat.{ℕ, zero, suc, _+_, _-_, _*_, _/_, _%_, _≤_, _<_}
 use mathlib.Core.Path.{_≡_, refl, sym, ap, _∙_}
 use mathlib.Core.Bool.{Bool, true, false, _&&_, _||_, true≢false}
@@ -19,14 +18,14 @@ use Rattle.mesh_faults.proofs.Turns.{numbered}
 use Rattle.mesh_faults.proofs.Corners.{start-known as corner-known, end-known as corner-end-known}
 use Rattle.side_chains.specs.Sides.{sideStart, sideEnd}
 
--- a corner of triangle k by its number among the indices
+-- a corner of triangle k in the index words
 corner-word : (ws : List ℕ) (k e m : ℕ) → k < length ws / 3 → m ≡ k * 3 + e → e < 3 → getD ws m 0 ≡ startOf (triangleAt (readTriangles ws) k) e
 corner-word ws k zero m l h b = rw (← triangle-read ws k l) (ap (λ n. getD ws n 0) (omega arith))
 corner-word ws k (suc zero) m l h b = rw (← triangle-read ws k l) (ap (λ n. getD ws n 0) (omega arith))
 corner-word ws k (suc (suc zero)) m l h b = rw (← triangle-read ws k l) (ap (λ n. getD ws n 0) (omega arith))
 corner-word ws k (suc (suc (suc e))) m l h b = absurd (omega arith)
 
--- a side ends where the next one of its triangle starts
+-- a side ends where the next side of its triangle starts
 next-corner : (t : Triangle) (e : ℕ) → e < 2 → startOf t (e + 1) ≡ endOf t e
 next-corner t zero l = refl
 next-corner t (suc zero) l = refl
@@ -46,7 +45,7 @@ pub end-word-last : (ws : List ℕ) (m : ℕ) → m < length ws / 3 * 3 → m % 
 unfolding sideEnd
 end-word-last ws m l h = rw h (corner-word ws (m / 3) 0 (m - 2) (omega arith) (omega arith) (omega arith))
 
--- the ends are numbers of points
+-- the ends of a side are numbers of points
 pub start-known : (n : ℕ) (ws : List ℕ) (m : ℕ) → AllNumbered n ws → m < length ws / 3 * 3 → sideStart (readTriangles ws) m < n
 unfolding sideStart
 start-known n ws m h l = corner-known n (triangleAt (readTriangles ws) (m / 3)) (m % 3) (numbered n ws (m / 3) h (omega arith))
@@ -73,7 +72,7 @@ numbered-end ts k e m h l =
     let r : m % 3 ≡ e = omega arith in
     rw (q, r)
 
--- one of three, and which
+-- one of three tests holds, and which one
 pub one-of : (p q r : Bool) → (p ≡ true) ⊎ ((q ≡ true) ⊎ (r ≡ true)) → (p || q || r) ≡ true
 one-of true q r h = refl
 one-of false true r h = refl
@@ -94,14 +93,14 @@ pub both-which : (p q : Bool) → (p && q) ≡ true → (p ≡ true) × (q ≡ t
 both-which true q h = (refl, h)
 both-which false q h = absurd (true≢false (sym h))
 
--- two sides with the same ends
+-- two sides with equal ends
 pub same-ends : (x y p q : ℕ) → x ≡ p → y ≡ q → (eqb x p && eqb y q) ≡ true
 same-ends x y p q h k = both (eqb x p) (eqb y q) (eq-eqb x p h) (eq-eqb y q k)
 
 pub ends-same : (x y p q : ℕ) → (eqb x p && eqb y q) ≡ true → (x ≡ p) × (y ≡ q)
 ends-same x y p q h = let w = both-which (eqb x p) (eqb y q) h in (eqb-true x p (w .0), eqb-true y q (w .1))
 
--- every side that a triangle has is one of its three
+-- every side of a triangle is one of its three
 own-side : (t : Triangle) (e : ℕ) → hasSide t (startOf t e) (endOf t e) ≡ true
 own-side t zero = one-of (eqb (t .a) (t .a) && eqb (t .b) (t .b)) (eqb (t .a) (t .b) && eqb (t .b) (t .c)) (eqb (t .a) (t .c) && eqb (t .b) (t .a))
     (inl (same-ends (t .a) (t .b) (t .a) (t .b) refl refl))
@@ -113,7 +112,7 @@ own-side t (suc (suc e)) = one-of (eqb (t .c) (t .a) && eqb (t .a) (t .b)) (eqb 
 pub side-there : {x y : ℕ} (t : Triangle) (e : ℕ) → startOf t e ≡ x → endOf t e ≡ y → hasSide t x y ≡ true
 side-there t e h k = rw (← h, ← k) (own-side t e)
 
--- a side of a triangle, by its number there
+-- a side of a triangle, by its number in the triangle
 pub record SideOf (t : Triangle) (x y : ℕ) : Type 0 where
   pub number : ℕ
   pub least : number < 3
@@ -128,7 +127,7 @@ side-which t x y h = pick (which-of (eqb x (t .a) && eqb y (t .b)) (eqb x (t .b)
     pick (inr (inl k)) = let w = ends-same x y (t .b) (t .c) k in record { number = 1; least = omega arith; start = w .0; end = w .1 }
     pick (inr (inr k)) = let w = ends-same x y (t .c) (t .a) k in record { number = 2; least = omega arith; start = w .0; end = w .1 }
 
--- two triangles with a side in common: its numbers in both
+-- two triangles with a side in common, by its number in each
 pub record Shared (s t : Triangle) : Type 0 where
   pub first : ℕ
   pub least : first < 3

@@ -1,5 +1,4 @@
--- The table of sides: how it is kept, and what a walk through it meets.
--- Assumes nothing.
+-- The table of sides: how it is updated, and what a search along a chain passes. Assumes nothing.
 use Prim.Native.Nat.{ℕ, zero, suc, _+_, _-_, _*_, _/_, _%_, _≤_, _<_}
 use mathlib.Core.Path.{_≡_, refl, sym, subst, _∙_}
 use mathlib.Core.Bool.{Bool, true, false, cond}
@@ -17,7 +16,7 @@ use Rattle.searches.proofs.First.{some-here, some-none}
 use Rattle.side_chains.specs.Sides.{sideStart, sideEnd, isSide}
 use Rattle.side_chains.specs.Links.{lastFrom, linkOf, Linked, Walked, Zeros}
 
--- the last side that starts at x: no later one does
+-- after the last side that starts at x no later side does
 none-step : (ts : List Triangle) (n x m : ℕ) (b : Bool) → eqb (sideStart ts n) x ≡ b → (lastFrom ts n x ≤ m → m < n → sideStart ts m ≡ x → ⊥)
     → cond b (suc n) (lastFrom ts n x) ≤ m → m < suc n → sideStart ts m ≡ x → ⊥
 none-step ts n x m true h r k l e = omega arith
@@ -31,7 +30,7 @@ unfolding lastFrom
 last-none ts zero x m k l e = omega arith
 last-none ts (suc n) x m k l e = none-step ts n x m (eqb (sideStart ts n) x) refl (last-none ts n x m) k l e
 
--- and it does
+-- the last side that starts at x does start there
 is-step : (ts : List Triangle) (n x j : ℕ) (b : Bool) → eqb (sideStart ts n) x ≡ b → (lastFrom ts n x ≡ suc j → sideStart ts j ≡ x)
     → cond b (suc n) (lastFrom ts n x) ≡ suc j → sideStart ts j ≡ x
 is-step ts n x j true h r e = let d : j ≡ n = omega arith in rw d (eqb-true (sideStart ts n) x h)
@@ -66,11 +65,11 @@ walked-from ts n x y b l h = record {
 }
 
 module _ {ts : List Triangle} {n : ℕ} {heads links : List ℕ} (t : Linked ts n heads links) where
-  -- a walk begins at the last side that starts at x
+  -- a search begins at the last side that starts at x
   pub walk-begins : (x y : ℕ) → x < length heads → Walked ts n x y (getD heads x 0)
   walk-begins x y l = rw (t .head x l) (walked-from ts n x y n (omega arith) (λ m p i. absurd (omega arith)))
 
-  -- what stands in the link of side j
+  -- what the link of side j holds
   pub link-end : (j : ℕ) → j < n → getD links j 0 % 65536 ≡ sideEnd ts j
   link-end j l = let s = t .small j l in let e = t .link j l in omega arith
 
@@ -96,14 +95,14 @@ module _ {ts : List Triangle} {n : ℕ} {heads links : List ℕ} (t : Linked ts 
   at-side : (x y k : ℕ) → 0 < k → Walked ts n x y k → Walked ts n x y (suc (k - 1))
   at-side x y k l w = let d : suc (k - 1) ≡ k = omega arith in rw d w
 
-  -- a walk that met another side goes on to the one before
+  -- after another side, the search continues with the one before it
   pub walk-goes-on : (x y k : ℕ) → 0 < k → Walked ts n x y k → (getD links (k - 1) 0 % 65536 ≡ y → ⊥) → Walked ts n x y (getD links (k - 1) 0 / 65536)
   walk-goes-on x y k l w h = goes-on x y (k - 1) (at-side x y k l w) h
 
   pub walk-less : (x y k : ℕ) → 0 < k → Walked ts n x y k → getD links (k - 1) 0 / 65536 < k
   walk-less x y k l w = omega (arith, link-before (k - 1) (omega (arith, w .most)), last-most ts (k - 1) (sideStart ts (k - 1)))
 
-  -- a walk that met x→y, and one that came to its end
+  -- the search met x→y, or reached the end of the chain
   pub walk-meets : (x y k : ℕ) → 0 < k → Walked ts n x y k → getD links (k - 1) 0 % 65536 ≡ y → true ≡ some (isSide ts x y) n
   walk-meets x y k l w h =
       sym (some-here (isSide ts x y) n (k - 1) (omega (arith, w .most)) (meets x y (k - 1) (at-side x y k l w) h))
@@ -120,7 +119,7 @@ zero-at (suc n) (suc k) = zero-at n k
 pub zeros-all : (n : ℕ) → Zeros (replicate n 0)
 zeros-all n = record { at = λ k l. zero-at n k }
 
--- the table of no sides
+-- the empty table
 pub linked-none : (ts : List Triangle) (heads links : List ℕ) → Zeros heads → Linked ts 0 heads links
 unfolding lastFrom
 linked-none ts heads links z = record {
@@ -130,7 +129,7 @@ linked-none ts heads links z = record {
   small = λ m l. absurd (omega arith);
 }
 
--- the table with one side more
+-- the table with one more side
 module _ (ts : List Triangle) (m x y : ℕ) (heads links : List ℕ) (t : Linked ts m heads links) (s : x ≡ sideStart ts m) (e : y ≡ sideEnd ts m) (small : y < 65536)
     (lh : x < length heads) (ll : m < length links) where
   head-step : (v : ℕ) (b : Bool) → eqb (sideStart ts m) v ≡ b → v < length heads → getD (set heads x (m + 1)) v 0 ≡ cond b (suc m) (lastFrom ts m v)

@@ -1,3 +1,3 @@
--- The definitions of the table of sides.
+-- The definitions of `side_chains`.
 pub mod Sides
 pub mod Links

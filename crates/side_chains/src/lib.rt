@@ -1,3 +1,3 @@
-// A table of the directed sides of a mesh, chained by the vertex that they start at: whether a side is there.
+// A table of the directed sides of a mesh, chained by the vertex where they start, and the search for a side.
 pub mod chain;
 pub mod number;

@@ -1,11 +1,11 @@
-// Sides by number, three a triangle.
+// Sides by number, three per triangle.
 ghost use mathlib.Core.Path.{_≡_};
 ghost use Prim.Native.Nat.{_*_, _/_, _<_};
 ghost use lib.ListN.{length};
 ghost use Rattle.drawing.specs.Words.{readTriangles};
 ghost use Rattle.side_chains.specs.Sides.{sideEnd};
 
-// Where side number m ends.
+// Returns the vertex where side m ends.
 pub fn end_at(indices: &[u16], m: usize) -> u16
     requires { ⌜ m < length (now indices) / 3 * 3 ⌝ }
     ensures { λ r. ⌜ r ≡ sideEnd (readTriangles (now (indices .entry))) m ⌝ }

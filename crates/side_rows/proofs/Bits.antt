@@ -1,5 +1,4 @@
--- The bits of a number, and of one with another bit set.
--- Assumes nothing.
+-- The bits of a number, and of a number with one more bit set. Assumes nothing.
 use Prim.Native.Nat.{ℕ, zero, suc, _+_, _-_, _*_, _/_, _%_, _^_, _<_, max}
 use mathlib.Core.Path.{_≡_, refl, ap, _∙_}
 use mathlib.Core.Bool.{false, _||_}
@@ -12,7 +11,7 @@ use lib.Pow.{pow-pos, pow-lt, pow-add, shl-shr, shl-exact}
 use borrow.Author.Tests.{eq-eqb, ne-eqb}
 use Rattle.side_rows.specs.Rows.{bit}
 
--- the lowest bit of an or
+-- the lowest bit of a bitwise or
 most : (p q : ℕ) → p < 2 → q < 2 → eqb (max p q) 1 ≡ (eqb p 1 || eqb q 1)
 most zero zero l k = refl
 most zero (suc zero) l k = refl
@@ -64,7 +63,7 @@ power-bit k j = elim (decLe (suc k) j) [
   ]
 ]
 
--- a number with bit k set besides its own has that bit and those it had
+-- setting bit k keeps the other bits
 pub bit-with : (n k j : ℕ) → bit (bitOr n (2 ^ k)) j ≡ (bit n j || eqb k j)
 bit-with n k j = or-bit n (2 ^ k) j ∙ ap (λ b. bit n j || b) (power-bit k j)
 
@@ -72,6 +71,6 @@ pub bit-zero : (j : ℕ) → bit 0 j ≡ false
 unfolding bit
 bit-zero j = rw (div-eq-of-lt (pow-pos j))
 
--- a shifted 1 that fits
+-- a shifted 1 fits into 64 bits
 pub power-fits : (k : ℕ) → k < 64 → (1 * 2 ^ k) % 2 ^ 64 ≡ 2 ^ k
 power-fits k l = shl-exact {a = 1} 1 k 64 (omega arith) (omega arith) ∙ one-mul (2 ^ k)

@@ -1,3 +1,3 @@
--- The laws of the table of sides by rows of bits.
+-- The laws of `side_rows`.
 pub mod Bits
 pub mod Rows

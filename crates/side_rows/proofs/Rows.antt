@@ -1,5 +1,4 @@
--- The rows of bits: none at first, and those with one side more.
--- Assumes nothing.
+-- The rows of bits: the empty table, and the table with one more side. Assumes nothing.
 use Prim.Native.Nat.{ℕ, _+_, _^_, _<_}
 use mathlib.Core.Path.{_≡_, refl, sym, ap, _∙_}
 use mathlib.Core.Bool.{Bool, true, false, _||_}
@@ -18,17 +17,17 @@ use Rattle.side_chains.specs.Links.{Zeros}
 use Rattle.side_rows.specs.Rows.{bit, Rowed}
 use Rattle.side_rows.proofs.Bits.{bit-with, bit-zero}
 
--- somewhere below n + 1 is somewhere below n, or at n
+-- a test holds below n + 1 exactly if it holds below n or at n
 some-step : (t : ℕ → Bool) (n : ℕ) (p q : Bool) → some t n ≡ p → t n ≡ q → some t (n + 1) ≡ (p || q)
 some-step t n true q h k = let w = some-which t n h in some-here t (n + 1) (w .0) (omega (arith, w .1)) (w .2)
 some-step t n false true h k = some-here t (n + 1) n (omega arith) k
 some-step t n false false h k = some-none t (n + 1) (below-more t n (some-all t n h) k)
 
--- the table of no sides
+-- the empty table
 pub rowed-none : (ts : List Triangle) (rows : List ℕ) → Zeros rows → length rows ≡ 64 → Rowed ts 0 rows
 rowed-none ts rows z h = record { size = h; at = λ x y l k. ap (λ n. bit n y) (z .at x (omega (arith, h))) ∙ bit-zero y ∙ sym (some-none (isSide ts x y) 0 (λ i b. absurd (omega arith))) }
 
--- the table with one side more
+-- the table with one more side
 module _ (ts : List Triangle) (m x y : ℕ) (rows : List ℕ) (t : Rowed ts m rows) (s : x ≡ sideStart ts m) (e : y ≡ sideEnd ts m) (lx : x < 64) where
   row-step : (v w : ℕ) (b : Bool) → eqb (sideStart ts m) v ≡ b → v < 64 → w < 64
       → bit (getD (set rows x (bitOr (getD rows x 0) (2 ^ y))) v 0) w ≡ some (isSide ts v w) (m + 1)

@@ -1,2 +1,2 @@
--- The definitions of the table of sides by rows of bits.
+-- The definitions of `side_rows`.
 pub mod Rows

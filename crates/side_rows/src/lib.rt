@@ -1,5 +1,4 @@
-// A table of the directed sides of a mesh of up to 64 vertices: row x has bit y where a side goes from x to y. Sides are numbered three a
-// triangle.
+// A table of the directed sides of a mesh of up to 64 vertices: bit y of row x is set if x→y is a side. Each triangle has three sides.
 ghost use mathlib.Core.Path.{_≡_};
 ghost use Prim.Native.Nat.{_+_, _^_, _<_};
 ghost use lib.Bits.{bitOr};
@@ -8,7 +7,7 @@ ghost use Rattle.searches.specs.First.{some};
 ghost use Rattle.side_chains.specs.Sides.{sideStart, sideEnd, isSide};
 ghost use Rattle.side_rows.specs.Rows.{bit, Rowed};
 
-// Whether a row has bit k.
+// Whether bit k of a row is set.
 fn has_bit(row: u64, k: u16) -> bool
     requires { ⌜ k < 64 ⌝ }
     ensures { λ r. ⌜ r ≡ bit row k ⌝ }
@@ -16,7 +15,7 @@ fn has_bit(row: u64, k: u16) -> bool
     (row >> (k as u64)) % 2 == 1
 }
 
-// A row with bit k besides its own.
+// Returns the row with bit k set.
 fn with_bit(row: u64, k: u16) -> u64
     requires { ⌜ k < 64 ⌝ }
     ensures { λ r. ⌜ r ≡ bitOr row (2 ^ k) ⌝ }
@@ -24,7 +23,7 @@ fn with_bit(row: u64, k: u16) -> u64
     row | (1u64 << (k as u64))
 }
 
-// Whether one of the first `sides` sides, which are those of the table, goes from x to y.
+// Whether one of the first `sides` sides, which the table holds, is x→y.
 pub fn has_side(indices: &[u16], sides: usize, rows: &[u64], x: u16, y: u16) -> bool
     requires { ⌜ Rowed (readTriangles (now indices)) sides (now rows) ⌝ ∗ ⌜ x < 64 ⌝ ∗ ⌜ y < 64 ⌝ }
     ensures { λ r. ⌜ r ≡ some (isSide (readTriangles (now (indices .entry))) x y) sides ⌝ }
@@ -32,7 +31,7 @@ pub fn has_side(indices: &[u16], sides: usize, rows: &[u64], x: u16, y: u16) -> 
     has_bit(rows[x as usize], y)
 }
 
-// Adds side number m, from x to y, to the table of those before.
+// Adds side m, which is x→y, to the table of the sides before it.
 pub fn add_side(indices: &[u16], m: usize, rows: &mut [u64], x: u16, y: u16)
     requires { ⌜ Rowed (readTriangles (now indices)) m (now rows) ⌝ ∗ ⌜ x ≡ sideStart (readTriangles (now indices)) m ⌝ ∗ ⌜ y ≡ sideEnd (readTriangles (now indices)) m ⌝ ∗ ⌜ x < 64 ⌝ ∗ ⌜ y < 64 ⌝ }
     ensures { λ r. ⌜ Rowed (readTriangles (now (indices .entry))) (m + 1) (now (rows .exit)) ⌝ }

@@ -1,5 +1,4 @@
--- A triangle that has not the first corner of another is not that one.
--- Assumes nothing.
+-- A triangle that lacks the first corner of another is not that triangle. Assumes nothing.
 use mathlib.Core.Path.{_≡_}
 use mathlib.Core.Bool.{false, and-false}
 use borrow.Author.Tests.{ne-eqb}

@@ -1,4 +1,4 @@
--- The laws of the searches that pass over triangles, lowest first.
+-- The laws of `side_searches`, lowest first.
 pub mod Skips
 pub mod Sided
 pub mod Corners

@@ -1,3 +1,3 @@
--- The definitions of the searches that pass over triangles.
+-- The definitions of `side_searches`.
 pub mod Skips
 pub mod Same

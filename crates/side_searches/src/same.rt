@@ -8,7 +8,7 @@ use crate::pair::next_touching;
 use searches::triangle::triangle_at;
 use strip::triangle::Triangle;
 
-// Whether two triangles have the same corners up to rotation.
+// Whether two triangles are the same up to rotation.
 pub fn same_triangle(s: Triangle, t: Triangle) -> bool
     ensures { λ r. ⌜ r ≡ sameTriangle s t ⌝ }
 {
@@ -17,7 +17,7 @@ pub fn same_triangle(s: Triangle, t: Triangle) -> bool
         | (s.a == t.c) & (s.b == t.a) & (s.c == t.b)
 }
 
-// Whether one of the triangles from number `from` up to `to` is t, up to rotation.
+// Whether one of the triangles from number `from` up to, not including, `to` is t, up to rotation.
 pub fn has_triangle_in(indices: &[u16], from: usize, to: usize, t: Triangle) -> bool
     requires { ⌜ from ≤ to ⌝ ∗ ⌜ to ≤ length (now indices) / 3 ⌝ }
     ensures { λ r. ⌜ Held (readTriangles (now (indices .entry))) from to t r ⌝ }

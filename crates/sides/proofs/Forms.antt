@@ -1,5 +1,4 @@
--- What is known of the table in each of its forms.
--- Assumes nothing.
+-- What is known of the table in each of its forms. Assumes nothing.
 use Prim.Native.Nat.{ℕ, _+_, _*_, _/_, _≤_, _<_}
 use mathlib.Core.Path.{_≡_, refl, sym, ap, _∙_}
 use mathlib.Core.Bool.{Bool, true, false, true≢false}
@@ -22,7 +21,7 @@ use Rattle.side_rows.proofs.Rows.{rowed-none}
 use Rattle.sides.specs.Tables.{vertices, SideAt, Room, Cleared, Tabled, Filled}
 use Rattle.sides.proofs.Repeats.{once-none, once-more}
 
--- a vertex of the table in each form
+-- a vertex fits into the table, in each form
 pub below-bits : (small : Bool) (heads : List ℕ) (x : ℕ) → x < vertices small heads → small ≡ true → x < 64
 unfolding vertices
 below-bits true heads x l h = l
@@ -60,30 +59,30 @@ of-bits h t = record { bits = λ k. t; chains = λ k. absurd (true≢false (sym 
 pub of-chains : {small : Bool} {ts : List Triangle} {n : ℕ} {rows heads links : List ℕ} → small ≡ false → Linked ts n heads links → Tabled small ts n rows heads links
 of-chains h t = record { bits = λ k. absurd (true≢false (sym k ∙ h)); chains = λ k. t }
 
--- no sides yet
+-- no sides so far
 pub filled-none : (small : Bool) (ts : List Triangle) (rows heads links : List ℕ) → Cleared small rows heads → Filled small ts 0 rows heads links
 filled-none small ts rows heads links z = record {
   table = record { bits = λ k. rowed-none ts rows (z .bits k .0) (z .bits k .1); chains = λ k. linked-none ts heads links (z .chains k) };
   once = once-none ts;
 }
 
--- room for one side more, for fewer, and in lists of the same length
+-- room for one more side, for fewer, and in lists of the same length
 pub room-chains : {small : Bool} {n : ℕ} {links : List ℕ} → Room small (n + 1) links → small ≡ false → (n < length links) × (n < 65535)
 room-chains r h = let w = r .chains h in (omega (arith, w .0), omega (arith, w .0, w .1))
 
 pub room-as : {small : Bool} {n m : ℕ} {ls links : List ℕ} → Room small n ls → m ≤ n → length links ≡ length ls → Room small m links
 room-as r l e = record { chains = λ k. (omega (arith, r .chains k .0), omega (arith, r .chains k .1)) }
 
--- a side that is new
+-- a new side
 pub new-side : {small : Bool} {ts : List Triangle} {m : ℕ} {rows heads links : List ℕ} → Tabled small ts (m + 1) rows heads links → Once ts m
     → some (isSide ts (sideStart ts m) (sideEnd ts m)) m ≡ false → Filled small ts (m + 1) rows heads links
 new-side {ts = ts} {m = m} t o h = record { table = t; once = rw (add-one m) (once-more ts m o h) }
 
--- the same number of sides
+-- equally many sides
 pub filled-as : {small : Bool} {ts : List Triangle} {n m : ℕ} {rows heads links : List ℕ} → n ≡ m → Filled small ts n rows heads links → Filled small ts m rows heads links
 filled-as e f = rw (sym e) f
 
--- lists that are lent for each form
+-- the lists lent for each form
 pub bits-cleared : (rows heads : List ℕ) → Zeros rows → length rows ≡ 64 → Cleared true rows heads
 bits-cleared rows heads z h = record { bits = λ k. (z, h); chains = λ k. absurd (true≢false k) }
 

@@ -1,4 +1,4 @@
--- The laws of the sides of a mesh.
+-- The laws of `sides`.
 pub mod Repeats
 pub mod Forms
 pub mod Lists

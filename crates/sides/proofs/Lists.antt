@@ -1,5 +1,4 @@
--- The list of sides that have no reverse.
--- Assumes nothing.
+-- The list of sides without a reverse. Assumes nothing.
 use Prim.Native.Nat.{ℕ, _+_, _*_, _≤_, _<_}
 use mathlib.Core.Path.{_≡_, sym, _∙_}
 use mathlib.Core.Bool.{true}
@@ -12,15 +11,15 @@ use lib.Seq.{getD-set-same, getD-set-other}
 use Rattle.strip.specs.declared.triangle.Triangle.{Triangle}
 use Rattle.sides.specs.Opens.{meets, Among, Opens}
 
--- no side yet
+-- no sides so far
 pub opens-none : (ts : List Triangle) (opens : List ℕ) → Opens ts 0 opens 0
 opens-none ts opens = record { listed = λ l. record { sides = λ k b. absurd (omega arith); each = λ m b. absurd (omega arith); before = λ k b. absurd (omega arith) } }
 
--- the same number of sides
+-- equally many sides
 pub opens-as : {ts : List Triangle} {n m count : ℕ} {opens : List ℕ} → n ≡ m → Opens ts n opens count → Opens ts m opens count
 opens-as e o = rw (sym e) o
 
--- a side that has its reverse
+-- a side with a reverse
 pub opens-met : {ts : List Triangle} {m count : ℕ} {opens : List ℕ} → Opens ts m opens count → meets ts m ≡ true → Opens ts (m + 1) opens count
 opens-met {m = m} o h = record {
   listed = λ l. record {
@@ -30,7 +29,7 @@ opens-met {m = m} o h = record {
   };
 }
 
--- one that has none, with room for it
+-- a side without a reverse, if the list has room
 module _ (ts : List Triangle) (m count : ℕ) (opens : List ℕ) (l : count < length opens) (b : m < length ts * 3) where
   kept : (i : ℕ) → Among opens count i → Among (set opens count m) (count + 1) i
   kept i a = record {
@@ -43,7 +42,7 @@ module _ (ts : List Triangle) (m count : ℕ) (opens : List ℕ) (l : count < le
   old-or-kept (inl h) = inl h
   old-or-kept {i = i} (inr a) = inr (kept i a)
 
-  -- the first k of the list, which it had before
+  -- the first k entries are unchanged
   early : (k i : ℕ) → k ≤ count → Among opens k i → Among (set opens count m) k i
   early k i h a = record {
     place = a .place;
@@ -74,6 +73,6 @@ module _ (ts : List Triangle) (m count : ℕ) (opens : List ℕ) (l : count < le
         };
       }
 
--- and without room
+-- a side without a reverse, if the list is full
 pub opens-full : (ts : List Triangle) (n : ℕ) (opens : List ℕ) → Opens ts n opens (length opens + 1)
 opens-full ts n opens = record { listed = λ h. absurd (omega arith) }

@@ -1,5 +1,4 @@
--- Sides that are each there once: no triangle uses one again.
--- Assumes nothing.
+-- If no side is repeated, no triangle has a side in common with an earlier one. Assumes nothing.
 use Prim.Native.Nat.{ℕ, suc, _+_, _*_, _<_}
 use mathlib.Core.Path.{_≡_, refl, sym, _∙_}
 use mathlib.Core.Bool.{Bool, true, false, true≢false}

@@ -1,3 +1,3 @@
--- The definitions of the sides of a mesh.
+-- The definitions of `sides`.
 pub mod Tables
 pub mod Opens

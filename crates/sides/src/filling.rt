@@ -1,4 +1,4 @@
-// The table of all sides of a mesh, unless one is there twice.
+// Fills the table with the sides of a mesh, as long as no side is repeated.
 ghost use mathlib.Core.Path.{_≡_};
 ghost use mathlib.Core.Bool.{true};
 ghost use Prim.Native.Nat.{_+_, _*_, _/_, _<_};
@@ -10,7 +10,7 @@ use crate::table::add_side;
 use crate::table::has_side;
 use searches::triangle::triangle_at;
 
-// Adds side number m, from x to y, unless it is there already; whether it was new.
+// Adds side m, which is x→y, unless the table has it already; returns whether it was new.
 fn add_new(
     indices: &[u16],
     m: usize,
@@ -31,7 +31,7 @@ fn add_new(
     true
 }
 
-// Adds the sides of triangle number k unless one is there already; whether they were new.
+// Adds the sides of triangle k until one is repeated; returns whether all were new.
 fn add_triangle(
     indices: &[u16],
     k: usize,
@@ -54,7 +54,7 @@ fn add_triangle(
     add_new(indices, m + 2, small, rows, heads, links, t.c, t.a)
 }
 
-// Fills the table up to the first triangle that has a side that is there already; that triangle's number, or the number of triangles.
+// Fills the table up to the first triangle with a repeated side; returns the number of that triangle, or of all triangles.
 pub fn fill(
     indices: &[u16],
     small: bool,

@@ -1,5 +1,5 @@
-// The directed sides of a mesh: a table of them, rows of bits for a small mesh and chains for another; whether any is there twice, and which
-// have no reverse.
+// The directed sides of a mesh in a table, rows of bits for a small mesh, else chains: whether a side is repeated, and which
+// sides have no reverse.
 pub mod filling;
 pub mod opens;
 mod table;

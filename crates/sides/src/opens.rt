@@ -1,4 +1,4 @@
-// The sides that have no reverse.
+// The sides without a reverse.
 ghost use Prim.Native.Nat.{_+_, _*_, _/_, _<_};
 ghost use lib.ListN.{length};
 ghost use Rattle.drawing.specs.Words.{readTriangles};
@@ -8,7 +8,7 @@ ghost use Rattle.sides.specs.Opens.{Opens};
 use crate::table::has_side;
 use searches::triangle::triangle_at;
 
-// Lists side number m as one more; where the list is full, more than it has room for.
+// Appends side m to the list; returns the new count, or more than the list has room for if it is full.
 fn list_side(indices: &[u16], opens: &mut [u16], count: usize, m: usize) -> usize
     requires { ⌜ Opens (readTriangles (now indices)) m (now opens) count ⌝ ∗ ⌜ m < length (now indices) / 3 * 3 ⌝ ∗ ⌜ m < 65536 ⌝ }
     ensures { λ r. ⌜ Opens (readTriangles (now (indices .entry))) (m + 1) (now (opens .exit)) r ⌝ }
@@ -20,7 +20,7 @@ fn list_side(indices: &[u16], opens: &mut [u16], count: usize, m: usize) -> usiz
     count + 1
 }
 
-// Lists side number m, from x to y, if it has no reverse.
+// Appends side m, which is x→y, to the list if it has no reverse.
 fn list_open(
     indices: &[u16],
     small: bool,
@@ -43,7 +43,7 @@ fn list_open(
     list_side(indices, opens, count, m)
 }
 
-// Lists the sides of triangle number k that have no reverse.
+// Appends the sides of triangle k that have no reverse.
 fn list_triangle(
     indices: &[u16],
     small: bool,
@@ -97,7 +97,7 @@ fn list_triangle(
     )
 }
 
-// Lists all sides that have no reverse; how many they are, or more than the list has room for.
+// Lists all sides without a reverse; returns how many there are, or more than the list has room for.
 pub fn open_sides(
     indices: &[u16],
     small: bool,

@@ -6,7 +6,7 @@ ghost use Rattle.searches.specs.First.{some};
 ghost use Rattle.side_chains.specs.Sides.{isSide};
 ghost use Rattle.sides.specs.Tables.{vertices, SideAt, Room, Tabled};
 
-// Whether one of the first `sides` sides, which are those of the table, goes from x to y.
+// Whether one of the first `sides` sides, which the table holds, is x→y.
 pub(crate) fn has_side(
     indices: &[u16],
     sides: usize,
@@ -26,7 +26,7 @@ pub(crate) fn has_side(
     side_chains::chain::has_side(indices, sides, heads, links, x, y)
 }
 
-// Adds side number m, from x to y, to the table of those before.
+// Adds side m, which is x→y, to the table of the sides before it.
 pub(crate) fn add_side(
     indices: &[u16],
     m: usize,

@@ -1,5 +1,4 @@
--- The third corner over each side of a triangle lies in the patch and on the side's own side.
--- Assumes nothing.
+-- The corner opposite each side of a triangle lies in the patch, and on the inner side of that side. Assumes nothing.
 use Prim.Native.Nat.{ℕ, _<_}
 use mathlib.Core.Bool.{Bool, true, false}
 use mathlib.Core.List.{List, [], _∷_}
@@ -14,13 +13,13 @@ use Rattle.drawing.specs.Demand.{facesIn}
 use Rattle.mesh.proofs.Rim.{joining}
 use Rattle.mesh.proofs.Sign.{turned-left}
 
--- all corners of a triangle have Q
+-- all corners of a triangle have the property Q
 pub record Corners (Q : Point → Type 0) (t : Face) : Type 0 where
   pub p : Q (t .p)
   pub q : Q (t .q)
   pub r : Q (t .r)
 
--- where the indices are numbers of points that have Q
+-- all corners of a mesh have Q, if its points do and its indices are numbers of points
 pub faces-corners : (Q : Point → Type 0) {ps : List Point} → All Q ps → (ws : List ℕ) → All (λ w. w < length ps) ws
     → All (Corners Q) (facesIn ps ws)
 unfolding readTriangles
@@ -30,13 +29,13 @@ faces-corners Q h (a ∷ b ∷ []) ns = none
 faces-corners Q h (a ∷ b ∷ c ∷ ws) (more i (more j (more k ns))) =
     more (record { p = all-at missing a i h; q = all-at missing b j h; r = all-at missing c k h }) (faces-corners Q h ws ns)
 
--- a point that has Q, to the left of the side as it goes where the turn is positive
+-- a point with the property Q on the left of the side, in its positive direction
 pub record Apex (Q : Point → Type 0) (b : Bool) (e : Side) : Type 0 where
   pub third : Point
   pub has : Q third
   pub left : Left (directed b e .start) (directed b e .end) third
 
--- of each side of a triangle that turns the way asked, the corner opposite
+-- the opposite corner of each side of a triangle with the orientation asked for
 module _ (Q : Point → Type 0) where
   opposite : (b : Bool) (t : Face) → Corners Q t → HasSign b (twiceArea t)
       → Apex Q b (joining (t .p) (t .q)) × Apex Q b (joining (t .q) (t .r)) × Apex Q b (joining (t .r) (t .p))

@@ -1,5 +1,4 @@
--- No point of a patch lies beyond a piece of its outline.
--- Assumes nothing.
+-- No point of a patch lies beyond a piece of its outline. Assumes nothing.
 use Prim.Native.Nat.{ℕ, zero, suc, _+_, _-_, _*_, _≤_, _<_}
 use mathlib.Core.Path.{_≡_, refl, ap}
 use mathlib.Core.List.{List, [], _∷_}
@@ -23,7 +22,7 @@ use Rattle.mesh.proofs.Crossing.{rise-or-equal}
 use Rattle.mesh.proofs.Rim.{joining, rim-gains}
 use Rattle.drawing.specs.InPatch.{InPatch}
 
--- a list weighs nothing if its elements do, and the other way
+-- a sum is 0 exactly if all its terms are
 nothing : {A : Type 0} (xs : List A) → sum (λ x. 0) xs ≡ 0
 unfolding sum
 nothing [] = refl
@@ -34,7 +33,7 @@ unfolding sum
 weightless f [] h = none
 weightless f (x ∷ xs) h = more {x = x} (omega arith) (weightless f xs (omega arith))
 
--- where no segment along an edge weighs anything, no piece of the outline does
+-- if every segment along an edge has weight 0, every piece of the outline has
 rim-weightless : {sides : ℕ} {Fits : ℕ → ℕ → Type 0} {place : ℕ → ℕ → ℕ → Point} {depth : Point → ℕ} {gain : ℕ → ℕ}
     → Shape sides Fits place depth gain → (f : Side → ℕ)
     → ((k x y : ℕ) → x < y → y ≤ 65536 → f (joining (place k x 0) (place k y 0)) ≡ 0)
@@ -45,11 +44,11 @@ rim-weightless {place = place} shape f law es n good = weightless f (walked (rin
   nothing (walked (ring place 0 es 0)),
 ))
 
--- how far r lies to the right of a side: 0 where it is to the left or in line
+-- how far r lies to the right of a side: 0 if it is on the left or in line
 beyond : Point → Side → ℕ
 beyond r e = loop (e .start) r (e .end) - loop (e .start) (e .end) r
 
--- a point is not to the right of an edge that it is inside of or on; the edge's u, or v, or their sum is c
+-- a point inside or on an edge does not lie to the right of it; on the edge u, or v, or their sum is c
 module _ (r : Point) (c : ℕ) where
   abbrev at : ℕ → ℕ → Point
   at a b = record { u = a; v = b; w = 0 }

@@ -1,5 +1,4 @@
--- A sound mesh covers its patch, so that exactly one triangle holds each spot.
--- Assumes nothing.
+-- A sound mesh covers its patch, so exactly one triangle holds each spot. Assumes nothing.
 use Prim.Native.Nat.{ℕ, _+_, _<_}
 use mathlib.Core.Path.{_≡_, refl, sym}
 use mathlib.Core.Bool.{Bool, true, false}
@@ -25,7 +24,7 @@ use Rattle.sound.specs.Sound.{Sound}
 use Rattle.sound.proofs.Beyond.{none-beyond}
 use Rattle.sound.proofs.Apex.{faces-corners, Apex, sides-apex}
 
--- areas that all turn one way add up to one that does, or to 0
+-- areas of one sign add up to an area of that sign, or to 0
 add-signed : (b : Bool) (m n : ℕ) → signed b m +ℤ signed b n ≡ signed b (m + n)
 add-signed true m n = refl
 add-signed false m n = sym (negℤ-+ℤ (pos m) (pos n))
@@ -40,7 +39,7 @@ module _ (k : Domain) (es : List Run) (n : length es ≡ edgeCount k) (good : Al
   abbrev rim : List Point
   rim = ring (placeOn k) 0 es 0
 
-  -- over a piece of the outline reversed there is no corner
+  -- no corner lies on the outer side of a piece of the outline
   no-apex : (b : Bool) → All (λ e. Apex (InPatch k) b (reversed e) → ⊥) (pieces b rim)
   no-apex true = all-map (directed true) _ (all-more (λ e h a. h (a .third) (a .has) (a .left)) (none-beyond k es n good))
   no-apex false = all-map (directed false) _ (all-more (λ e h a. h (a .third) (a .has) (a .left)) (none-beyond k es n good))
@@ -58,7 +57,7 @@ module _ (k : Domain) (es : List Run) (n : length es ≡ edgeCount k) (good : Al
     outside : (j : ℕ) → j < length rim → Occurs (reversed (piece b rim j)) (sides faces) → ⊥
     outside j h o = all-member (no-apex b) (piece-member b rim j h) (rw (o .2) at (all-at (joining missing missing) (o .0) (o .1) apexes))
 
-    -- for any area that the triangles' add up to
+    -- with the sum of the triangles' areas as the area
     covers : (area : ℕ) → totalTwiceArea faces ≡ signed b area → Cover b area rim points faces
     covers area h = record {
       distinct = s .distinct;
@@ -70,12 +69,12 @@ module _ (k : Domain) (es : List Run) (n : length es ≡ edgeCount k) (good : Al
       whole = h;
     }
 
-    -- and so for the patch's
+    -- with the area of the patch
     pub sound-covers : Cover b (areaOf k) (ring (placeOn k) 0 es 0) points (facesIn points ws)
     sound-covers =
         let w = total-signed b turns in
         covers (areaOf k) (whole-area es good k n b faces (cover-closed (covers (w .0) (w .1)) (outline-distinct es k n good)))
 
-    -- exactly one triangle holds each spot strictly inside that lies on no side
+    -- exactly one triangle holds each spot that lies strictly inside and on no side
     pub sound-once : (z : Spot) → Within k z → Clear (facesIn points ws) z → HeldOnce b (facesIn points ws) z
     sound-once = cover-once k es n good sound-covers

@@ -1,5 +1,4 @@
--- A sound mesh that is not ours; and without triangles nothing is sound.
--- Assumes nothing.
+-- A sound mesh that this project does not draw, and a proof that a mesh without triangles is not sound. Assumes nothing.
 use Prim.Native.Nat.{ℕ, zero, suc, _<_}
 use mathlib.Core.Path.{_≡_, refl, ap}
 use mathlib.Core.Bool.{Bool, true}
@@ -23,7 +22,7 @@ use Rattle.drawing.specs.InPatch.{InPatch}
 use Rattle.sound.specs.Sound.{sidesIn, Sound}
 use Rattle.sound.proofs.Covers.{sound-covers}
 
--- the plain triangle, begun at its second corner
+-- the plain triangle, starting with its second corner
 abbrev words : List ℕ
 words = 1 ∷ 2 ∷ 0 ∷ []
 
@@ -38,7 +37,7 @@ numbers = more {x = 1} (omega arith) (more {x = 2} (omega arith) (more {x = 0} (
 corners : All (InPatch triangle) triangleCorners
 corners = more refl (more refl (more refl none))
 
--- two sides that start apart
+-- two sides with different starts
 apart : (x y : Side) (f : Point → ℕ) → f (x .start) < f (y .start) → x ≡ y → ⊥
 apart x y f l e = omega (arith, ap (λ (s : Side). f (s .start)) e)
 

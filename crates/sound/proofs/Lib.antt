@@ -1,4 +1,4 @@
--- That a sound mesh covers its patch, and that what is drawn is sound, lowest laws first.
+-- The laws of `sound`, lowest first.
 pub mod Beyond
 pub mod Apex
 pub mod Covers

@@ -1,5 +1,4 @@
--- A mesh that is sound for a patch and its settings covers the patch, and what is drawn for the patch is sound.
--- Assumes nothing.
+-- A mesh that is sound for a patch and its settings covers the patch, and what is drawn for the patch is sound. Assumes nothing.
 use Prim.Native.Nat.{ℕ, _%_, _<_}
 use mathlib.Core.Path.{_≡_, refl}
 use mathlib.Core.Bool.{Bool, false}
@@ -43,21 +42,21 @@ module _ (set : Settings) (top : Top (set .top)) where
   good-runs : (p : Patch) → All GoodRun (outerRuns (set .spacing) (set .top) p)
   good-runs p = all-map _ GoodRun (all-members (outers p) (λ x m. good-run _ (segments-valid (set .spacing) (set .top) top x)))
 
-  -- the arguments are those of demand 3
+  -- with the arguments of demand 3
   pub patch-sound-covers : (p : Patch) → Surface p → {ps : List Point} {ws : List ℕ} → SoundFor set p ps ws
       → Cover (positive (set .order) (set .origin)) (twiceAreaOf p) (outline (set .spacing) (set .top) p) ps (facesIn ps ws)
   patch-sound-covers (Triangles a b c i) f s = sound-covers triangle _ refl (good-runs (Triangles a b c i)) s
   patch-sound-covers (Quads a b c d i j) f s = sound-covers square _ refl (good-runs (Quads a b c d i j)) s
   patch-sound-covers (Isolines a b) f s = absurd f
 
-  -- exactly one triangle of a sound mesh holds each spot strictly inside the patch that lies on no side
+  -- exactly one triangle of a sound mesh holds each spot that lies strictly inside the patch and on no side
   pub patch-sound-once : (p : Patch) {ps : List Point} {ws : List ℕ} → SoundFor set p ps ws
       → (z : Spot) → Inside p z → Clear (facesIn ps ws) z → HeldOnce (positive (set .order) (set .origin)) (facesIn ps ws) z
   patch-sound-once (Triangles a b c i) s = sound-once triangle _ refl (good-runs (Triangles a b c i)) s
   patch-sound-once (Quads a b c d i j) s = sound-once square _ refl (good-runs (Quads a b c d i j)) s
   patch-sound-once (Isolines a b) s = λ z i. absurd i
 
--- the other way: a mesh that covers any outline, and whose indices and points are as tested
+-- conversely, a mesh that covers any outline is sound, if its indices and points pass the tests
 pub cover-sound : {k : Domain} {b : Bool} {area : ℕ} {rim ps : List Point} {ws : List ℕ}
     → length ws % 3 ≡ 0 → ((i : ℕ) → i < length ws → getD ws i 0 < length ps) → All (InPatch k) ps
     → Cover b area rim ps (facesIn ps ws) → Sound k b rim ps ws
@@ -76,7 +75,7 @@ pub demand-sound : {set : Settings} {p : Patch} {ps : List Point} {ws : List ℕ
     → length ws % 3 ≡ 0 → All (InPatch (domainOf p)) ps → SoundFor set p ps ws
 demand-sound d f m n i = cover-sound n (d .numbered) i (d .cover f m)
 
--- triangles are drawn as three words each
+-- the index words of triangles are three each
 by-threes : (turn : Bool) (ts : List Triangle) → length (indices turn ts) % 3 ≡ 0
 by-threes turn ts = omega (arith, indices-length turn ts)
 
@@ -89,7 +88,7 @@ thirds s t = record {
   lines = λ a b f. absurd f;
 }
 
--- what is drawn as triangles is sound, for every triangle or quad patch that is not discarded and every setting with a top
+-- what is drawn as triangles is sound, for every triangle or quad patch that is not discarded and all settings with a good top level
 pub drawn-sound : (set : Settings) → Top (set .top) → (p : Patch) → Surface p → discards p ≡ false → set .«point_mode» ≡ false
     → SoundFor set p (points (subdivision (set .spacing) (set .top) p)) (indexWords set (subdivision (set .spacing) (set .top) p))
 unfolding indexWords
@@ -98,7 +97,7 @@ drawn-sound set top p f kept filled =
     (rw (filled, not-discarded (set .spacing) (set .top) p kept) (drawn-cases (thirds (set .spacing) (set .top)) p f (positive (set .order) (set .origin))))
     (drawn-in (set .spacing) (set .top) top p)
 
--- and so are its words
+-- the same for the words
 pub drawn-words-sound : (set : Settings) → Top (set .top) → (p : Patch) → Surface p → discards p ≡ false → set .«point_mode» ≡ false
     → SoundWords set p (vertexWords (points (subdivision (set .spacing) (set .top) p))) (indexWords set (subdivision (set .spacing) (set .top) p))
 drawn-words-sound set top p f kept filled = record {

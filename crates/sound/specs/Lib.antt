@@ -1,2 +1,2 @@
--- What is tested of a mesh, whoever cut it.
+-- The definitions of `sound`.
 pub mod Sound

@@ -13,7 +13,7 @@ use Rattle.edge.specs.Table.{table}
 use Rattle.edge.proofs.Table.{length-table, get-table}
 use Rattle.edge.proofs.Rows.{is-row}
 
--- one word more
+-- one more word
 pub copy-more : (xs ys : List ℕ) (i : ℕ) → i < length xs → i < length ys
     → set (take i xs ++ drop i ys) i (getD xs i 0) ≡ take (i + 1) xs ++ drop (i + 1) ys
 copy-more xs ys i h k =

@@ -1,4 +1,4 @@
--- The laws of the table, for the crates above; `Copied` and `Same` serve this crate only.
+-- The laws of `stored_rows`; `Copied` and `Same` are used in this crate only.
 pub mod StoredRows
 mod Copied
 mod Same

@@ -1,4 +1,4 @@
--- Two lists of words are alike: one test, which antt computes, word after word. Assumes nothing.
+-- Equality of two lists of words by one test, which antt computes word by word. Assumes nothing.
 use Prim.Native.Nat.{ℕ}
 use mathlib.Core.Path.{_≡_, refl}
 use mathlib.Core.Bool.{Bool, true, false, _&&_}

@@ -1,4 +1,4 @@
--- The table of equal spacing: where each row stands in it, and that the rows by table and by division agree. Assumes nothing.
+-- The table of equal spacing: where each row is, and that the places by table and by division agree. Assumes nothing.
 use mathlib.Core.Path.{_≡_, sym, ap, _∙_}
 use mathlib.Core.List.{List, [], _++_, append-assoc, append-nil}
 use Prim.Native.Nat.{ℕ, zero, suc, _+_, _-_, _*_, _≤_}
@@ -13,7 +13,7 @@ use Rattle.edge.specs.Table.{table}
 use Rattle.edge.proofs.Table.{length-table, get-table}
 use Rattle.edge.proofs.Entries.{at-point}
 
--- rows, and those after them
+-- rows, then the rows after them
 rows-split : (n k m : ℕ) → rowsFrom n (k + m) ≡ rowsFrom n k ++ rowsFrom (n + k) m
 unfolding rowsFrom
 rows-split n zero m = rw (zero-add m, add-zero n)
@@ -22,7 +22,7 @@ rows-split n (suc k) m =
     let b : n + suc k ≡ suc n + k = omega arith in
     rw (a, b, rows-split (suc n) k m) (sym (append-assoc (edgeRow n (65536 * n)) (rowsFrom (suc n) k) (rowsFrom (suc n + k) m)))
 
--- twice the words of k rows from that of n segments on
+-- twice the number of words in k rows, the first of which has n segments
 rows-length : (n k : ℕ) → 2 * length (rowsFrom n k) ≡ k * (2 * n + k + 1)
 unfolding rowsFrom
 rows-length n zero = omega arith
@@ -35,7 +35,7 @@ before-length k =
     let e : suc k - 1 ≡ k = omega arith in
     rw e (omega (arith, rows-length 1 k))
 
--- the first w words of the table, copied into w zeros, where they are those of m rows
+-- the first w words of the table, copied over w zeros, if they are m rows
 rows-first : (m k w : ℕ) (xs : List ℕ) → 2 * w ≡ m * (m + 3) → xs ≡ rowsTo (m + k)
     → take w xs ++ drop (length (take w xs)) (replicate w 0) ≡ rowsTo m
 rows-first m k w xs h e =
@@ -62,7 +62,7 @@ row-between xs ys zs from n L e l =
       at = λ i h. getD-append-add ys (edgeRow n L ++ zs) i 0 ∙ List·getD-append (edgeRow n L) zs 0 i (omega arith) ∙ get-table (position n L) (suc n) 0 i (omega arith);
     })
 
--- each row of the table
+-- each row is at its start in the table
 pub row-stored : (m n : ℕ) → 1 ≤ n → n ≤ m → RowAt (rowsTo m) (start n) n (65536 * n)
 row-stored m zero h l = absurd (omega arith)
 row-stored m (suc k) h l =
@@ -70,10 +70,10 @@ row-stored m (suc k) h l =
     row-between (rowsTo m) (rowsTo k) (rowsFrom (suc (suc k)) (m - suc k)) (start (suc k)) (suc k) (65536 * suc k)
     (ap rowsTo e ∙ row-split k (m - suc k)) (before-length k)
 
--- each entry of the table
+-- each entry of the table is the place of its point
 pub stored-position : (n i : ℕ) → 1 ≤ n → n ≤ 64 → i ≤ n → getD (rowsTo 64) (start n + i) 0 ≡ position n (65536 * n) i
 stored-position n i h k = row-stored 64 n h k .at i
 
--- the edge by table and the edge by division agree
+-- the places by table and by division agree
 pub stored-divided : (n i : ℕ) → 1 ≤ n → n ≤ 64 → i ≤ n → getD (rowsTo 64) (start n + i) 0 ≡ getD (table (entry n (65536 * n)) 65) i 0
 stored-divided n i h k l = stored-position n i h k l ∙ sym (at-point n (65536 * n) i k l)

@@ -1,2 +1,2 @@
--- The definitions that the contracts and laws of `stored_rows` cite.
+-- The definitions of `stored_rows`.
 pub mod Stored

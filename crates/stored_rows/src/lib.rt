@@ -1,5 +1,5 @@
-// The positions of the points of every edge of equal spacing: the row of n segments begins at word (n - 1)(n + 2) / 2.
-// A constant is laid out on the stack where it is used, so whoever uses the table takes no more of its rows than it needs.
+// The places of the points of every edge of equal spacing: the row of n segments begins at word (n - 1)(n + 2) / 2. A constant
+// is copied to the stack where it is used, so callers take no more rows than they need.
 ghost use mathlib.Core.Path.{_≡_};
 ghost use mathlib.Core.List.{_++_};
 ghost use Prim.Native.Nat.{_*_, _≤_};
@@ -143,14 +143,14 @@ const STORED: [u32; 2144] = [
     0, 1024, 2048, 3072, 4096, 5120, 6144, 7168, 8192, 9216, 10240, 11264, 12288, 13312, 14336, 15360, 16384, 17408, 18432, 19456, 20480, 21504, 22528, 23552, 24576, 25600, 26624, 27648, 28672, 29696, 30720, 31744, 32768, 33792, 34816, 35840, 36864, 37888, 38912, 39936, 40960, 41984, 43008, 44032, 45056, 46080, 47104, 48128, 49152, 50176, 51200, 52224, 53248, 54272, 55296, 56320, 57344, 58368, 59392, 60416, 61440, 62464, 63488, 64512, 65536,
 ];
 
-// The rows of 1 to 64 segments: the whole table.
+// Returns the rows of 1 to 64 segments: the whole table.
 pub fn rows_to_64() -> [u32; 2144]
     ensures { λ r. ⌜ r ≡ rowsTo 64 ⌝ }
 {
     STORED
 }
 
-// Copies `from` into the front of `to`.
+// Copies `from` to the front of `to`.
 fn copy(to: &mut [u32], from: &[u32])
     requires { ⌜ length (now from) ≤ length (now to) ⌝ }
     ensures { λ r. ⌜ now (to .exit) ≡ now (from .entry) ++ drop (length (now (from .entry))) (now (to .entry)) ⌝ }
@@ -162,7 +162,7 @@ fn copy(to: &mut [u32], from: &[u32])
     }
 }
 
-// The rows of 1 to 8 segments.
+// Returns the rows of 1 to 8 segments.
 pub fn rows_to_8() -> [u32; 44]
     ensures { λ r. ⌜ r ≡ rowsTo 8 ⌝ }
 {
@@ -172,7 +172,7 @@ pub fn rows_to_8() -> [u32; 44]
     rows
 }
 
-// The rows of 1 to 16 segments.
+// Returns the rows of 1 to 16 segments.
 pub fn rows_to_16() -> [u32; 152]
     ensures { λ r. ⌜ r ≡ rowsTo 16 ⌝ }
 {
@@ -182,7 +182,7 @@ pub fn rows_to_16() -> [u32; 152]
     rows
 }
 
-// The rows of 1 to 32 segments.
+// Returns the rows of 1 to 32 segments.
 pub fn rows_to_32() -> [u32; 560]
     ensures { λ r. ⌜ r ≡ rowsTo 32 ⌝ }
 {
@@ -192,7 +192,7 @@ pub fn rows_to_32() -> [u32; 560]
     rows
 }
 
-// The row of an edge of equal spacing, where it is one of the table's first rows.
+// Returns the row of an edge of equal spacing from `rows`, the first rows of the table.
 pub fn row_of(rows: &[u32], s: Segments) -> &[u32]
     requires { ⌜ (1 ≤ s .count) × (s .count ≤ 64) ⌝ ∗ ⌜ RowAt (now rows) (start (s .count)) (s .count) (s .scaled) ⌝ }
     ensures { λ r. ⌜ now r ≡ edgeRow (s .count) (s .scaled) ⌝ }
@@ -201,7 +201,8 @@ pub fn row_of(rows: &[u32], s: Segments) -> &[u32]
     edge::row_from(rows, (n - 1) * (n + 2) / 2, s)
 }
 
-// The most segments of an edge up to s, where `most` is that of the edges before; 65, past the table, where s is not of equal spacing.
+// Returns the most segments of an edge so far: the greater of `most` and the segments of s; 65, which is past the table, if the
+// spacing of s is not equal.
 pub fn widest(most: u32, s: Segments) -> u32
     requires { ⌜ s .count ≤ 64 ⌝ }
     ensures { λ r. ⌜ Widest most s r ⌝ }
@@ -212,7 +213,7 @@ pub fn widest(most: u32, s: Segments) -> u32
     if most < s.count { s.count } else { most }
 }
 
-// The positions of the points of an edge of n segments of equal spacing, and 0 past the last: from the table.
+// Returns the places of an edge of n equal segments, from the table, followed by zeros.
 pub fn stored_row(n: u32) -> [u32; 65]
     requires { ⌜ (1 ≤ n) × (n ≤ 64) ⌝ }
     ensures { λ r. ⌜ r ≡ table (entry n (65536 * n)) 65 ⌝ }
@@ -228,7 +229,7 @@ pub fn stored_row(n: u32) -> [u32; 65]
     out
 }
 
-// The positions of an edge's points, and 0 past the last: from the table where the segments are equal, and else by division.
+// Returns the places of an edge's points, followed by zeros: from the table if the segments are equal, else by division.
 pub fn row(s: Segments) -> [u32; 65]
     requires { ⌜ Valid (s .count) (s .scaled) ⌝ }
     ensures { λ r. ⌜ r ≡ table (entry (s .count) (s .scaled)) 65 ⌝ }

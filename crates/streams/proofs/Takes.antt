@@ -1,4 +1,4 @@
--- How many bytes were taken, and whether they are fewer than were handed over. Assumes nothing.
+-- How many bytes a write took, and whether that is fewer than it was given. Assumes nothing.
 use Prim.Native.Nat.{ℕ, _+_, _≤_, _<_}
 use mathlib.Core.Path.{_≡_, sym, _∙_}
 use mathlib.Core.Bool.{true, false}
@@ -22,7 +22,7 @@ module _ {n : ℕ} {r : Output} (t : Taken n r) where
   pub taken-whole : r .failed ≡ false → r .count ≡ n
   taken-whole h = omega (arith, ltb-false (r .count) n (sym (t .failed) ∙ h), t .most)
 
-  -- m bytes more were handed over before, and all of them taken
+  -- m further bytes were written before, all of them taken
   pub taken-after : (m : ℕ) → Taken (m + n) (record { count = m + r .count; failed = r .failed })
   taken-after m = record { most = omega (arith, t .most); failed = t .failed ∙ ltb-shift m (r .count) n }
     where

@@ -1,17 +1,16 @@
-// Reading standard input.
+// Reads standard input.
 ghost use Prim.Native.Nat.{_+_, _≤_};
 ghost use lib.ListN.{length};
 ghost use Rattle.streams.specs.Moved.{Filled};
 use libc::STDIN_FILENO;
 
-// How many bytes were read, and whether reading stopped at a read that failed. Fewer bytes than asked for and no failure: the input
-// has ended.
+// How many bytes were read, and whether a read failed. Fewer bytes than asked for without a failure mean that the input has ended.
 pub struct Input {
     pub count: usize,
     pub failed: bool,
 }
 
-// One read, to the bytes from `at` on.
+// Does one read, into the bytes from `at` on.
 fn read_on(bytes: &mut [u8], at: usize) -> Input
     requires { ⌜ at ≤ length (now bytes) ⌝ }
     ensures { λ r. ⌜ at + r .count ≤ length (now (bytes .entry)) ⌝ }
@@ -24,7 +23,7 @@ fn read_on(bytes: &mut [u8], at: usize) -> Input
     }
 }
 
-// Reads to the front of `bytes` until they are full, the input ends or a read fails.
+// Reads to the front of `bytes` until it is full, the input ends or a read fails.
 pub fn read_front(bytes: &mut [u8]) -> Input
     ensures { λ r. ⌜ Filled (length (now (bytes .exit))) (now (bytes .exit)) r ⌝ }
 {

@@ -1,5 +1,5 @@
-// Standard input and output for the programs: a read that fails is distinguished from the end of the input, and a write that fails from
-// one that took all bytes. The contracts say how many bytes were moved; no contract can say which.
+// Standard input and output for the programs. A failed read differs from the end of the input, and a failed write from a
+// complete one. The contracts say how many bytes were moved; no contract can say which.
 mod input;
 mod output;
 

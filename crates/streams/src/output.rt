@@ -1,17 +1,17 @@
-// Writing standard output and standard error.
+// Writes to standard output and standard error.
 ghost use Prim.Native.Nat.{_+_, _≤_};
 ghost use lib.ListN.{length};
 ghost use Rattle.streams.specs.Moved.{Taken};
 use libc::STDERR_FILENO;
 use libc::STDOUT_FILENO;
 
-// How many bytes were taken of those that were handed to writing, and whether they are fewer: then a write failed.
+// How many bytes were written, and whether a write failed, so that some are missing.
 pub struct Output {
     pub count: usize,
     pub failed: bool,
 }
 
-// One write, of the bytes from `at` on: how many it took.
+// Does one write, of the bytes from `at` on; returns how many bytes it took.
 fn write_on(file: i32, bytes: &[u8], at: usize) -> usize
     requires { ⌜ at ≤ length (now bytes) ⌝ }
     ensures { λ r. ⌜ at + r ≤ length (now (bytes .entry)) ⌝ }
@@ -21,7 +21,7 @@ fn write_on(file: i32, bytes: &[u8], at: usize) -> usize
     io::count(got, rest)
 }
 
-// Writes until all of `bytes` is taken or a write takes nothing.
+// Writes until all of `bytes` is taken or a write takes no byte.
 fn write_front(file: i32, bytes: &[u8]) -> Output
     ensures { λ r. ⌜ Taken (length (now (bytes .entry))) r ⌝ }
 {
@@ -49,7 +49,7 @@ pub fn tell(line: &[u8]) -> Output
     write_front(STDERR_FILENO, line)
 }
 
-// Writes `bytes` to standard output, and a line to standard error where that fails.
+// Writes `bytes` to standard output; if that fails, writes a line to standard error.
 pub fn write_or_tell(bytes: &[u8], line: &[u8]) -> Output
     ensures { λ r. ⌜ Taken (length (now (bytes .entry))) r ⌝ }
 {

@@ -1,5 +1,4 @@
--- Laws of the vertices along a line.
--- Assumes nothing.
+-- Laws of the vertices along a line. Assumes nothing.
 use mathlib.Core.Path.{_≡_, refl, sym, ap, _∙_}
 use Prim.Native.Nat.{ℕ, suc, _+_, _*_, _%_, _≤_, _<_}
 use native.Mathlib.Nat.{mul-suc, mul-le-mul}
@@ -15,7 +14,7 @@ module _ (l : Line) where
   unfolding vertex
   at-last i h = rw (eq-eqb i (l .count) h)
 
-  -- the others go on from the first by the step
+  -- the other points' numbers increase by the step
   pub at-more : (i : ℕ) → (i ≡ l .count → ⊥) → (l .first + l .step * i) % 65536 ≡ vertex l i
   unfolding vertex
   at-more i h = rw (ne-eqb i (l .count) h)
@@ -26,11 +25,11 @@ module _ (l : Line) where
       let on : (x + l .step) % 65536 ≡ (l .first + l .step * suc i) % 65536 = rw (mul-suc (l .step) i) (omega arith) in
       on ∙ at-more (suc i) (λ g. omega arith)
 
-  -- the products of a line's vertices are small
+  -- the products in `vertex` are small
   pub small : (i : ℕ) → i ≤ 64 → l .step ≤ 65535 → l .step * i ≤ 4194240
   small i h s = mul-le-mul s h
 
--- a line that goes on from its first vertex by its step, and whose last vertex is given
+-- a line with the given first vertex, step and last vertex follows G
 pub follows-line : (first step n last : ℕ) (G : ℕ → ℕ) → ((i : ℕ) → i < n → (first + step * i) % 65536 ≡ G i) → last ≡ G n
     → Follows (record { first = first; step = step; count = n; last = last }) G n
 follows-line first step n last G before end = record { count = refl; at = at }

@@ -1,5 +1,4 @@
--- A strip is what 01's loop gives from a = b = 0, and the loop ends at the last points of both lines after p + r steps.
--- Assumes nothing.
+-- A strip is what document 01's loop gives from a = b = 0; the loop ends at the last points of both lines after p + r steps. Assumes nothing.
 use Prim.Native.Nat.{ℕ, zero, suc, _+_, _-_, _*_, _≤_, _<_}
 use mathlib.Core.Path.{_≡_, refl, sym, ap, _∙_}
 use mathlib.Core.Bool.{Bool, true, false, true≢false}
@@ -30,7 +29,7 @@ module _ (p r : ℕ) where
   outer-rule a b (inl h) = omega (arith, ties)
   outer-rule a b (inr (e, h)) = omega (arith, ties)
 
-  -- the outer line moves exactly where 01 says so
+  -- the outer line advances exactly if document 01 says so
   pub rule-exactly : (a b : ℕ) → (outerNext p r a b ≡ true) ↔ OuterMoves p r a b
   rule-exactly a b = (outer-written a b, outer-rule a b)
 
@@ -41,7 +40,7 @@ module _ (p r : ℕ) where
       go true e = absurd (n (outer-written a b e))
       go false e = refl
 
-  -- the loop goes on until both lines end
+  -- the loop continues until both lines end
   goes-on : (a b : ℕ) → a + b < p + r → GoesOn p r a b
   goes-on a b h = elim (decLe (suc a) p) [
     | yes l ↦ inl l
@@ -53,7 +52,7 @@ module _ (p r : ℕ) where
   both-left a b u v (inr h) = omega arith
 
   module _ (A B : ℕ → ℕ) where
-    -- ---- the strip is given
+    -- ---- the loop gives the strip
     step-given : (t : Bool) (a b : ℕ) (ts : List Triangle) → outerNext p r a b ≡ t → a + b < p + r → Loop A B p r (stepOuter t a) (stepInner t b) ts p r
         → Loop A B p r a b (stepTriangle A B t a b ∷ ts) p r
     step-given true a b ts e l w = outer (goes-on a b l) (outer-written a b e) w
@@ -105,13 +104,13 @@ module _ (p r : ℕ) where
         let t = inner-rule a b m in
         step-only false n a b ts c d t (omega arith) (steps-only (n - 1) u (rw t at (rule p r .inner a b u v l)) (omega arith) w)
 
-    -- from a = b = 0 the loop gives the strip, and exactly this, and ends at the last points of both lines
+    -- from a = b = 0 the loop gives exactly the strip, and ends at the last points of both lines
     pub loop-exactly : (ts : List Triangle) (c d : ℕ) → Loop A B p r 0 0 ts c d ↔ ((ts ≡ strip A B p r) × (c ≡ p) × (d ≡ r))
     loop-exactly ts c d = (
       λ w. let g = steps-only (p + r) (omega arith) (omega arith) (omega arith) w in (g .triangles, g .outer-end, g .inner-end),
       λ e. rw (e .0, e .1, e .2) (steps-given (p + r) 0 0 (omega arith) (omega arith) (omega arith)),
     )
 
-    -- after p + r steps, one for each triangle
+    -- after p + r steps, one per triangle
     pub loop-steps : (ts : List Triangle) (c d : ℕ) → Loop A B p r 0 0 ts c d → length ts ≡ p + r
     loop-steps ts c d w = ap length (loop-exactly ts c d .0 w .0) ∙ strip-length A B p r

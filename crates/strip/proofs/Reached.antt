@@ -1,6 +1,6 @@
--- The states that the walk along a strip reaches: after so many steps the one state at which the outer line's steps made come
--- before the inner line's next, and the inner line's before the outer line's next. From it, the triangle at a place of the strip.
--- Assumes nothing.
+-- The states that the walk along a strip reaches: after k steps there is exactly one state in which every outer step made comes
+-- before the inner line's next step, and every inner step made before the outer line's next. It gives the triangle at any place
+-- of the strip. Assumes nothing.
 use Prim.Native.Nat.{ℕ, zero, suc, _+_, _≤_, _<_}
 use mathlib.Core.Path.{_≡_, refl, sym, _∙_}
 use mathlib.Core.Bool.{Bool, true, false, true≢false}
@@ -12,7 +12,7 @@ use Rattle.strip.specs.Strips.{stepTriangle, stripFrom, strip}
 use Rattle.strip.proofs.Rule.{rule, step-sum}
 use Rattle.strip.proofs.Order.{outer-sooner, inner-sooner}
 
--- point a of the outer line and point b of the inner are reached together: each step made comes before the other line's next
+-- point a of the outer line and point b of the inner line are reached together: every step made comes before the other line's next step
 pub record Reached (p r a b : ℕ) : Type 0 where
   pub outer : a ≤ p
   pub inner : b ≤ r
@@ -28,11 +28,11 @@ pub record After (p r k : ℕ) : Type 0 where
 
 module _ (p r : ℕ) where
   -- ---- every number of steps reaches a state
-  -- no step
+  -- no steps
   start : Reached p r 0 0
   start = record { outer = omega arith; inner = omega arith; outer-made = λ i h. absurd (omega arith); inner-made = λ j h. absurd (omega arith) }
 
-  -- one more, by the line that the rule says
+  -- one more step, of the line that the rule names
   pub step-by : (t : Bool) (a b : ℕ) → Reached p r a b → outerNext p r a b ≡ t → stepOuter t a ≤ p → stepInner t b ≤ r → Reached p r (stepOuter t a) (stepInner t b)
   step-by true a b h e u v = record {
     outer = u;
@@ -47,11 +47,11 @@ module _ (p r : ℕ) where
     inner-made = λ j l. inner-sooner p r a a j b (omega arith) (omega arith) e;
   }
 
-  -- the same, where the lines are not at their ends
+  -- the same, if the lines are not at their ends
   pub step-on : (a b : ℕ) → Reached p r a b → a + b < p + r → Reached p r (stepOuter (outerNext p r a b) a) (stepInner (outerNext p r a b) b)
   step-on a b h l = step-by (outerNext p r a b) a b h refl (rule p r .outer a b (h .outer) (h .inner) l) (rule p r .inner a b (h .outer) (h .inner) l)
 
-  -- as many as both lines have segments
+  -- up to p + r steps
   pub after : (k : ℕ) → k ≤ p + r → After p r k
   after zero l = record { a = 0; b = 0; reached = start; sum = refl }
   after (suc k) l =
@@ -64,23 +64,23 @@ module _ (p r : ℕ) where
         sum = omega (arith, step-sum t (s .a) (s .b));
       }
 
-  -- ---- and only one
-  -- further along the outer line is not reached by as many steps
+  -- ---- exactly one state
+  -- the same number of steps does not lead further along the outer line
   no-further : {a b a′ b′ : ℕ} → Reached p r a b → Reached p r a′ b′ → a + b ≡ a′ + b′ → a < a′ → ⊥
   no-further {a} {b} {a′} {b′} h k e l = true≢false (sym (k .outer-made a l) ∙ h .inner-made b′ (omega arith))
 
-  -- the same sum, the same points
+  -- states with the same sum have the same points
   only : {a b a′ b′ : ℕ} → Reached p r a b → Reached p r a′ b′ → a + b ≡ a′ + b′ → a′ ≡ a
   only h k e = omega (arith, no-further h k e, no-further k h (sym e))
 
-  -- which line moved, by the state after
+  -- which line advanced, by the state after the step
   which : (t : Bool) (a b : ℕ) → Reached p r (stepOuter t a) (stepInner t b) → outerNext p r a b ≡ t
   which true a b h = h .outer-made a (omega arith)
   which false a b h = h .inner-made b (omega arith)
 
   -- ---- the triangles between the states
   module _ (A B : ℕ → ℕ) (d : Triangle) where
-    -- triangle k of n steps from one state, by the state that they reach there
+    -- triangle k of n steps from one state, by the state reached after k steps
     steps-at : (n k a b a′ b′ : ℕ) → Reached p r a b → Reached p r a′ b′ → k < n → n + (a + b) ≡ p + r → k + (a + b) ≡ a′ + b′
         → getD (stripFrom A B (outerNext p r) n a b) k d ≡ stepTriangle A B (outerNext p r a′ b′) a′ b′
     unfolding stripFrom
@@ -94,7 +94,7 @@ module _ (p r : ℕ) where
         let s = step-sum t a b in
         steps-at n k (stepOuter t a) (stepInner t b) a′ b′ (step-on a b h (omega arith)) h′ (omega arith) (omega arith) (omega arith)
 
-    -- the triangle of a strip, by the states before and after its step
+    -- a triangle of a strip, by the states before and after its step
     pub triangle-at : (t : Bool) (a b : ℕ) → Reached p r a b → Reached p r (stepOuter t a) (stepInner t b) → getD (strip A B p r) (a + b) d ≡ stepTriangle A B t a b
     triangle-at t a b h k =
         let s = step-sum t a b in

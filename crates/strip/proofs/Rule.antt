@@ -1,6 +1,5 @@
--- The laws of the strip's rule, which with those of its order are all that anything above knows of it: what moves at a line's end,
--- from which a walk by it stops at neither line's end before both are reached, and what moves where the outer line has two segments more.
--- Assumes nothing.
+-- The laws of the strip rule; together with those of its order they are all that other files use. They say which line advances at a line's
+-- end, so that a walk stops only when both lines end, and which line advances if the outer line has two segments more. Assumes nothing.
 use Prim.Native.Nat.{ℕ, suc, _+_, _*_, _≤_, _<_}
 use mathlib.Core.Path.{_≡_}
 use mathlib.Core.Bool.{Bool, true, false}
@@ -10,23 +9,23 @@ use native.Mathlib.Nat.{mul-le-mul, mul-le-mul-right}
 use Rattle.strip.specs.Rule.{outerNext, stepOuter, stepInner}
 use Rattle.strip.proofs.Ties.{ties}
 
--- at the end of the outer line the inner moves
+-- at the end of the outer line the inner line advances
 pub outer-ended : (p r b : ℕ) → b < r → outerNext p r p b ≡ false
 unfolding outerNext
 outer-ended p r b h = omega (arith, ties, mul-le-mul-right p h)
 
--- at the end of the inner line the outer moves
+-- at the end of the inner line the outer line advances
 pub inner-ended : (p r a : ℕ) → a < p → outerNext p r a r ≡ true
 unfolding outerNext
 inner-ended p r a h = omega (arith, ties, mul-le-mul-right r h)
 
 -- ---- two segments more on the outer line
--- side by side the outer line moves
+-- at equal points the outer line advances
 pub level-outer : (r b : ℕ) → outerNext (r + 2) r b b ≡ true
 unfolding outerNext
 level-outer r b = omega (arith, ties)
 
--- one point ahead of the inner line, the outer line waits before the middle and moves from there on
+-- one point ahead, the outer line waits before the middle, and advances from there on
 pub ahead-inner : (r b : ℕ) → 2 * b + 1 < r → outerNext (r + 2) r (suc b) b ≡ false
 unfolding outerNext
 ahead-inner r b h = omega (arith, ties)
@@ -35,17 +34,17 @@ pub ahead-outer : (r b : ℕ) → r ≤ 2 * b + 1 → outerNext (r + 2) r (suc b
 unfolding outerNext
 ahead-outer r b h = omega (arith, ties)
 
--- two points ahead it waits
+-- two points ahead, the outer line waits
 pub two-ahead-inner : (r b : ℕ) → b < r → outerNext (r + 2) r (suc (suc b)) b ≡ false
 unfolding outerNext
 two-ahead-inner r b h = omega (arith, ties)
 
--- one step on in all
+-- a step adds one to the sum of the points
 pub step-sum : (t : Bool) (a b : ℕ) → stepOuter t a + stepInner t b ≡ suc (a + b)
 step-sum true a b = omega arith
 step-sum false a b = omega arith
 
--- a rule that keeps to the two lines until both end
+-- a rule that never leaves the two lines before both end
 pub record Rule (next : ℕ → ℕ → Bool) (p r : ℕ) : Type 0 where
   pub outer : (a b : ℕ) → a ≤ p → b ≤ r → a + b < p + r → stepOuter (next a b) a ≤ p
   pub inner : (a b : ℕ) → a ≤ p → b ≤ r → a + b < p + r → stepInner (next a b) b ≤ r
@@ -70,6 +69,6 @@ rule p r = record {
   ];
 }
 
--- the rule's products are small
+-- the products in the rule are small
 pub product : (x y : ℕ) → x ≤ 129 → y ≤ 64 → x * y ≤ 8256
 product x y h k = mul-le-mul h k

@@ -1,5 +1,4 @@
--- Laws of a strip's list of triangles and of the words written for it.
--- Assumes nothing.
+-- Laws of a strip's triangles and of their index words. Assumes nothing.
 use Prim.Native.Nat.{ℕ, zero, suc, _+_, _-_, _*_, _≤_, _<_}
 use mathlib.Core.Path.{_≡_, refl, ap, ap₂, _∙_}
 use mathlib.Core.Bool.{Bool, true, false}
@@ -14,7 +13,7 @@ use Rattle.strip.specs.Rule.{outerNext, stepOuter, stepInner}
 use Rattle.strip.specs.Strips.{stepTriangle, stripFrom, strip}
 use Rattle.strip.proofs.Rule.{rule, step-sum}
 
--- ---- the words of triangles: three each, and list after list
+-- ---- the words of triangles: three each, and joined lists
 pub indices-length : (positive : Bool) (ts : List Triangle) → length (indices positive ts) ≡ 3 * length ts
 unfolding indices
 indices-length positive [] = refl
@@ -34,7 +33,7 @@ module _ (A B : ℕ → ℕ) (next : ℕ → ℕ → Bool) where
   steps-length zero a b = refl
   steps-length (suc n) a b = ap suc (steps-length n (stepOuter (next a b) a) (stepInner (next a b) b))
 
-  -- no step left, and one step of several
+  -- no steps left, and one step of several
   pub steps-none : (n a b : ℕ) → n ≤ 0 → stripFrom A B next n a b ≡ []
   unfolding stripFrom
   steps-none zero a b h = refl
@@ -52,18 +51,18 @@ module _ (A B : ℕ → ℕ) (next : ℕ → ℕ → Bool) where
 pub strip-length : (A B : ℕ → ℕ) (p r : ℕ) → length (strip A B p r) ≡ p + r
 strip-length A B p r = steps-length A B (outerNext p r) (p + r) 0 0
 
--- three words a step
+-- three words per step
 pub words-length : (A B : ℕ → ℕ) (next : ℕ → ℕ → Bool) (positive : Bool) (n a b : ℕ) → length (indices positive (stripFrom A B next n a b)) ≡ 3 * n
 words-length A B next positive n a b = omega (arith, indices-length positive (stripFrom A B next n a b), steps-length A B next n a b)
 
--- the words of one step of several, as the writing loop meets them
+-- the words of one step of several, as the writing loop has them
 pub words-more : (A B : ℕ → ℕ) (next : ℕ → ℕ → Bool) (positive : Bool) (n a b : ℕ) (t : Triangle) (a′ b′ : ℕ) → 0 < n
     → t ≡ stepTriangle A B (next a b) a b → a′ ≡ stepOuter (next a b) a → b′ ≡ stepInner (next a b) b
     → indices positive (stripFrom A B next n a b) ≡ corners (turned positive t) ++ indices positive (stripFrom A B next (n - 1) a′ b′)
 unfolding indices
 words-more A B next positive n a b t a′ b′ h e f g = rw (steps-more A B next n a b h, e, f, g)
 
--- ---- a strip depends on its lines at their own points only
+-- ---- a strip depends only on the points of its lines
 step-same : (A A′ B B′ : ℕ → ℕ) (t : Bool) (a b : ℕ) → A a ≡ A′ a → A (stepOuter t a) ≡ A′ (stepOuter t a) → B b ≡ B′ b → B (stepInner t b) ≡ B′ (stepInner t b)
     → stepTriangle A B t a b ≡ stepTriangle A′ B′ t a b
 step-same A A′ B B′ true a b h k u v = rw (h, k, u)
@@ -84,7 +83,7 @@ module _ (A A′ B B′ : ℕ → ℕ) (p r : ℕ) (outer : (i : ℕ) → i ≤ 
   pub strip-same : strip A B p r ≡ strip A′ B′ p r
   strip-same = steps-same (p + r) 0 0 (omega arith) (omega arith) (omega arith)
 
--- a strip between two lines of vertices is the strip between what they follow
+-- a strip between two lines is the strip between the functions that they follow
 pub strip-follows : {o i : Line} {F G : ℕ → ℕ} {p r : ℕ} → Follows o F p → Follows i G r → strip (vertex o) (vertex i) (o .count) (i .count) ≡ strip F G p r
 strip-follows {o} {i} {F} {G} {p} {r} h k =
     ap₂ (λ (x y : ℕ). strip (vertex o) (vertex i) x y) (h .count) (k .count) ∙ strip-same (vertex o) F (vertex i) G p r (h .at) (k .at)

@@ -1,5 +1,5 @@
--- A test whose ties another test decides, as one comparison of numbers: where the tie is lost, x counts for one more.
--- Assumes nothing.
+-- A comparison in which another test decides ties, as one comparison of numbers: if the tie goes against x, x counts as one
+-- more. Assumes nothing.
 use Prim.Native.Nat.{ℕ, suc, _+_, _-_, _≤_, _<_, min}
 use mathlib.Core.Path.{_≡_, sym, _∙_}
 use mathlib.Core.Bool.{true, false}
@@ -17,19 +17,19 @@ module _ (u v x y : ℕ) where
     | no h ↦ let e : x + min 1 (u - v) ≡ suc x = omega arith in rw (lt-leb u v (omega arith), e)
   ]
 
-  -- how the test comes out
+  -- when the comparison holds, and when it fails
   pub first : x + min 1 (u - v) ≤ y → comesFirst (leb u v) x y ≡ true
   first h = one-test ∙ le-leb (x + min 1 (u - v)) y h
 
   pub second : y < x + min 1 (u - v) → comesFirst (leb u v) x y ≡ false
   second h = one-test ∙ lt-leb (x + min 1 (u - v)) y h
 
-  -- what it tells
+  -- what follows if it holds, and if it fails
   pub was-first : comesFirst (leb u v) x y ≡ true → x + min 1 (u - v) ≤ y
   was-first e = leb-true (x + min 1 (u - v)) y (sym one-test ∙ e)
 
   pub was-second : comesFirst (leb u v) x y ≡ false → y < x + min 1 (u - v)
   was-second e = leb-false (x + min 1 (u - v)) y (sym one-test ∙ e)
 
--- what `omega` is handed to read the test
+-- the facts with which `omega` evaluates the comparison
 pub ruleset ties = (first, second, was-first, was-second)

@@ -1,5 +1,4 @@
--- A strip walked from the other end of its two lines, and when two triangles are the same.
--- Assumes nothing.
+-- A strip walked from the other end of its two lines, and equality of triangles up to the order of corners. Assumes nothing.
 use Prim.Native.Nat.{ℕ, suc, _-_, _%_}
 use mathlib.Core.Path.{_≡_}
 use mathlib.Core.List.{List, Perm}
@@ -8,7 +7,7 @@ use Rattle.strip.specs.declared.triangle.Triangle.{Triangle}
 use Rattle.strip.specs.Triangles.{corners}
 use Rattle.strip.specs.Strips.{strip}
 
--- the points of a line of n segments, from its other end
+-- the vertices of a line of n segments, counted from its other end
 abbrev pub fromEnd : ℕ → (ℕ → ℕ) → ℕ → ℕ
 fromEnd n F i = F (n - i)
 
@@ -16,15 +15,15 @@ fromEnd n F i = F (n - i)
 abbrev pub mirror : (ℕ → ℕ) → (ℕ → ℕ) → ℕ → ℕ → List Triangle
 mirror A B p r = strip (fromEnd p A) (fromEnd r B) p r
 
--- the same three corners, in any order
+-- s and t have the same three corners, in any order
 abbrev pub SameCorners : Triangle → Triangle → Type 0
 SameCorners s t = Perm (corners s) (corners t)
 
--- two lines of an odd number of segments, whose middle segments face one another
+-- both lines have an odd number of segments, so their middle segments face each other
 abbrev pub BothOdd : ℕ → ℕ → Type 0
 BothOdd p r = (p % 2 ≡ 1) × (r % 2 ≡ 1)
 
--- triangles k and k + 1 of a list cut the four corners of the segments from x to u and from y to v along the diagonal from u to y
+-- triangles k and k + 1 of ts split the quadrilateral between the segments x to u and y to v along the diagonal from u to y
 pub record Cut (ts : List Triangle) (k x u y v : ℕ) : Type 0 where
   pub first : (d : Triangle) → getD ts k d ≡ record { a = x; b = u; c = y }
   pub second : (d : Triangle) → getD ts (suc k) d ≡ record { a = u; b = v; c = y }

@@ -1,4 +1,4 @@
-// One strip, between an outer line of vertices and an inner one: its two lines, the rule by which they move, and its triangles.
+// One strip between an outer and an inner line of vertices: the lines, the rule that says which one advances, and the triangles.
 pub mod line;
 pub mod state;
 pub mod triangle;

@@ -1,8 +1,8 @@
-// How far a strip is, and the test of which line moves next.
+// The state of a strip, and the test of which line advances next.
 ghost use mathlib.Core.Path.{_≡_};
 ghost use Rattle.strip.specs.Rule.{Within, stepOf};
 
-// Point a of the outer line's p segments and point b of the inner line's r segments are reached.
+// The strip has reached point a of the outer line, of p segments, and point b of the inner line, of r segments.
 pub struct Strip {
     pub a: u32,
     pub b: u32,
@@ -10,7 +10,7 @@ pub struct Strip {
     pub r: u32,
 }
 
-// Which line moved, and the state after it.
+// Which line advanced, and the state after the step.
 pub struct Step {
     pub outer: bool,
     pub next: Strip,
@@ -24,7 +24,8 @@ impl Strip {
         let a = self.a;
         let b = self.b;
         let p = self.p;
-        // Twice the middle of the outer line's next segment; past the line's own middle a tie is the inner line's.
+        // m is twice the middle of the outer line's next segment. Beyond the middle of the outer line the inner line advances
+        // at a tie, so 1 is added.
         let m = 2 * a + 1;
         let mut x = m * self.r;
         if p < m {

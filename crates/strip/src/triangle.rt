@@ -1,4 +1,4 @@
-// A triangle by the numbers of its vertices, and how it is written.
+// A triangle by its vertex numbers, and its index words.
 ghost use mathlib.Core.Path.{_≡_};
 ghost use Prim.Native.Nat.{_+_, _≤_};
 ghost use lib.ListN.{length};
@@ -11,7 +11,7 @@ pub struct Triangle {
     pub c: u16,
 }
 
-// The triangle as the strips give it, or with its second and third corner exchanged.
+// Returns the triangle in the strips' orientation, or with its second and third corner exchanged.
 fn turn(t: Triangle, positive: bool) -> Triangle
     ensures { λ r. ⌜ r ≡ turned positive t ⌝ }
 {

@@ -1,5 +1,4 @@
--- Pairs four by four: the words of four pairs by their pattern, later ones from earlier ones, and words that are written again.
--- Assumes nothing.
+-- Four pairs at a time: their words from the pattern, later words from earlier ones, and words that are overwritten. Assumes nothing.
 use Prim.Native.Nat.{ℕ, zero, suc, _+_, _-_, _*_, _/_, _%_, _≤_, _<_}
 use mathlib.Core.Path.{_≡_, refl, sym, ap, subst, _∙_}
 use mathlib.Core.Bool.{Bool, true, false}
@@ -23,7 +22,7 @@ use Rattle.strip_pairs.specs.Pairs.{pair, pairWords}
 use Rattle.strip_pairs.proofs.Pairs.{pairs-length, alternates, halves}
 use Rattle.strip_blocks.specs.Blocks.{on, pairOn, patternOf, lineOf}
 
--- ---- the loop that adds `by` to each word of xs: the first i of them are greater
+-- ---- the loop that adds `by` to each word of xs; it has done the first i words
 pub record Raised (by : ℕ) (xs : List ℕ) (i : ℕ) (ys : List ℕ) : Type 0 where
   pub is : ys ≡ shifted by (take i xs) ++ drop i xs
 
@@ -58,7 +57,7 @@ module _ (by : ℕ) (xs : List ℕ) where
   pub raise-done : (i : ℕ) {ys : List ℕ} → length xs ≤ i → Raised by xs i ys → ys ≡ shifted by xs
   raise-done i h r = r .is ∙ rw (take-all i xs h, drop-all xs i h) (append-nil (shifted by xs))
 
--- ---- copies, each greater by 4
+-- ---- copies, each plus 4
 shifted-none : (xs : List ℕ) → ((i : ℕ) → getD xs i 0 < 65536) → shifted 0 xs ≡ xs
 unfolding shifted
 shifted-none [] g = refl
@@ -77,7 +76,7 @@ copy-next xs i e f =
     let s : i * 4 + 4 ≡ (i + 1) * 4 = omega arith in
     f ∙ ap (shifted 4) e ∙ shifted-twice 4 (i * 4) xs ∙ ap (λ (k : ℕ). shifted k xs) s
 
--- ---- pairs further on
+-- ---- later pairs
 on-more : (x i k : ℕ) → (on x i + k) % 65536 ≡ on x (i + k)
 on-more x i k = mod-add-mod (x + i) 65536 k ∙ ap (λ (j : ℕ). j % 65536) (add-assoc x i k)
 
@@ -96,7 +95,7 @@ module _ (x y : ℕ) where
       flat-shifted k (pairOn positive x y) i n ∙ flat-below (λ j. shifted k (pairOn positive x y j)) (λ j. pairOn positive x y (j + k)) i n (λ j h. pair-shifted positive k j)
       ∙ flat-moved (pairOn positive x y) k i n
 
-  -- four by four
+  -- four pairs at a time
   blocks-from : (positive : Bool) (m i k : ℕ) → flat (copy 4 (flat (pairOn positive x y) m 4)) i k ≡ flat (pairOn positive x y) (m + i * 4) (4 * k)
   unfolding flat copy
   blocks-from positive m i zero = refl
@@ -113,7 +112,7 @@ module _ (x y : ℕ) where
   unfolding pairOn
   pairs-size positive i n = flat-length (pairOn positive x y) 6 i n (λ j. indices-length positive (pair (on x) (on y) j j))
 
-  -- the first four pairs, and from the m-th on all others four by four
+  -- the first four pairs, then all pairs from number m on, four at a time
   pub run-wrote : (positive : Bool) (n k m : ℕ) {xs ws ws′ mid out : List ℕ} {at w w′ v : ℕ} → at ≤ length xs → m + 4 * k ≡ n → m ≤ 4 → 4 ≤ n
       → ws ≡ flat (pairOn positive x y) 0 4 → Wrote xs at ws mid w → ws′ ≡ shifted m ws → v ≡ at + 6 * m
       → Wrote mid v (flat (copy 4 ws′) 0 k) out w′ → Wrote xs at (flat (pairOn positive x y) 0 n) out w′
@@ -129,7 +128,7 @@ module _ (x y : ℕ) where
       (wrote-again (flat f 0 m) (flat f m (4 - m)) (flat f m (4 * k)) fits (omega (arith, pairs-size positive m (4 - m), pairs-size positive m (4 * k))) (omega (arith, pairs-size positive 0 m))
       (subst (λ (l : List ℕ). Wrote xs at l mid w) front p) (subst (λ (l : List ℕ). Wrote mid v l out w′) later q))
 
--- ---- the words of four pairs, by their pattern p
+-- ---- the words of four pairs, from their pattern p
 abbrev pub laid : List ℕ → ℕ → ℕ → ℕ → List ℕ
 laid p d x j = ((getD p j 0 * d + getD p (24 + j) 0 + x) % 65536) ∷ []
 
@@ -146,7 +145,7 @@ block-laid true p d x y e h =
 block-laid false p d x y e h =
     rw (e, outer-on d x 0, outer-on d x 1, outer-on d x 2, outer-on d x 3, outer-on d x 4, inner-on d x y 0 h, inner-on d x y 1 h, inner-on d x y 2 h, inner-on d x y 3 h, inner-on d x y 4 h)
 
--- ---- a strip whose lines count up by one, but for their last points
+-- ---- a strip between lines of consecutive vertices, except for their last vertices
 pub line-on : (x n e i : ℕ) → i < n → vertex (lineOf x n e) i ≡ on x i
 line-on x n e i h = sym (at-more (lineOf x n e) i (λ g. omega arith)) ∙ ap (λ (k : ℕ). k % 65536) (omega arith)
 
@@ -207,7 +206,7 @@ module _ (A B : ℕ → ℕ) (positive : Bool) where
         rw (halves A B positive (r + 2) r refl (λ z. omega arith))
         (wrote-then fits (wrote-again (P ++ T) G Q fits (omega arith) (omega (arith, length-append P T)) p′ q′) l)
 
--- ---- a strip whose lines count up by one to their ends and on
+-- ---- a strip between lines of consecutive vertices, their last vertices included
 module _ (positive : Bool) (x y r : ℕ) (many : 10 ≤ r) where
   open-half : flat (pairOn positive (x + (r / 2 + 1)) (y + r / 2)) 0 (r - r / 2 + 1)
       ≡ pairWords (on x) (on y) positive (r / 2 + 1) (r / 2) (r - r / 2) ++ indices positive (stepTriangle (on x) (on y) true (r + 1) r ∷ [])

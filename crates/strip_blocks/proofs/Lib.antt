@@ -1,2 +1,2 @@
--- The laws of pairs four by four, for the crates above.
+-- The laws of `strip_blocks`, for other crates.
 pub mod Blocks

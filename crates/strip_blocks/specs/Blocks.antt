@@ -1,5 +1,4 @@
--- Pairs of a strip's steps between two lines that count up by one, and the pattern of four of them.
--- Assumes nothing.
+-- Pairs of steps between two lines of consecutive vertices, and the pattern that four pairs follow. Assumes nothing.
 use Prim.Native.Nat.{ℕ, _+_, _%_}
 use mathlib.Core.Bool.{Bool, true, false}
 use mathlib.Core.List.{List, [], _∷_}
@@ -7,19 +6,19 @@ use Rattle.strip.specs.declared.line.Line.{Line}
 use Rattle.strip.specs.Triangles.{indices}
 use Rattle.strip_pairs.specs.Pairs.{pair}
 
--- point i of the line from x on
+-- vertex i of a line of consecutive vertices from x on
 abbrev pub on : ℕ → ℕ → ℕ
 on x i = (x + i) % 65536
 
--- the words of the pair from point i of both lines
+-- the index words of the pair of steps from point i of both lines
 unfoldable pub pairOn : Bool → ℕ → ℕ → ℕ → List ℕ
 pairOn positive x y i = indices positive (pair (on x) (on y) i i)
 
--- the line of n segments from x on, whose last vertex is e
+-- the line of n segments whose vertices count up from x, except that the last is e
 abbrev pub lineOf : ℕ → ℕ → ℕ → Line
 lineOf x n e = record { first = x; step = 1; count = n; last = e }
 
--- of each word of four pairs whether it is of the inner line, then how many points it lies beyond the first one
+-- the words of four pairs: first, for each word, 1 if it is on the inner line, else 0; then, for each word, how far along its line it is
 unfoldable pub patternOf : Bool → List ℕ
 patternOf true =
     0 ∷ 0 ∷ 1 ∷ 0 ∷ 1 ∷ 1 ∷ 0 ∷ 0 ∷ 1 ∷ 0 ∷ 1 ∷ 1 ∷ 0 ∷ 0 ∷ 1 ∷ 0 ∷ 1 ∷ 1 ∷ 0 ∷ 0 ∷ 1 ∷ 0 ∷ 1 ∷ 1

@@ -1,5 +1,5 @@
-// A strip's steps eight by eight: four pairs are 24 words, and the next four pairs are the same words, each greater by 4, where both
-// lines count up by one. Few enough words to be held in registers, so that every store is one of a whole vector.
+// Eight steps of a strip at a time. Four pairs of steps are 24 words; if the vertices of both lines are consecutive, the next
+// four pairs are the same words plus 4. The 24 words fit into registers, so each store writes a whole vector.
 ghost use mathlib.Core.Path.{_≡_};
 ghost use mathlib.Core.Bool.{false};
 ghost use mathlib.Core.List.{[], _∷_, _++_};
@@ -13,7 +13,7 @@ ghost use Rattle.strip.specs.Strips.{strip, stepTriangle};
 ghost use Rattle.strip_blocks.specs.Blocks.{on, pairOn, patternOf, lineOf};
 use strip::line::Line;
 
-// Of each of the 24 words whether it is of the inner line, then how many points it lies beyond the first one.
+// For each of the 24 words, 1 if it is on the inner line, else 0; then, for each word, how far along its line it is.
 const POSITIVE: [u16; 48] = [
     0,
     0,
@@ -65,7 +65,7 @@ const POSITIVE: [u16; 48] = [
     3,
 ];
 
-// The same with the second and third corner of each triangle exchanged.
+// The same, with the second and third corner of each triangle exchanged.
 const NEGATIVE: [u16; 48] = [
     0,
     1,
@@ -117,8 +117,8 @@ const NEGATIVE: [u16; 48] = [
     4,
 ];
 
-// The pattern of four pairs. Whoever writes many strips makes it once, in a place that LLVM does not see through: it would else
-// take the words apart again.
+// Returns the pattern of four pairs. A writer of many strips makes it once and passes a reference: where LLVM sees the numbers,
+// it splits the vectors up again.
 pub fn pattern_of(positive: bool) -> [u16; 48]
     ensures { λ r. ⌜ r ≡ patternOf positive ⌝ }
 {
@@ -131,7 +131,7 @@ fn wide(x: u16) -> u32
     x as u32
 }
 
-// The four pairs between the line from x on and the line from y on.
+// Returns the four pairs between the lines of consecutive vertices from x and from y on.
 fn block(pattern: &[u16; 48], x: u16, y: u16, positive: bool) -> [u16; 24]
     requires { ⌜ now pattern ≡ patternOf positive ⌝ ∗ ⌜ x ≤ y ⌝ }
     ensures { λ r. ⌜ r ≡ flat (pairOn positive x y) 0 4 ⌝ }
@@ -150,7 +150,7 @@ fn block(pattern: &[u16; 48], x: u16, y: u16, positive: bool) -> [u16; 24]
     words
 }
 
-// The 24 words that stand elsewhere.
+// Writes 24 given words.
 fn put_block(out: &mut [u16], at: usize, words: &[u16]) -> usize
     requires { ⌜ length (now words) ≡ 24 ⌝ ∗ ⌜ at + 24 ≤ length (now out) ⌝ }
     ensures { λ w. ⌜ Wrote (now (out .entry)) at (now (words .entry)) (now (out .exit)) w ⌝ }
@@ -164,7 +164,7 @@ fn put_block(out: &mut [u16], at: usize, words: &[u16]) -> usize
     to
 }
 
-// Each of 24 words greater by `by`.
+// Adds `by` to each of 24 words.
 fn raise(words: &mut [u16], by: u32)
     requires { ⌜ length (now words) ≡ 24 ⌝ ∗ ⌜ by ≤ 64 ⌝ }
     ensures { λ r. ⌜ now (words .exit) ≡ shifted by (now (words .entry)) ⌝ }
@@ -176,7 +176,7 @@ fn raise(words: &mut [u16], by: u32)
     }
 }
 
-// The 24 words k times, each time greater by 4.
+// Writes the 24 words k times, each time plus 4.
 fn write_blocks(out: &mut [u16], at: usize, words: &mut [u16], k: u32) -> usize
     requires { ⌜ length (now words) ≡ 24 ⌝ ∗ ⌜ at + 24 * k ≤ length (now out) ⌝ }
     ensures { λ w. ⌜ Wrote (now (out .entry)) at (flat (copy 4 (now (words .entry))) 0 k) (now (out .exit)) w ⌝ }
@@ -191,8 +191,8 @@ fn write_blocks(out: &mut [u16], at: usize, words: &mut [u16], k: u32) -> usize
     to
 }
 
-// n pairs, four or more, between the line from x on and the line from y on. The first four are written, and then the others from the
-// first place on from which they are a multiple of four: some words are written twice, both times the same.
+// Writes n pairs, at least four, between the lines from x and from y on. It writes the first four, then the others in blocks of
+// four that end at the last pair; so it writes some words twice, with the same values.
 pub fn write_run(
     out: &mut [u16],
     at: usize,
@@ -213,9 +213,9 @@ pub fn write_run(
     write_blocks(out, at + 6 * m as usize, &mut words, k)
 }
 
-// The strip between r + 2 segments of the line from x on and r segments of the line from y on, and one triangle more that is to be
-// written over: pairs to the middle of the inner line and one more, of which the second half is lost to the pairs from there on.
-// The place is that after the strip.
+// Writes the strip between r + 2 segments of the line from x on and r segments of the line from y on, and one further triangle
+// that the caller overwrites. It writes pairs up to the middle of the inner line and one more, whose second triangle the
+// following pairs overwrite. Returns the place after the strip.
 pub fn write_open(
     out: &mut [u16],
     at: usize,
@@ -244,8 +244,8 @@ pub fn write_open(
     w - 3
 }
 
-// The strip between the line of r + 2 segments from x on, whose last vertex is e, and the line of r segments from y on, whose last
-// one is f: the same pairs, and the last three steps.
+// Writes the strip between the line of r + 2 segments from x on, whose last vertex is e, and the line of r segments from y on,
+// whose last vertex is f: the same pairs, and the last three steps.
 pub fn write_long(
     out: &mut [u16],
     at: usize,

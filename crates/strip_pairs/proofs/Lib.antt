@@ -1,2 +1,2 @@
--- The laws of pairs of steps, for the crate above.
+-- The laws of pairs of steps, for other crates.
 pub mod Pairs

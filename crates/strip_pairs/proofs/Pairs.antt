@@ -1,6 +1,5 @@
--- A strip whose outer line has two segments more: its steps are pairs, one step of the outer line from the middle of the inner
--- one, pairs again, and a last step of the outer line.
--- Assumes nothing.
+-- A strip whose outer line has two segments more: pairs of steps, one step of the outer line at the middle of the inner line,
+-- pairs again, and a last step of the outer line. Assumes nothing.
 use Prim.Native.Nat.{ℕ, zero, suc, _+_, _-_, _*_, _/_, _<_}
 use mathlib.Core.Path.{_≡_, refl, _∙_}
 use mathlib.Core.Bool.{Bool, true, false}
@@ -17,7 +16,7 @@ use Rattle.strip.proofs.Rule.{inner-ended, level-outer, ahead-inner, ahead-oute
 use Rattle.strip.proofs.Strips.{indices-length}
 
 module _ (A B : ℕ → ℕ) (positive : Bool) where
-  -- six words a pair
+  -- six words per pair
   pub pair-length : (a b : ℕ) → length (indices positive (pair A B a b)) ≡ 6
   pair-length a b = indices-length positive (pair A B a b)
 
@@ -25,7 +24,7 @@ module _ (A B : ℕ → ℕ) (positive : Bool) where
   unfolding pairWords
   pairs-length a b n = flat-length (λ i. indices positive (pair A B (a + i) (b + i))) 6 0 n (λ i. pair-length (a + i) (b + i))
 
-  -- no pair, one more, and the last of several
+  -- no pairs, one more pair, and the last of several
   pairs-none : (a b n : ℕ) → n ≡ 0 → pairWords A B positive a b n ≡ []
   unfolding pairWords flat
   pairs-none a b n e = rw e
@@ -43,13 +42,13 @@ module _ (A B : ℕ → ℕ) (positive : Bool) where
       rw e (pairs-more a b n)
 
   module _ (next : ℕ → ℕ → Bool) where
-    -- one pair of several steps
+    -- a pair at the start of several steps
     one-pair : (k a b : ℕ) → next a b ≡ true → next (suc a) b ≡ false
         → indices positive (stripFrom A B next (suc (suc k)) a b) ≡ indices positive (pair A B a b) ++ indices positive (stripFrom A B next k (suc a) (suc b))
     unfolding indices stripFrom
     one-pair k a b u v = rw (u, v)
 
-    -- n pairs from points a and b on, and the k steps after them
+    -- n pairs from the points a and b on, then k further steps
     pairs : (a b n k steps : ℕ) → steps ≡ 2 * n + k → ((j : ℕ) → j < n → next (a + j) (b + j) ≡ true) → ((j : ℕ) → j < n → next (suc (a + j)) (b + j) ≡ false)
         → indices positive (stripFrom A B next steps a b) ≡ pairWords A B positive a b n ++ indices positive (stripFrom A B next k (a + n) (b + n))
     pairs a b zero k steps e u v =
@@ -63,7 +62,7 @@ module _ (A B : ℕ → ℕ) (positive : Bool) where
         let before = pairs a b n (suc (suc k)) steps (omega arith) (λ j h. u j (omega arith)) (λ j h. v j (omega arith)) in
         rw (pairs-more a b n, x, y, append-assoc, ← one-pair k (a + n) (b + n) (u n (omega arith)) (v n (omega arith))) before
 
-    -- one step of the outer line
+    -- a step of the outer line at the start of several steps
     one-outer : (k a b : ℕ) → next a b ≡ true
         → indices positive (stripFrom A B next (suc k) a b) ≡ indices positive (stepTriangle A B true a b ∷ []) ++ indices positive (stripFrom A B next k (suc a) b)
     unfolding indices stripFrom
@@ -73,7 +72,7 @@ module _ (A B : ℕ → ℕ) (positive : Bool) where
     unfolding indices stripFrom
     last-outer a b u = rw u
 
-  -- the strip of an outer line with two segments more than the inner one
+  -- the whole strip, if the outer line has two segments more than the inner line
   pub alternates : (p r : ℕ) → p ≡ r + 2
       → indices positive (strip A B p r) ≡ pairWords A B positive 0 0 (r / 2) ++ indices positive (stepTriangle A B true (r / 2) (r / 2) ∷ [])
       ++ pairWords A B positive (r / 2 + 1) (r / 2) (r - r / 2) ++ indices positive (stepTriangle A B true (r + 1) r ∷ [])
@@ -92,7 +91,7 @@ module _ (A B : ℕ → ℕ) (positive : Bool) where
       pairs next (h + 1) h m 1 (2 * m + 1) refl (λ j k. rw (on j) (ahead-outer r (h + j) (omega arith))) (λ j k. rw (on j) (two-ahead-inner r (h + j) (omega arith))) in
       rw (e, first, x, middle, y, second, z, w, last-outer next (r + 1) r (inner-ended (r + 2) r (r + 1) (omega arith))) (simp append-assoc)
 
-  -- the same with the last pair and the last step together
+  -- the same, with the last pair and the last step together
   pub halves : (p r : ℕ) → p ≡ r + 2 → (r ≡ 0 → ⊥)
       → indices positive (strip A B p r) ≡ pairWords A B positive 0 0 (r / 2) ++ indices positive (stepTriangle A B true (r / 2) (r / 2) ∷ [])
       ++ pairWords A B positive (r / 2 + 1) (r / 2) (r - r / 2 - 1) ++ (indices positive (pair A B r (r - 1)) ++ indices positive (stepTriangle A B true (r + 1) r ∷ []))
@@ -102,7 +101,7 @@ module _ (A B : ℕ → ℕ) (positive : Bool) where
       let y : h + (r - h - 1) ≡ r - 1 = omega arith in
       alternates p r e ∙ rw (pairs-last (h + 1) h (r - h) (λ z. some (omega arith)), x, y) (simp append-assoc)
 
-  -- an inner line of no segment
+  -- an inner line without segments
   pub fan : (p r : ℕ) → p ≡ r + 2 → r ≡ 0 → indices positive (strip A B p r) ≡ indices positive (stepTriangle A B true 0 0 ∷ stepTriangle A B true 1 0 ∷ [])
   unfolding indices pairWords flat
   fan p r e none = alternates p r e ∙ rw none

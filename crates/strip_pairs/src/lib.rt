@@ -1,4 +1,4 @@
-// A strip's steps two by two: the outer line moves, then the inner one.
+// Two steps of a strip at a time: the outer line advances, then the inner line.
 ghost use mathlib.Core.Path.{_≡_};
 ghost use mathlib.Core.Bool.{true};
 ghost use mathlib.Core.List.{[], _∷_, _++_};
@@ -12,7 +12,7 @@ ghost use Rattle.strip_pairs.specs.Pairs.{pair, Paired};
 use strip::line::Line;
 use strip::triangle::Triangle;
 
-// Two triangles, one after the other.
+// Writes two triangles.
 fn put_two(out: &mut [u16], at: usize, s: Triangle, t: Triangle, positive: bool) -> usize
     requires { ⌜ at + 6 ≤ length (now out) ⌝ }
     ensures { λ w. ⌜ Wrote (now (out .entry)) at (indices positive (s ∷ t ∷ [])) (now (out .exit)) w ⌝ }
@@ -21,15 +21,14 @@ fn put_two(out: &mut [u16], at: usize, s: Triangle, t: Triangle, positive: bool)
     strip::triangle::put_triangle(out, to, t, positive)
 }
 
-// The place after what was written, and the vertices that the lines have reached.
+// The place after what was written, and the vertices reached on the two lines.
 pub struct Reached {
     pub to: usize,
     pub x: u16,
     pub y: u16,
 }
 
-// n pairs of steps from points a and b on, whose vertices are first and second, to before the last point of both lines: the outer line
-// moves, then the inner one.
+// Writes n pairs of steps from points a and b on, whose vertices are `first` and `second`; neither line reaches its last point.
 pub fn write_pairs(
     out: &mut [u16],
     at: usize,
@@ -66,7 +65,7 @@ pub fn write_pairs(
     Reached { to, x, y }
 }
 
-// The last pair of steps, from the vertices x and y on, and the outer line's last step.
+// Writes the last pair of steps, from the vertices x and y on, and the last step of the outer line.
 pub fn write_last(
     out: &mut [u16],
     at: usize,
@@ -93,7 +92,7 @@ pub fn write_last(
     strip::triangle::put_triangle(out, to, Triangle { a: u, b: z, c: v }, positive)
 }
 
-// The two steps of an outer line of two segments around the one point of an inner line of none.
+// Writes the two triangles between an outer line of two segments and an inner line that is a single vertex.
 pub fn write_fan(out: &mut [u16], at: usize, outer: Line, inner: Line, positive: bool) -> usize
     requires { ⌜ (outer .count ≡ 2) × (inner .count ≡ 0) ⌝ ∗ ⌜ at + 6 ≤ length (now out) ⌝ }
     ensures { λ w. ⌜ Wrote (now (out .entry)) at (indices positive (stepTriangle (vertex outer) (vertex inner) true 0 0 ∷ stepTriangle (vertex outer) (vertex inner) true 1 0 ∷ [])) (now (out .exit)) w ⌝ }

@@ -1,5 +1,4 @@
--- One step of the walk along a strip, whichever line moves.
--- Assumes nothing.
+-- One step of the walk along a strip. Assumes nothing.
 use Prim.Native.Nat.{ℕ, _+_, _<_}
 use mathlib.Core.Path.{_≡_, refl, sym, ap, _∙_}
 use mathlib.Core.Bool.{Bool, true, false, cond}
@@ -14,7 +13,7 @@ use Rattle.strip.specs.Strips.{stepTriangle}
 use Rattle.strip_walk.specs.Walks.{Standing, Advanced}
 use Rattle.strip.proofs.Rule.{rule}
 
--- what the code's step says: the flag is the rule's
+-- the flag of the code's step is the rule's
 pub flag : (s : Strip) (t : Step) (b : Bool) → t ≡ stepOf s → t .outer ≡ b → outerNext (s .p) (s .r) (s .a) (s .b) ≡ b
 unfolding stepOf
 flag s t b e h = sym (ap (λ (u : Step). u .outer) e) ∙ h
@@ -25,7 +24,7 @@ triangle-of true A B a b = refl
 triangle-of false A B a b = refl
 
 module _ (outer inner : Line) (w : Walk) (stands : Standing outer inner w) (less : w .strip .a + w .strip .b < w .strip .p + w .strip .r) where
-  -- the line that moves is not at its end
+  -- the line that advances is not at its end
   pub outer-goes : outerNext (w .strip .p) (w .strip .r) (w .strip .a) (w .strip .b) ≡ true → w .strip .a < outer .count
   outer-goes e =
       let m = rule (w .strip .p) (w .strip .r) .outer (w .strip .a) (w .strip .b) (omega arith) (omega arith) less in
@@ -36,11 +35,11 @@ module _ (outer inner : Line) (w : Walk) (stands : Standing outer inner w) (less
       let m = rule (w .strip .p) (w .strip .r) .inner (w .strip .a) (w .strip .b) (omega arith) (omega arith) less in
       omega (arith, rw e at m)
 
-  -- the rule's word, by the lines' own counts
+  -- the rule, with the lines' own counts
   said : (b : Bool) → outerNext (w .strip .p) (w .strip .r) (w .strip .a) (w .strip .b) ≡ b → outerNext (outer .count) (inner .count) (w .strip .a) (w .strip .b) ≡ b
   said b e = rw (stands .p, stands .r) at e
 
-  -- the line that moves is `outer` where t is true; x and y are the vertices then reached
+  -- `outer` advances if t is true, else `inner`; x and y are the vertices then reached
   pub moved : (t : Bool) (s : Strip) (x y : ℕ) → s ≡ stepOf (w .strip) .next → outerNext (w .strip .p) (w .strip .r) (w .strip .a) (w .strip .b) ≡ t
       → x ≡ vertex outer (stepOuter t (w .strip .a)) → y ≡ vertex inner (stepInner t (w .strip .b))
       → Advanced outer inner w (record { triangle = record { a = w .x; b = cond t x y; c = w .y }; walk = record { strip = s; x = x; y = y } })

@@ -1,5 +1,4 @@
--- What the code's walk along a strip holds before and after each step.
--- Assumes nothing.
+-- The state of the code's walk along a strip, before and after each step. Assumes nothing.
 use mathlib.Core.Path.{_≡_}
 use Rattle.strip.specs.declared.line.Line.{Line}
 use Rattle.strip_walk.specs.declared.walk.Walk.{Walk}
@@ -8,7 +7,7 @@ use Rattle.strip.specs.Rule.{outerNext, stepOuter, stepInner, Within}
 use Rattle.strip.specs.Lines.{vertex}
 use Rattle.strip.specs.Strips.{stepTriangle}
 
--- the walk stands between the two lines, and its vertices are those of the points reached
+-- the walk is on these two lines, and x and y are the vertices at its points
 pub record Standing (outer inner : Line) (w : Walk) : Type 0 where
   pub within : Within (w .strip)
   pub p : w .strip .p ≡ outer .count
@@ -16,13 +15,13 @@ pub record Standing (outer inner : Line) (w : Walk) : Type 0 where
   pub x : w .x ≡ vertex outer (w .strip .a)
   pub y : w .y ≡ vertex inner (w .strip .b)
 
--- it stands at the beginning
+-- the walk is at the start of both lines
 pub record Begun (outer inner : Line) (w : Walk) : Type 0 where
   pub stands : Standing outer inner w
   pub a : w .strip .a ≡ 0
   pub b : w .strip .b ≡ 0
 
--- one step: its triangle, the points then reached, and the walk standing there
+-- after one step: its triangle, and the points that the walk has reached on the lines
 pub record Advanced (outer inner : Line) (w : Walk) (v : Progress) : Type 0 where
   pub triangle : v .triangle ≡ stepTriangle (vertex outer) (vertex inner) (outerNext (outer .count) (inner .count) (w .strip .a) (w .strip .b)) (w .strip .a) (w .strip .b)
   pub a : v .walk .strip .a ≡ stepOuter (outerNext (outer .count) (inner .count) (w .strip .a) (w .strip .b)) (w .strip .a)

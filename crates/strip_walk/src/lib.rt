@@ -1,4 +1,4 @@
-// A strip written by the rule, step by step.
+// Writes a strip by the rule, step by step.
 mod walk;
 
 ghost use Prim.Native.Nat.{_+_, _*_, _≤_};
@@ -9,7 +9,7 @@ ghost use Rattle.strip.specs.Lines.{vertex};
 ghost use Rattle.strip.specs.Strips.{strip};
 use strip::line::Line;
 
-// Whatever the two counts.
+// Writes a strip with any two segment counts.
 pub fn write_walk(out: &mut [u16], at: usize, outer: Line, inner: Line, positive: bool) -> usize
     requires { ⌜ outer .count ≤ 64 ⌝ ∗ ⌜ inner .count ≤ 64 ⌝ ∗ ⌜ at + 3 * (outer .count + inner .count) ≤ length (now out) ⌝ }
     ensures { λ r. ⌜ Wrote (now (out .entry)) at (indices positive (strip (vertex outer) (vertex inner) (outer .count) (inner .count))) (now (out .exit)) r ⌝ }

@@ -1,11 +1,11 @@
-// The walk along a strip, one triangle a step.
+// The walk along a strip, one triangle per step.
 ghost use Prim.Native.Nat.{_+_, _≤_, _<_};
 ghost use Rattle.strip_walk.specs.Walks.{Standing, Advanced, Begun};
 use strip::line::Line;
 use strip::state::Strip;
 use strip::triangle::Triangle;
 
-// A strip's state with the vertices x and y that its outer and inner line have reached.
+// The state of a strip, with the vertices x and y reached on the outer and the inner line.
 pub struct Walk {
     pub strip: Strip,
     pub x: u16,

@@ -1,5 +1,5 @@
-// A strip whose outer line has two segments more than its inner line: there the two lines take turns. Each turn of the triangles has a
-// function of its own, so that no triangle is exchanged as it is written.
+// A strip whose outer line has two segments more than its inner line: there the lines advance by turns. Each orientation has a
+// function of its own, so that no corners are exchanged while writing.
 ghost use mathlib.Core.Path.{_≡_};
 ghost use mathlib.Core.Bool.{true, false};
 ghost use Prim.Native.Nat.{_+_, _*_, _≤_};
@@ -14,7 +14,8 @@ use strip_pairs::write_fan;
 use strip_pairs::write_last;
 use strip_pairs::write_pairs;
 
-// Pairs to the middle of the inner line, a step of the outer line, pairs to the inner line's end, and the outer line's last step.
+// Writes pairs of steps up to the middle of the inner line, a step of the outer line, pairs up to the end of the inner line,
+// and the last step of the outer line.
 pub fn write_plain(out: &mut [u16], at: usize, outer: Line, inner: Line) -> usize
     requires { ⌜ outer .count ≡ inner .count + 2 ⌝ ∗ ⌜ outer .count ≤ 64 ⌝ ∗ ⌜ inner .count ≤ 64 ⌝ ∗ ⌜ at + 3 * (outer .count + inner .count) ≤ length (now out) ⌝ }
     ensures { λ w. ⌜ Wrote (now (out .entry)) at (indices true (strip (vertex outer) (vertex inner) (outer .count) (inner .count))) (now (out .exit)) w ⌝ }
@@ -35,7 +36,7 @@ pub fn write_plain(out: &mut [u16], at: usize, outer: Line, inner: Line) -> usiz
     write_last(out, q.to, outer, inner, q.x, q.y, true)
 }
 
-// The same with the second and third corner of each triangle exchanged.
+// The same, with the second and third corner of each triangle exchanged.
 pub fn write_turned(out: &mut [u16], at: usize, outer: Line, inner: Line) -> usize
     requires { ⌜ outer .count ≡ inner .count + 2 ⌝ ∗ ⌜ outer .count ≤ 64 ⌝ ∗ ⌜ inner .count ≤ 64 ⌝ ∗ ⌜ at + 3 * (outer .count + inner .count) ≤ length (now out) ⌝ }
     ensures { λ w. ⌜ Wrote (now (out .entry)) at (indices false (strip (vertex outer) (vertex inner) (outer .count) (inner .count))) (now (out .exit)) w ⌝ }

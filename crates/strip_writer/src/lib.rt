@@ -1,4 +1,4 @@
-// A strip written the quicker way: by turns where that is known to be the rule's way, and by the rule elsewhere.
+// Writes a strip the faster way: in pairs of steps where the rule is known to give them, else step by step by the rule.
 mod alternate;
 
 ghost use Prim.Native.Nat.{_+_, _*_, _≤_};
@@ -9,7 +9,7 @@ ghost use Rattle.strip.specs.Lines.{vertex};
 ghost use Rattle.strip.specs.Strips.{strip};
 use strip::line::Line;
 
-// By turns where the outer line has two segments more, as nearly all strips have it, and step by step elsewhere.
+// Writes pairs of steps if the outer line has two segments more, as in nearly all strips; else step by step.
 pub fn write_strip(out: &mut [u16], at: usize, outer: Line, inner: Line, positive: bool) -> usize
     requires { ⌜ outer .count ≤ 64 ⌝ ∗ ⌜ inner .count ≤ 64 ⌝ ∗ ⌜ at + 3 * (outer .count + inner .count) ≤ length (now out) ⌝ }
     ensures { λ r. ⌜ Wrote (now (out .entry)) at (indices positive (strip (vertex outer) (vertex inner) (outer .count) (inner .count))) (now (out .exit)) r ⌝ }

@@ -1,4 +1,5 @@
--- Examples that a reader can compare with the paper: the whole output for one triangle record, the other first line, and the shortest and a longest number. Assumes nothing.
+-- Examples to compare with the paper: the whole output for one triangle record, the other title, and the shortest and a longest
+-- number. Assumes nothing.
 use Prim.Native.Nat.{ℕ}
 use mathlib.Core.Path.{_≡_, refl}
 use mathlib.Core.List.{List, [], _∷_, _++_}

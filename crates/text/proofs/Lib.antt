@@ -1,4 +1,4 @@
--- Laws of text that callers may cite.
+-- The laws of `text`.
 pub mod Digits
 pub mod Writes
 pub mod Lines

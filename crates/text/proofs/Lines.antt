@@ -1,4 +1,4 @@
--- Laws of `line`, one for every number of columns: its parts, how it is written, and how long it is. Assumes nothing.
+-- Laws of `line` for any number of columns: its parts, how it is written, and its length. Assumes nothing.
 use mathlib.Core.Path.{_≡_, refl}
 use mathlib.Core.List.{List, [], _∷_, _++_, append-assoc}
 use Prim.Native.Nat.{ℕ, zero, suc, _+_, _*_, _^_, _≤_, _<_}
@@ -18,17 +18,17 @@ pub line-last : (x : ℕ) → line (x ∷ []) ≡ digits x ++ (10 ∷ [])
 unfolding line
 line-last x = refl
 
--- a number that is not the last
+-- a number before the last
 pub line-more : (x y : ℕ) (ys : List ℕ) → line (x ∷ y ∷ ys) ≡ digits x ++ (32 ∷ []) ++ line (y ∷ ys)
 unfolding line
 line-more x y ys = simp append-assoc
 
--- a number is written, and then the rest of its line
+-- one number is written, then the rest of its line
 pub line-then : {xs xs₁ xs₂ : List ℕ} {at w r : ℕ} (x y : ℕ) (ys : List ℕ) → at ≤ length xs → Wrote xs at (digits x ++ (32 ∷ [])) xs₁ w
     → Wrote xs₁ w (line (y ∷ ys)) xs₂ r → Wrote xs at (line (x ∷ y ∷ ys)) xs₂ r
 line-then x y ys h p q = rw line-more (wrote-then h p q)
 
--- ---- the line of a part of a list
+-- ---- the line for part of a list
 
 part-cons : (xs : List ℕ) (j end : ℕ) → j < end → end ≤ length xs → slice j end xs ≡ getD xs j 0 ∷ slice (j + 1) end xs
 part-cons xs j end h l = rw add-one (slice-cons j end xs 0 h l)
@@ -43,7 +43,7 @@ pub part-three : (xs : List ℕ) (k : ℕ) → k + 3 ≤ length xs → slice k (
 part-three xs k h =
     rw (part-cons xs k (k + 3) (omega arith) h, part-cons xs (k + 1) (k + 3) (omega arith) h, add-assoc k 1 1, part-cons xs (k + 2) (k + 3) (omega arith) h, add-assoc k 2 1, slice-empty)
 
--- ---- how long it is
+-- ---- the length of a line
 
 pub line-last-length : (x : ℕ) → length (line (x ∷ [])) ≡ length (digits x) + 1
 unfolding line
@@ -58,7 +58,7 @@ part-last-length xs j last end e f l = rw (part-last xs j last end e f l, length
 pub part-more-length : (xs : List ℕ) (j end : ℕ) → j + 1 < end → end ≤ length xs → length (line (slice j end xs)) ≡ length (digits (getD xs j 0)) + 1 + length (line (slice (j + 1) end xs))
 part-more-length xs j end h l = rw (part-more xs j end h l, length-append, length-append)
 
--- every number of a list is below n
+-- every number in the list is below n
 pub data Below (n : ℕ) : List ℕ → Type 0 where
   none : Below n []
   more : {x : ℕ} {xs : List ℕ} → x < n → Below n xs → Below n (x ∷ xs)
@@ -83,7 +83,7 @@ unfolding line
 line-length d [] b = omega arith
 line-length d (x ∷ xs) (more h b) = rw (length-append, mul-suc) (omega (arith, digits-length x d h, line-length d xs b))
 
--- a part of a list
+-- for part of a list
 pub part-length : (d j n : ℕ) (xs : List ℕ) → Below (10 ^ suc d) xs → length (line (slice j (j + n) xs)) ≤ suc (suc d) * n
 part-length d j n xs b =
     let l : length (slice j (j + n) xs) ≤ n = rw (length-drop, length-take) (omega arith) in

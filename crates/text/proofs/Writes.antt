@@ -1,4 +1,4 @@
--- Laws of bytes that are written one at a time. Assumes nothing.
+-- Laws of bytes written one at a time. Assumes nothing.
 use mathlib.Core.Path.{_≡_, refl}
 use mathlib.Core.List.{List, [], _∷_, _++_}
 use Prim.Native.Nat.{ℕ, _+_, _<_}
@@ -12,6 +12,6 @@ use Rattle.buffer.proofs.Laws.{over-set}
 pub wrote-one : (xs : List ℕ) (at v : ℕ) → at < length xs → Wrote xs at (v ∷ []) (set xs at v) (at + 1)
 wrote-one xs at v h = record { is = over-set xs at v h; next = refl }
 
--- what is left of a list: its next byte, and the rest
+-- the rest of a list from i on: one byte, then the rest after it
 pub rest-step : (s : List ℕ) (i : ℕ) → i < length s → drop i s ≡ (getD s i 0 ∷ []) ++ drop (i + 1) s
 rest-step s i h = rw add-one (drop-cons s i 0 h)

@@ -1,4 +1,4 @@
--- What the contracts of `text` cite.
+-- The definitions of `text`.
 pub mod Digits
 pub mod Lines
 pub mod Heads

@@ -1,4 +1,4 @@
-// The lines that carry words.
+// The lines that contain words.
 ghost use mathlib.Core.List.{[], _∷_, _++_};
 ghost use Prim.Native.Nat.{_+_, _≤_};
 ghost use lib.ListN.{length};
@@ -9,7 +9,7 @@ use crate::bytes::put_bytes;
 use crate::line::put_line1;
 use crate::line::put_line2;
 
-// A word and a number on a line.
+// Writes a line of a word and a number.
 fn put_worded(out: &mut [u8], at: usize, word: &[u8], n: u32) -> usize
     requires { ⌜ at + length (now word) + 11 ≤ length (now out) ⌝ }
     ensures { λ r. ⌜ Wrote (now (out .entry)) at (now (word .entry) ++ line (n ∷ [])) (now (out .exit)) r ⌝ }
@@ -19,7 +19,7 @@ fn put_worded(out: &mut [u8], at: usize, word: &[u8], n: u32) -> usize
     put_line1(out, w, n)
 }
 
-// The first line of all, by the version of the job file.
+// Writes the title: the first line of the output, with the version of the job file.
 pub fn put_title(out: &mut [u8], at: usize, version: u32) -> usize
     requires { ⌜ at + 15 ≤ length (now out) ⌝ }
     ensures { λ r. ⌜ Wrote (now (out .entry)) at (titleLine version) (now (out .exit)) r ⌝ }
@@ -28,7 +28,7 @@ pub fn put_title(out: &mut [u8], at: usize, version: u32) -> usize
     put_worded(out, at, b"TSJ ", version)
 }
 
-// The first line of a record that was drawn.
+// Writes the first line of a drawn record.
 pub fn put_drawn(out: &mut [u8], at: usize, points: u32, indices: u32) -> usize
     requires { ⌜ at + 28 ≤ length (now out) ⌝ }
     ensures { λ r. ⌜ Wrote (now (out .entry)) at (drawnLine points indices) (now (out .exit)) r ⌝ }
@@ -38,7 +38,7 @@ pub fn put_drawn(out: &mut [u8], at: usize, points: u32, indices: u32) -> usize
     put_line2(out, w, points, indices)
 }
 
-// The answer to a record that was discarded.
+// Writes the line of a discarded record.
 pub fn put_discarded(out: &mut [u8], at: usize) -> usize
     requires { ⌜ at + 10 ≤ length (now out) ⌝ }
     ensures { λ r. ⌜ Wrote (now (out .entry)) at discardedLine (now (out .exit)) r ⌝ }
@@ -46,7 +46,7 @@ pub fn put_discarded(out: &mut [u8], at: usize) -> usize
     put_bytes(out, at, b"discarded\n")
 }
 
-// The answer to a record that was refused, by its number.
+// Writes the line of a refused record, with the number of the refusal.
 pub fn put_refused(out: &mut [u8], at: usize, n: u32) -> usize
     requires { ⌜ at + 19 ≤ length (now out) ⌝ }
     ensures { λ r. ⌜ Wrote (now (out .entry)) at (refusedLine n) (now (out .exit)) r ⌝ }

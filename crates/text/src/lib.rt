@@ -1,4 +1,4 @@
-// The text of answers as bytes: numbers in decimal, lines of numbers, and the lines that carry words.
+// The text of answers as bytes: decimal numbers, lines of numbers, and the lines that contain words.
 mod bytes;
 mod head;
 mod line;

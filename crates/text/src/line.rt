@@ -7,7 +7,7 @@ ghost use Rattle.text.specs.Digits.{digits};
 ghost use Rattle.text.specs.Lines.{line};
 use crate::number::put_number;
 
-// A number and the byte after it.
+// Writes a number and the byte after it.
 pub fn put_ended(out: &mut [u8], at: usize, x: u32, end: u8) -> usize
     requires { ⌜ at + length (digits x) + 1 ≤ length (now out) ⌝ }
     ensures { λ r. ⌜ Wrote (now (out .entry)) at (digits x ++ (end ∷ [])) (now (out .exit)) r ⌝ }
@@ -17,7 +17,7 @@ pub fn put_ended(out: &mut [u8], at: usize, x: u32, end: u8) -> usize
     w + 1
 }
 
-// One number on a line.
+// Writes one number as a line.
 pub fn put_line1(out: &mut [u8], at: usize, x: u32) -> usize
     requires { ⌜ at + length (line (x ∷ [])) ≤ length (now out) ⌝ }
     ensures { λ r. ⌜ Wrote (now (out .entry)) at (line (x ∷ [])) (now (out .exit)) r ⌝ }
@@ -25,7 +25,7 @@ pub fn put_line1(out: &mut [u8], at: usize, x: u32) -> usize
     put_ended(out, at, x, b'\n')
 }
 
-// Two numbers on a line.
+// Writes two numbers as a line.
 pub fn put_line2(out: &mut [u8], at: usize, x: u32, y: u32) -> usize
     requires { ⌜ at + length (line (x ∷ y ∷ [])) ≤ length (now out) ⌝ }
     ensures { λ r. ⌜ Wrote (now (out .entry)) at (line (x ∷ y ∷ [])) (now (out .exit)) r ⌝ }
@@ -34,7 +34,7 @@ pub fn put_line2(out: &mut [u8], at: usize, x: u32, y: u32) -> usize
     put_line1(out, w, y)
 }
 
-// Three numbers on a line.
+// Writes three numbers as a line.
 pub fn put_line3(out: &mut [u8], at: usize, x: u32, y: u32, z: u32) -> usize
     requires { ⌜ at + length (line (x ∷ y ∷ z ∷ [])) ≤ length (now out) ⌝ }
     ensures { λ r. ⌜ Wrote (now (out .entry)) at (line (x ∷ y ∷ z ∷ [])) (now (out .exit)) r ⌝ }

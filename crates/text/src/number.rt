@@ -1,11 +1,11 @@
-// A number in decimal.
+// Decimal numbers.
 ghost use mathlib.Core.List.{[], _∷_};
 ghost use Prim.Native.Nat.{_+_, _/_, _%_, _≤_, _<_};
 ghost use lib.ListN.{length};
 ghost use Rattle.buffer.specs.Over.{Wrote};
 ghost use Rattle.text.specs.Digits.{digits};
 
-// Two digits.
+// Writes two digits.
 fn put_pair(out: &mut [u8], at: usize, x: u32) -> usize
     requires { ⌜ x < 100 ⌝ ∗ ⌜ at + 2 ≤ length (now out) ⌝ }
     ensures { λ r. ⌜ Wrote (now (out .entry)) at ((48 + x / 10) ∷ (48 + x % 10) ∷ []) (now (out .exit)) r ⌝ }
@@ -15,7 +15,7 @@ fn put_pair(out: &mut [u8], at: usize, x: u32) -> usize
     at + 2
 }
 
-// All digits of x, two at a time from the end.
+// Writes the digits of x, two at a time from the end.
 pub fn put_number(out: &mut [u8], at: usize, x: u32) -> usize
     requires { ⌜ at + length (digits x) ≤ length (now out) ⌝ }
     ensures { λ r. ⌜ Wrote (now (out .entry)) at (digits x) (now (out .exit)) r ⌝ }
@@ -31,7 +31,7 @@ pub fn put_number(out: &mut [u8], at: usize, x: u32) -> usize
     put_pair(out, w, x % 100)
 }
 
-// All digits of a longer x: the last one, after those before it.
+// Writes the digits of a 64-bit x: first those before the last digit, then the last.
 pub fn put_long(out: &mut [u8], at: usize, x: u64) -> usize
     requires { ⌜ at + length (digits x) ≤ length (now out) ⌝ }
     ensures { λ r. ⌜ Wrote (now (out .entry)) at (digits x) (now (out .exit)) r ⌝ }

@@ -1,9 +1,9 @@
-// Prints samples of every kind of line: the whole output for one record, numbers of one digit to ten, and the other answers.
+// Prints samples of every kind of line: the whole output for one record, numbers of one to ten digits, and the other answers.
 ghost use Prim.Native.Nat.{_+_, _≤_};
 ghost use lib.ListN.{length};
 use libc::STDOUT_FILENO;
 
-// Three words a point.
+// Three words per point.
 #[rattlefmt::skip]
 const VERTICES: [u32; 12] = [
     0, 196608, 0,
@@ -12,7 +12,7 @@ const VERTICES: [u32; 12] = [
     65536, 65536, 65536,
 ];
 
-// A triangle patch of four points and three triangles, after the title.
+// Writes the title, and a triangle patch of four points and three triangles.
 fn put_record(out: &mut [u8], at: usize) -> usize
     requires { ⌜ at + 229 ≤ length (now out) ⌝ }
     ensures { λ r. ⌜ r ≤ at + 229 ⌝ }
@@ -25,7 +25,7 @@ fn put_record(out: &mut [u8], at: usize) -> usize
     list_text::put_primitives(out, c, &indices, 3, 0, 3)
 }
 
-// A number as a line of its own.
+// Writes a number as a line.
 fn put_one(out: &mut [u8], at: usize, x: u32) -> usize
     requires { ⌜ at + 11 ≤ length (now out) ⌝ }
     ensures { λ r. ⌜ r ≤ at + 11 ⌝ }
@@ -33,7 +33,7 @@ fn put_one(out: &mut [u8], at: usize, x: u32) -> usize
     text::put_line1(out, at, x)
 }
 
-// Six numbers.
+// Writes six numbers.
 fn put_six(out: &mut [u8], at: usize, numbers: [u32; 6]) -> usize
     requires { ⌜ at + 66 ≤ length (now out) ⌝ }
     ensures { λ r. ⌜ r ≤ at + 66 ⌝ }
@@ -47,7 +47,7 @@ fn put_six(out: &mut [u8], at: usize, numbers: [u32; 6]) -> usize
     w
 }
 
-// Numbers of one digit to ten.
+// Writes numbers of one to ten digits.
 fn put_numbers(out: &mut [u8], at: usize) -> usize
     requires { ⌜ at + 132 ≤ length (now out) ⌝ }
     ensures { λ r. ⌜ r ≤ at + 132 ⌝ }
@@ -60,7 +60,7 @@ fn put_numbers(out: &mut [u8], at: usize) -> usize
     )
 }
 
-// Answers without a list, primitives of one and of two indices, and the title of a file of version 2.
+// Writes answers without lists, primitives of one and of two indices, and the title of version 2.
 fn put_rest(out: &mut [u8], at: usize) -> usize
     requires { ⌜ at + 134 ≤ length (now out) ⌝ }
     ensures { λ r. ⌜ r ≤ at + 134 ⌝ }

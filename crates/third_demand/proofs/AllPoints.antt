@@ -1,5 +1,4 @@
--- Cover and seams of a list that holds all points of a patch, whatever call it comes from: the one law that every drawing call uses.
--- Assumes nothing.
+-- Cover and seams of a list of all points of a patch, whatever call wrote it: the law that every drawing call uses. Assumes nothing.
 use Prim.Native.Nat.{ℕ, zero, suc, _+_, _<_}
 use mathlib.Core.Path.{_≡_, sym, ap, ap₂, _∙_}
 use mathlib.Core.Bool.{Bool, false}
@@ -40,7 +39,7 @@ mirrors-at edge ps n j (r ∷ es) p zero h e =
 mirrors-at edge ps n j (r ∷ es) p (suc k) h e = mirrors-at edge ps n (suc j) es (p .2) k (omega arith) (omega arith)
 
 module _ {set : Settings} {p : Patch} {ps : List Point} where
-  -- demand 3 with the indices of the definition; seams ask for no indices
+  -- demand 3 with the index words of the definition; seams need no indices
   pub all-demand : AllPoints set p ps → Demand set p ps (indexWords set (subdivision (set .spacing) (set .top) p))
   all-demand a = rw (a .are) (demand set (a .top) p (a .drawn))
 
@@ -52,7 +51,7 @@ module _ {set : Settings} {p : Patch} {ps : List Point} where
       mirrors-at (edges p) ps k 0 (outerRuns (set .spacing) (set .top) p) (all-demand a .seams (e .surface)) k
       (omega (arith, e .number, length-map (outers p) (λ (x : Float). run (segmentsOf (set .spacing) (set .top) x)))) (omega arith)
 
--- two edges with the same spacing, level and top
+-- two edges with the same spacing, level and top level
 pub seam-between : {set set′ : Settings} {p p′ : Patch} {ps ps′ : List Point} → AllPoints set p ps → AllPoints set′ p′ ps′ → (j k : ℕ) → IsEdge p j → IsEdge p′ k
     → EdgesAlike set set′ p p′ j k → Seam set p p′ j k ps ps′
 seam-between a b j k e f h = record {
@@ -61,14 +60,14 @@ seam-between a b j k e f h = record {
   mirrors = edge-mirrors a j e;
 }
 
--- a piece of the outline is a side once, as no side occurs twice
+-- a piece of the outline is a side exactly once, as no side occurs twice
 once : {positive : Bool} {area : ℕ} {outline ps : List Point} {ts : List Face} → Cover positive area outline ps ts
     → (k : ℕ) → k < length outline → OccursOnce (piece positive outline k) (sides ts)
 once c k h =
     let o = c .outlined k h in
     record { number = o .0; below = o .1; here = o .2; alone = λ j b e. c .single j (o .0) b (o .1) (e ∙ sym (o .2)) }
 
--- the third demand, of any calls that draw all points
+-- the third demand, for any calls that draw all points
 pub demand-of : (Drew : Settings → Patch → List Point → Type 0) → ((set′ : Settings) (p′ : Patch) (ps′ : List Point) → Drew set′ p′ ps′ → AllPoints set′ p′ ps′)
     → {set : Settings} {p : Patch} {ps : List Point} {ws : List ℕ} → Surface p → AllPoints set p ps → Demand set p ps ws → ThirdDemand Drew set p ps ws
 demand-of Drew all f a d = record {

@@ -1,5 +1,4 @@
--- The third demand of what the two drawing operations wrote, and the seam between the points of any two patches.
--- Assumes nothing.
+-- The third demand for what the two drawing operations wrote, and the seam between the points of any two patches. Assumes nothing.
 use Prim.Native.Nat.{ℕ, _*_}
 use mathlib.Core.Path.{_≡_}
 use mathlib.Core.List.{List}
@@ -24,14 +23,14 @@ drew-all set p r d e = let h = points-drawn set p r d e in record { top = h .0; 
 pub wrote-all : {set : Settings} {p : Patch} {ps : List Point} → WrotePoints set p ps → AllPoints set p ps
 wrote-all {set} {p} (wrote r v v′ P d e) = drew-all set p r d e
 
--- take any two outer edges, of one patch or of two, drawn with or without the point switch: with the same spacing, level and top, the points
--- that the two operations wrote lie at the same places on them, q(0) to q(n), and these mirror
+-- on any two outer edges with the same spacing, level and top level, of one patch or of two, in point mode or not, the points
+-- that the operations wrote have the same places q(0) to q(n), and these mirror
 pub drawn-seam : {set set′ : Settings} {p p′ : Patch} (r r′ : PointsAnswer) {v v′ w w′ : List ℕ} {P Q : ℕ} → DrewPoints set p v v′ r → DrewPoints set′ p′ w w′ r′
     → toldPoints r ≡ drew P → toldPoints r′ ≡ drew Q → (j k : ℕ) → IsEdge p j → IsEdge p′ k → EdgesAlike set set′ p p′ j k
     → Seam set p p′ j k (drawnPoints P v′) (drawnPoints Q w′)
 drawn-seam {set} {set′} {p} {p′} r r′ d d′ e e′ = seam-between (drew-all set p r d e) (drew-all set′ p′ r′ d′ e′)
 
--- the third demand of the two lists that the two operations wrote for one patch
+-- the third demand for the two lists that the two operations wrote for one patch
 pub together : (set : Settings) (p : Patch) → Surface p → (r : PointsAnswer) (s : IndicesAnswer) {v v′ i i′ : List ℕ} {P I : ℕ} → DrewPoints set p v v′ r
     → DrewIndices set p i i′ s → toldPoints r ≡ drew P → toldIndices s ≡ drew I → ThirdDemand WrotePoints set p (drawnPoints P v′) (take I i′)
 together set p f r s d d′ e e′ = demand-of WrotePoints (λ t q ps w. wrote-all w) f (drew-all set p r d e) (demand-together set p r s d d′ e e′)

@@ -1,5 +1,4 @@
--- Two outer edges, of one patch or of two, that are to meet without a gap.
--- Assumes nothing.
+-- Two outer edges, of one patch or of two, that meet without a gap. Assumes nothing.
 use Prim.Native.Nat.{ℕ, _<_}
 use mathlib.Core.Path.{_≡_}
 use mathlib.Core.List.{List}
@@ -14,30 +13,30 @@ use Rattle.mesh.specs.Edge.{along}
 use Rattle.drawing.specs.Points.{run}
 use Rattle.drawing.specs.Demand.{Surface, outerLevel, edges}
 
--- an outer edge of a triangle or quad patch
+-- k is an outer edge of p, and p is a triangle or quad patch
 pub record IsEdge (p : Patch) (k : ℕ) : Type 0 where
   pub surface : Surface p
   pub number : k < length (outers p)
 
--- edge j of p and edge k of p′ have the same spacing, level and top; nothing else of patches and settings is asked
+-- edge j of p and edge k of p′ have the same spacing, level and top level; patches and settings may differ in all else
 pub record EdgesAlike (set set′ : Settings) (p p′ : Patch) (j k : ℕ) : Type 0 where
   pub spacing : set .spacing ≡ set′ .spacing
   pub top : set .top ≡ set′ .top
   pub level : outerLevel p j ≡ outerLevel p′ k
 
--- the places of all points drawn that lie on edge k, both ends too, in walk order
+-- the places of all drawn points on edge k, both ends included, in walk order
 abbrev pub placesOn : Patch → ℕ → List Point → List ℕ
 placesOn p k ps = places (edges p k) ps
 
--- q(0) to q(n) of the spacing, the level of edge k and the top
+-- the places q(0) to q(n) that the spacing, the level of edge k and the top level give
 abbrev pub row : Settings → Patch → ℕ → List ℕ
 row set p k = along (run (segmentsOf (set .spacing) (set .top) (outerLevel p k)))
 
--- what is promised of two such edges, where ps and ps′ are the points drawn
+-- what holds for two such edges, where ps and ps′ are the drawn points
 pub record Seam (set : Settings) (p p′ : Patch) (j k : ℕ) (ps ps′ : List Point) : Type 0 where
-  -- both have the same places
+  -- both edges have the same places
   pub same : placesOn p j ps ≡ placesOn p′ k ps′
-  -- these are q(0) to q(n)
+  -- the places are q(0) to q(n)
   pub places : placesOn p j ps ≡ row set p j
-  -- read from the other end, each taken from 65,536, they are the same list
+  -- the places mirror: read from the other end, each subtracted from 65,536, they are the same list
   pub mirrors : Mirrors (placesOn p j ps)

@@ -1,5 +1,4 @@
--- The points that a drawing operation wrote, read off the list that it left.
--- Assumes nothing.
+-- The points that a drawing operation wrote, read from its list at exit. Assumes nothing.
 use Prim.Native.Nat.{ℕ, _*_}
 use mathlib.Core.Path.{_≡_}
 use mathlib.Core.List.{List}
@@ -12,10 +11,10 @@ use Rattle.tessellate.specs.declared.answer.PointsAnswer.{PointsAnswer}
 use Rattle.tessellate.specs.Answers.{drew, toldPoints}
 use Rattle.tessellate.specs.Draws.{DrewPoints}
 
--- all points drawn: P of them, three words each, at the front of a list
+-- the n drawn points at the front of a list, three words each
 abbrev pub drawnPoints : ℕ → List ℕ → List Point
 drawnPoints n v = readPoints (take (3 * n) v)
 
--- drawing the points of a patch was answered with "drawn", and these are all of them
+-- drawing the points of a patch answered "drawn", and these are the points
 pub data WrotePoints (set : Settings) (p : Patch) : List Point → Type 0 where
   wrote : (r : PointsAnswer) (v v′ : List ℕ) (P : ℕ) → DrewPoints set p v v′ r → toldPoints r ≡ drew P → WrotePoints set p (drawnPoints P v′)

@@ -1,2 +1,1 @@
-// The customer's third demand of what the drawing operations wrote: cover and seams, sentence by sentence. Definitions and theorems, with
-// nothing to run.
+// The customer's third demand for what the drawing operations wrote, sentence by sentence. Definitions and theorems, with no code to run.

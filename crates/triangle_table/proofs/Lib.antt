@@ -1,2 +1,2 @@
--- The laws of triangles by their sides in chains.
+-- The laws of `triangle_table`.
 pub mod Walks

@@ -1,5 +1,4 @@
--- A walk through the sides that start where a triangle does.
--- Assumes nothing.
+-- A search along the chain of sides that start at a triangle's first corner. Assumes nothing.
 use Prim.Native.Nat.{ℕ, zero, suc, _+_, _-_, _*_, _/_, _%_, _≤_, _<_}
 use mathlib.Core.Path.{_≡_, refl, sym, ap, _∙_}
 use mathlib.Core.Bool.{Bool, true, false, _&&_, _||_, true≢false}
@@ -25,7 +24,7 @@ test-false : (b : Bool) → (b ≡ true → ⊥) → b ≡ false
 test-false true h = absurd (h refl)
 test-false false h = refl
 
--- a side that starts elsewhere, one that ends elsewhere, and one of another triangle
+-- a side with another start, one with another end, and one of another triangle
 hit-start : (ts : List Triangle) (t : Triangle) (m : ℕ) → (sideStart ts m ≡ t .a → ⊥) → hits ts t m ≡ false
 unfolding hits
 hit-start ts t m h = rw (ne-eqb (sideStart ts m) (t .a) h)
@@ -46,7 +45,7 @@ sought-from ts t n b l h = record {
   passed = λ m k i. elim (decLe b m) [ yes p ↦ h m p i | no p ↦ hit-start ts t m (λ e. last-none ts b (t .a) m k (omega arith) e) ];
 }
 
--- it begins with the last of them
+-- the search begins with the last of these sides
 pub seek-begins : (ts : List Triangle) (t : Triangle) (n k : ℕ) → k ≡ lastFrom ts n (t .a) → Sought ts t n k
 seek-begins ts t n k e = rw e (sought-from ts t n n (omega arith) (λ m p i. absurd (omega arith)))
 
@@ -70,14 +69,14 @@ module _ {ts : List Triangle} {all : ℕ} {heads links : List ℕ} (d : Linked t
   pub seek-less : (k : ℕ) → 0 < k → Sought ts t n k → getD links (k - 1) 0 / 65536 < k
   seek-less k l w = omega (arith, link-before d (k - 1) (omega (arith, w .most)), last-most ts (k - 1) (sideStart ts (k - 1)))
 
--- a hit is a triangle that is t
+-- a hit is a triangle equal to t
 pub seek-meets : (ts : List Triangle) (t : Triangle) (n k : ℕ) → 0 < k → Sought ts t (n * 3) k → hits ts t (k - 1) ≡ true → true ≡ someFace ts t n
 unfolding hits
 seek-meets ts t n k l w h =
     sym (some-here (λ i. sameTriangle (triangleAt ts i) t) n ((k - 1) / 3) (omega (arith, w .most))
     (both-which (isSide ts (t .a) (t .b) (k - 1)) (sameTriangle (triangleAt ts ((k - 1) / 3)) t) h .1))
 
--- a triangle that is t has t's first side
+-- a triangle equal to t has t's first side
 pub record First (s t : Triangle) : Type 0 where
   pub number : ℕ
   pub least : number < 3
@@ -109,7 +108,7 @@ same-first s t h = pick (which-of
         let w = three (eqb (s .a) (t .c)) (eqb (s .b) (t .a)) (eqb (s .c) (t .b)) k in
         record { number = 1; least = omega arith; start = eqb-true (s .b) (t .a) (w .1); end = eqb-true (s .c) (t .b) (w .2) }
 
--- and that side is a hit
+-- that side is a hit
 same-hits : (ts : List Triangle) (t : Triangle) (i m : ℕ) (f : First (triangleAt ts i) t) → m ≡ i * 3 + f .number → sameTriangle (triangleAt ts i) t ≡ true → hits ts t m ≡ true
 unfolding hits
 same-hits ts t i m f e h =
@@ -118,14 +117,14 @@ same-hits ts t i m f e h =
     (same-ends (sideStart ts m) (sideEnd ts m) (t .a) (t .b) (numbered-start ts i (f .number) m e (f .least) ∙ f .start) (numbered-end ts i (f .number) m e (f .least) ∙ f .end))
     (rw q h)
 
--- a walk that came to its end
+-- a search that reached the end of the chain
 pub seek-ends : (ts : List Triangle) (t : Triangle) (n : ℕ) → Sought ts t (n * 3) 0 → false ≡ someFace ts t n
 seek-ends ts t n w = sym (some-none (λ i. sameTriangle (triangleAt ts i) t) n (λ i l. test-false (sameTriangle (triangleAt ts i) t) (λ h. met i l h (same-first (triangleAt ts i) t h))))
   where
     met : (i : ℕ) → i < n → sameTriangle (triangleAt ts i) t ≡ true → First (triangleAt ts i) t → ⊥
     met i l h f = true≢false (sym (same-hits ts t i (i * 3 + f .number) f refl h) ∙ w .passed (i * 3 + f .number) (omega arith) (omega (arith, f .least)))
 
--- where a look for the triangle of number k among those before begins
+-- where the search for triangle k among earlier triangles begins
 pub earlier-from : {ts : List Triangle} {all : ℕ} {heads links : List ℕ} → Linked ts all heads links → (t : Triangle) (k : ℕ) → k * 3 < all → t ≡ triangleAt ts k
     → getD links (k * 3) 0 / 65536 ≡ lastFrom ts (k * 3) (t .a)
 earlier-from {ts} d t k l e = rw e (link-before d (k * 3) l ∙ ap (lastFrom ts (k * 3)) (numbered-start ts k 0 (k * 3) (omega arith) (omega arith)))

@@ -1,5 +1,4 @@
--- Triangles met by their sides.
--- Assumes nothing.
+-- The search for a triangle by its sides. Assumes nothing.
 use Prim.Native.Nat.{ℕ, suc, _/_, _≤_, _<_}
 use mathlib.Core.Path.{_≡_}
 use mathlib.Core.Bool.{Bool, false, _&&_}
@@ -10,15 +9,15 @@ use Rattle.searches.specs.Triangles.{triangleAt}
 use Rattle.side_searches.specs.Same.{sameTriangle}
 use Rattle.side_chains.specs.Sides.{sideStart, isSide}
 
--- is one of the first n triangles t, up to rotation?
+-- whether one of the first n triangles is t, up to rotation
 abbrev pub someFace : List Triangle → Triangle → ℕ → Bool
 someFace ts t n = some (λ i. sameTriangle (triangleAt ts i) t) n
 
--- is side number m t's first side, and its triangle t, up to rotation?
+-- whether side m is the first side of t, and its triangle is t up to rotation
 unfoldable pub hits : List Triangle → Triangle → ℕ → Bool
 hits ts t m = isSide ts (t .a) (t .b) m && sameTriangle (triangleAt ts (m / 3)) t
 
--- a look at the first n sides that start where t does, back to the one before number k, has not met t
+-- a search for t along the chain of its first corner: no side from number k up to n matches, and side k - 1 is the next to test
 pub record Sought (ts : List Triangle) (t : Triangle) (n k : ℕ) : Type 0 where
   pub most : k ≤ n
   pub here : (j : ℕ) → k ≡ suc j → sideStart ts j ≡ t .a

@@ -1,2 +1,2 @@
--- The definitions of triangles by their sides in chains.
+-- The definitions of `triangle_table`.
 pub mod Hits

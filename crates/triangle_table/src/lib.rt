@@ -1,4 +1,4 @@
-// Triangles by the chains of their sides: whether a mesh has a triangle, and whether it has it before a number.
+// The search for a triangle along the chains of its sides: among all triangles of a mesh, or among the first of them.
 ghost use mathlib.Core.Path.{_≡_};
 ghost use mathlib.Core.Bool.{true};
 ghost use Prim.Native.Nat.{_*_, _/_, _%_, _≤_, _<_};
@@ -17,7 +17,7 @@ use side_chains::number::end_at;
 use side_searches::same::same_triangle;
 use strip::triangle::Triangle;
 
-// Fills the table with all sides, those that are there twice too.
+// Fills the table with all sides, repeated ones included.
 pub fn fill(indices: &[u16], heads: &mut [u16], links: &mut [u32])
     requires { ⌜ Zeros (now heads) ⌝ ∗ ⌜ AllNumbered (length (now heads)) (now indices) ⌝ ∗ ⌜ length (now indices) ≤ length (now links) ⌝ ∗ ⌜ length (now indices) < 65536 ⌝ }
     ensures { λ r. ⌜ Linked (readTriangles (now (indices .entry))) (length (now (indices .entry)) / 3 * 3) (now (heads .exit)) (now (links .exit)) ⌝ }
@@ -30,7 +30,7 @@ pub fn fill(indices: &[u16], heads: &mut [u16], links: &mut [u32])
     }
 }
 
-// Whether side number m, with this link, which starts where t starts, goes to t's second corner and its triangle is t, up to rotation.
+// Whether side m, which starts at t's first corner and has this link, ends at t's second corner, and its triangle is t up to rotation.
 fn is_at(indices: &[u16], m: usize, link: u32, t: Triangle) -> bool
     requires { ⌜ m < length (now indices) / 3 * 3 ⌝ ∗ ⌜ link % 65536 ≡ sideEnd (readTriangles (now indices)) m ⌝ ∗ ⌜ sideStart (readTriangles (now indices)) m ≡ t .a ⌝ }
     ensures { λ r. ⌜ r ≡ hits (readTriangles (now (indices .entry))) t m ⌝ }
@@ -41,7 +41,8 @@ fn is_at(indices: &[u16], m: usize, link: u32, t: Triangle) -> bool
     same_triangle(triangle_at(indices, m / 3), t)
 }
 
-// Whether one of the first n triangles is t, up to rotation; `from` is one more than the last of their sides that starts where t does, or 0.
+// Whether one of the first n triangles is t, up to rotation; `from` is one more than the last of their sides that starts at t's
+// first corner, or 0.
 fn walk(indices: &[u16], heads: &[u16], links: &[u32], n: usize, from: usize, t: Triangle) -> bool
     requires { ⌜ Linked (readTriangles (now indices)) (length (now indices) / 3 * 3) (now heads) (now links) ⌝ ∗ ⌜ n ≤ length (now indices) / 3 ⌝ ∗ ⌜ from ≡ lastFrom (readTriangles (now indices)) (n * 3) (t .a) ⌝ }
     ensures { λ r. ⌜ r ≡ someFace (readTriangles (now (indices .entry))) t n ⌝ }
@@ -57,7 +58,7 @@ fn walk(indices: &[u16], heads: &[u16], links: &[u32], n: usize, from: usize, t:
     false
 }
 
-// Whether some triangle is t, up to rotation.
+// Whether one of the triangles is t, up to rotation.
 pub fn has_triangle(indices: &[u16], heads: &[u16], links: &[u32], t: Triangle) -> bool
     requires { ⌜ Linked (readTriangles (now indices)) (length (now indices) / 3 * 3) (now heads) (now links) ⌝ ∗ ⌜ t .a < length (now heads) ⌝ }
     ensures { λ r. ⌜ r ≡ someFace (readTriangles (now (indices .entry))) t (length (now (indices .entry)) / 3) ⌝ }
@@ -73,7 +74,7 @@ pub fn has_triangle(indices: &[u16], heads: &[u16], links: &[u32], t: Triangle) 
     )
 }
 
-// Whether an earlier triangle than number k, which is t, is t up to rotation.
+// Whether a triangle before number k is t, up to rotation; t is triangle k.
 pub fn has_earlier(indices: &[u16], heads: &[u16], links: &[u32], k: usize, t: Triangle) -> bool
     requires { ⌜ Linked (readTriangles (now indices)) (length (now indices) / 3 * 3) (now heads) (now links) ⌝ ∗ ⌜ k < length (now indices) / 3 ⌝ ∗ ⌜ t ≡ triangleAt (readTriangles (now indices)) k ⌝ }
     ensures { λ r. ⌜ r ≡ someFace (readTriangles (now (indices .entry))) t k ⌝ }

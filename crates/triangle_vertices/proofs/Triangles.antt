@@ -1,5 +1,4 @@
--- A triangle patch whose rows are the rows of its edges.
--- Assumes nothing.
+-- A triangle patch whose rows are those of its edges. Assumes nothing.
 use Prim.Native.Nat.{ℕ, _+_, _*_, _≤_}
 use mathlib.Core.Path.{_≡_, ap}
 use mathlib.Core.List.{List, [], _∷_}
@@ -26,7 +25,7 @@ module _ (e0 e1 e2 inside : Segments) {x0 x1 x2 xs : List ℕ} (h0 : x0 ≡ alon
   same : trianglePatch (whole x0) (whole x1) (whole x2) (whole xs) ≡ trianglePatch (run e0) (run e1) (run e2) (run inside)
   same = triangle-are (run e0) (run e1) (run e2) (run inside) h0 h1 h2 h
 
-  -- they are good rows, and there is room for what they give
+  -- the rows are good, and there is room for the points
   pub rows-ready : AllValid (e0 ∷ e1 ∷ e2 ∷ inside ∷ []) × (2 ≤ inside .count) → (out : List ℕ) (at : ℕ) → at + 3 * length (trianglePatch (run e0) (run e1) (run e2) (run inside)) ≤ length out
       → (GoodRow x0 × GoodRow x1 × GoodRow x2 × GoodRow xs × (3 ≤ length xs)) × (at + 3 * length (trianglePatch (whole x0) (whole x1) (whole x2) (whole xs)) ≤ length out)
   rows-ready v out at room =

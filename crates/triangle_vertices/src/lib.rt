@@ -1,2 +1,2 @@
-// The points of a triangle patch, as words of a list, three a point.
+// The points of a triangle patch as words, three per point.
 pub mod triangle;

@@ -1,4 +1,4 @@
-// The points of a triangle patch by the segments of its edges, whose rows stand in the table or are filled in.
+// The points of a triangle patch from the segments of its edges; the rows of places come from the table or are computed.
 ghost use Prim.Native.Nat.{_+_, _*_, _≤_};
 ghost use mathlib.Core.List.{[], _∷_};
 ghost use lib.ListN.{length};
@@ -13,7 +13,7 @@ use stored_rows::row_of;
 use stored_rows::widest;
 use triangle_rows::write_rows;
 
-// A patch whose rows stand in the table.
+// Writes a patch whose rows are in the table.
 fn write_stored(
     out: &mut [u32],
     at: usize,
@@ -33,7 +33,7 @@ fn write_stored(
     write_rows(out, at, r0, r1, r2, r3)
 }
 
-// A patch whose rows are filled in by division, one every 65 words.
+// Writes a patch whose rows are computed by division, one every 65 words.
 fn write_divided(
     out: &mut [u32],
     at: usize,
@@ -58,8 +58,8 @@ fn write_divided(
     write_rows(out, at, r0, r1, r2, r3)
 }
 
-// The outline, then the rings inside it.
-// Of equal spacing the places are the table's, of which no more rows are laid out than the edges need.
+// Writes the outline, then the rings inside. For equal spacing the places come from the table, of which no more rows are copied
+// than the edges need.
 pub fn write_triangle_patch(
     out: &mut [u32],
     at: usize,
@@ -94,7 +94,7 @@ pub fn write_triangle_patch(
     write_divided(out, at, e0, e1, e2, inside)
 }
 
-// The plain patch: its three corners.
+// Writes the plain patch: its three corners.
 pub fn write_plain_triangle(out: &mut [u32], at: usize) -> usize
     requires { ⌜ at + 9 ≤ length (now out) ⌝ }
     ensures { λ w. ⌜ Wrote (now (out .entry)) at (vertexWords triangleCorners) (now (out .exit)) w ⌝ }

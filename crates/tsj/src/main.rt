@@ -1,4 +1,4 @@
-// Reads a job from standard input and writes its answers to standard output.
+// Reads a job from standard input and writes the answers to standard output.
 fn main() {
     let mut header = [0u8; 5];
     let mut records = [0u8; 7680];

@@ -1,2 +1,2 @@
--- The text for the customer's sample, worked out.
+-- The text for the customer's sample, computed.
 pub mod Sample

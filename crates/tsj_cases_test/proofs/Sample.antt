@@ -32,23 +32,23 @@ use Rattle.text.specs.Heads.{bytes}
 use Rattle.patch_text.specs.Answers.{drawnText}
 use Rattle.job_text.specs.Jobs.{answers, jobText}
 
--- triangles, equal spacing, counter-clockwise, lower-left, no dots; the levels 1, 1, 1, 0, 2 and 0
+-- triangles, equal spacing, counter-clockwise, lower-left, no point mode; the levels 1, 1, 1, 0, 2 and 0
 abbrev sampleJob : List ℕ
 sampleJob =
     0x54 ∷ 0x53 ∷ 0x4A ∷ 1 ∷ 0 ∷ 0 ∷ 0 ∷ 1 ∷ 1 ∷ 0 ∷ 0 ∷ 0 ∷ 128 ∷ 63 ∷ 0 ∷ 0 ∷ 128 ∷ 63 ∷ 0 ∷ 0 ∷ 128 ∷ 63 ∷ 0 ∷ 0 ∷ 0 ∷ 0 ∷ 0 ∷ 0 ∷ 0 ∷ 64 ∷ 0 ∷ 0 ∷ 0 ∷ 0 ∷ []
 
--- its text
+-- the text of that job
 pub sample-text : jobText sampleJob ≡ bytes "TSJ 1\ndrawn 4 9\n0 196608 0\n0 0 196608\n196608 0 0\n65536 65536 65536\n0 1 3\n1 2 3\n2 0 3\n"
 unfolding ofBits ofInt isNan le parts segmentsOf asInner position table outerNext stripFrom indices ringAt bandFrom nest some every subdivision ring rings points triangles indexWords vertexWords word
     startsWith headerOf firstOver unknownPlace recordOf recordAt flat digitsIn digits line rows drawnText answers jobText
 sample-text = refl
 
--- the same patch in version 2, with the top level 2, which the inner level 4 is clamped to
+-- the same patch in version 2, with the top level 2, to which the inner level 4 is clamped
 abbrev sampleTwo : List ℕ
 sampleTwo =
     0x54 ∷ 0x53 ∷ 0x4A ∷ 2 ∷ 0 ∷ 0 ∷ 0 ∷ 1 ∷ 1 ∷ 0 ∷ 2 ∷ 0 ∷ 0 ∷ 128 ∷ 63 ∷ 0 ∷ 0 ∷ 128 ∷ 63 ∷ 0 ∷ 0 ∷ 128 ∷ 63 ∷ 0 ∷ 0 ∷ 0 ∷ 0 ∷ 0 ∷ 0 ∷ 128 ∷ 64 ∷ 0 ∷ 0 ∷ 0 ∷ 0 ∷ []
 
--- its text
+-- the text of that job
 pub sample-two-text : jobText sampleTwo ≡ bytes "TSJ 2\ndrawn 4 9\n0 196608 0\n0 0 196608\n196608 0 0\n65536 65536 65536\n0 1 3\n1 2 3\n2 0 3\n"
 unfolding ofBits ofInt isNan le parts segmentsOf asInner position table outerNext stripFrom indices ringAt bandFrom nest some every subdivision ring rings points triangles indexWords vertexWords word
     startsWith headerOf firstOver unknownPlace recordOf recordAt flat digitsIn digits line rows drawnText answers jobText

@@ -1,4 +1,4 @@
-// The program of `tsj`, run on another job: every setting, levels on both sides of every limit, and every refusal of a record.
+// The program `tsj`, run on another job: every setting, levels on both sides of every limit, and every refusal of a record.
 fn main() {
     let mut header = [0u8; 5];
     let mut records = [0u8; 7680];

@@ -1,4 +1,4 @@
-// The program of `tsj`, run on a job of version 2: patches under several tops, and tops that are none.
+// The program `tsj`, run on a job of version 2: patches with several top levels, and with numbers that are not top levels.
 fn main() {
     let mut header = [0u8; 5];
     let mut records = [0u8; 7680];

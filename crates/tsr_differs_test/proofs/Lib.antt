@@ -1,2 +1,2 @@
--- What is said of the customer's sample in a recording, worked out.
+-- The answer for the customer's sample in a recording, computed.
 pub mod Sample

@@ -1,5 +1,4 @@
--- Which meshes are accepted, and what they are.
--- Assumes nothing.
+-- Which meshes are accepted, and what they satisfy. Assumes nothing.
 use Prim.Native.Nat.{ℕ}
 use mathlib.Core.Path.{_≡_, refl, sym, _∙_}
 use mathlib.Core.Bool.{true≢false, false}
@@ -16,7 +15,7 @@ use Rattle.verdict_meaning.specs.Covered.{Covered}
 use Rattle.verdict_meaning.proofs.Verdicts.{answers, checked}
 
 module _ (set : Settings) (p : Patch) (pw iw : List ℕ) where
-  -- accepted is the answer exactly where no fault of any kind is there
+  -- a mesh is accepted exactly if it has no fault
   pub accepted-exactly : Checked set p pw iw Accepted ↔ Accepts set p pw iw
   accepted-exactly = (λ c. c .exactly Accepted .0 refl, λ a. checked set p pw iw (sym (answers set p pw iw Accepted a)))
 
@@ -26,6 +25,6 @@ module _ (set : Settings) (p : Patch) (pw iw : List ℕ) where
     once = patch-sound-once set (k .asked .top) p (s .mesh);
   }
 
-  -- a mesh that is accepted for a patch that is not discarded covers it, and holds every clear spot once
+  -- a mesh that is accepted for a patch that is not discarded covers it, and exactly one triangle holds each spot inside that lies on no side
   pub accepted-covered : Checked set p pw iw Accepted → discards p ≡ false → Covered set p pw iw
   accepted-covered c d = ⊎-elim (λ w. absurd (true≢false (sym (w .1) ∙ d))) (λ w. sound-covered (w .0) (w .1)) (accepted-exactly .0 c)

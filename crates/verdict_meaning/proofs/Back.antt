@@ -1,5 +1,4 @@
--- Where a fault is there, and none of a kind before it, it is the answer.
--- Assumes nothing.
+-- If a fault occurs, and no fault of an earlier kind, it is the answer. Assumes nothing.
 use Prim.Native.Nat.{ℕ, _+_, _*_, _/_, _%_, _≤_, _<_}
 use mathlib.Core.Path.{_≡_, refl, ap, sym, _∙_}
 use mathlib.Core.Bool.{Bool, true, false, cond, _&&_}
@@ -33,7 +32,7 @@ use Rattle.verdict_meaning.proofs.PointTests.{known-tells, inside-tells
 use Rattle.verdict_meaning.proofs.SideTests.{turn-tells, share-tells, closed-tells, drawn-tells}
 use Rattle.verdict_meaning.proofs.Stages.{distinct-of, numbers-of, sound-passed}
 
--- nothing is found, or something is
+-- a search that found nothing, and one that found a fault
 pass : (fault rest : Verdict) (x n : ℕ) → x ≡ n → orElse x n fault rest ≡ rest
 pass fault rest x n e = rw (le-ltb x n (omega arith))
 
@@ -50,7 +49,7 @@ module _ (set : Settings) (p : Patch) (pw iw : List ℕ) where
   abbrev pub mesh : Verdict
   mesh = meshFault (isTriangles p) (turn set) (rim set p) pw iw
 
-  -- how far the answer is known where the stages are passed
+  -- the answer, as far as the stages before are passed
   to-index : Counted set p pw iw → mesh ≡ orElse (firstUnknown iw (length ps)) (length iw) (said.UnknownIndex (firstUnknown iw (length ps))) (pointFault (isTriangles p) (turn set) (rim set p) ps ts)
   unfolding meshFault
   to-index c = rw (eq-eqb (length pw % 3) 0 (c .1 .0), eq-eqb (length iw % 3) 0 (c .1 .1))
@@ -83,7 +82,7 @@ module _ (set : Settings) (p : Patch) (pw iw : List ℕ) where
       to-outline (c .0)
       ∙ pass _ _ _ _ (all-none (closed-tells set p ps iw (distinct-of ps (c .0 .0 .0 .1)) (numbers-of ps iw (c .0 .0 .0 .0 .0 .1))) (c .1))
 
-  -- each answer
+  -- the answer for each fault
   pub not-threes : (Threes pw iw → ⊥) → mesh ≡ said.NotThrees
   unfolding meshFault
   not-threes h = go _ (eqb (length pw % 3) 0) (eqb (length iw % 3) 0) refl refl

@@ -1,5 +1,4 @@
--- The answer of each stage means what it says.
--- Assumes nothing.
+-- The answer of each stage is right. Assumes nothing.
 use Prim.Native.Nat.{ℕ, _+_, _*_, _/_, _%_, _≤_, _<_}
 use mathlib.Core.Path.{_≡_, refl, sym}
 use mathlib.Core.Bool.{Bool, true, false, cond, _&&_}
@@ -32,7 +31,7 @@ use Rattle.verdict_meaning.proofs.PointTests.{known-tells, inside-tells
 use Rattle.verdict_meaning.proofs.SideTests.{turn-tells, share-tells, closed-tells, drawn-tells}
 use Rattle.verdict_meaning.proofs.Stages.{distinct-of, numbers-of, passed-sound}
 
--- either the fault is found, or what comes next is said
+-- the fault if it is found, else the rest
 stage : (P : Verdict → Type 0) (x n : ℕ) (fault rest : Verdict) → (x < n → P fault) → (n ≤ x → P rest) → P (orElse x n fault rest)
 stage P x n fault rest f g = go (ltb x n) refl
   where

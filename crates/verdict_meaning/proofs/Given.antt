@@ -1,4 +1,4 @@
--- What the settings and the patch give to the search for faults: the sign of a triangle's area, and the outline. Assumes nothing.
+-- What the settings and the patch give to the search for faults: the sign of areas, and the outline. Assumes nothing.
 use mathlib.Core.Bool.{Bool}
 use mathlib.Core.List.{List}
 use Rattle.mesh.specs.declared.Point.{Point}

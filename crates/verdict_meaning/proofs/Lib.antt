@@ -1,4 +1,4 @@
--- The laws of what checking a mesh answers, lowest first.
+-- The laws of `verdict_meaning`, lowest first.
 pub mod Given
 pub mod Tells
 pub mod Sides

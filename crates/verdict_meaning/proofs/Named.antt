@@ -1,5 +1,4 @@
--- The right answer by name, as the searches find it: `verdict-told` says that it has the right number and values.
--- Assumes nothing.
+-- The right verdict, as the searches find it; `verdict-told` proves its number and values. Assumes nothing.
 use Prim.Native.Nat.{ℕ}
 use mathlib.Core.Bool.{cond}
 use mathlib.Core.List.{List}
@@ -18,7 +17,7 @@ use Rattle.verdict_meaning.specs.Checks.{isIsolines, isTriangles, isEmpt
 unfoldable pub patchFault : Settings → Patch → List ℕ → List ℕ → Verdict
 patchFault set p pw iw = meshFault (isTriangles p) (positive (set .order) (set .origin)) (outline (set .spacing) (set .top) p) pw iw
 
--- the answer: 11 first of all, then isolines, dots and a patch that should be discarded, then the mesh's own faults
+-- the verdict: a bad top level first, then isolines, dots and a patch that should be discarded, then the faults of the mesh
 unfoldable pub verdict : Settings → Patch → List ℕ → List ℕ → Verdict
 verdict set p pw iw =
     cond (isTop (set .top))

@@ -1,4 +1,4 @@
--- Number and values determine a verdict, and the verdict by name has those that are right. Assumes nothing.
+-- A verdict is determined by its number and values, and the verdict of the searches has the right ones. Assumes nothing.
 use Prim.Native.Nat.{ℕ, _*_, _%_}
 use mathlib.Core.Path.{_≡_, refl, sym, ap, _∙_}
 use mathlib.Core.Bool.{Bool, true, false, cond, _&&_}
@@ -27,7 +27,7 @@ use Rattle.verdict_meaning.proofs.Named.{patchFault, verdict}
 use Rattle.verdict_meaning.specs.Answers.{faultVerdict, meshVerdict, checkVerdict}
 use Rattle.verdict_meaning.specs.Numbers.{toldVerdict}
 
--- ---- no two verdicts have the same number and values
+-- ---- different verdicts have different numbers or values
 abbrev pub verdictIn : ℕ → List ℕ → Verdict
 verdictIn n vs =
     cond (eqb n 0) Accepted
@@ -61,11 +61,11 @@ verdict-back (MissingPiece piece) = refl
 pub same-verdict : (v w : Verdict) → toldVerdict v ≡ toldVerdict w → v ≡ w
 same-verdict v w e = sym (verdict-back v) ∙ ap (λ (t : Told). verdictIn (t .number) (t .values)) e ∙ verdict-back w
 
--- ---- number and values of a verdict that is found in steps
+-- ---- the number and values of a verdict that is found in steps
 record Has (v : Verdict) (t : Told) : Type 0 where
   told : toldVerdict v ≡ t
 
--- the fault of a search that found x among n places, or what comes next; and what comes next unless a test fails
+-- the fault of a search that found x among n places, or the rest; and the rest unless a test fails
 found : (n x : ℕ) (fault : ℕ → Verdict) {rest : Verdict} {t : Told} → Has rest t → Has (cond (ltb x n) (fault x) rest) (cond (ltb x n) (toldVerdict (fault x)) t)
 found n x fault {rest} {t} h = go (ltb x n)
   where

@@ -1,5 +1,5 @@
--- What the two drawing operations give for one patch is accepted: every triangle and quad patch, every setting with a top.
--- Assumes nothing.
+-- What the two drawing operations give for a patch is accepted: for every triangle and quad patch, and all settings with a good
+-- top level. Assumes nothing.
 use Prim.Native.Nat.{ℕ, _+_, _*_}
 use mathlib.Core.Path.{_≡_, refl, sym, ap, _∙_}
 use mathlib.Core.Bool.{Bool, true, false, cond}
@@ -43,7 +43,7 @@ discarded-means set p short need have count e = go (isTop (set .top)) (discards 
     go true false false e d h = other _ h (λ z. omega arith)
 
 module _ (set : Settings) (p : Patch) (surface : Surface p) (filled : set .«point_mode» ≡ false) (a : Verdict) where
-  -- the points and the indices that were drawn, read off the two lists by the counts
+  -- the drawn points and indices, read from the two lists by the counts
   pub drawn-accepted : (r : PointsAnswer) (s : IndicesAnswer) {v v′ i i′ : List ℕ} {P I : ℕ} → DrewPoints set p v v′ r → DrewIndices set p i i′ s
       → toldPoints r ≡ drew P → toldIndices s ≡ drew I → Checked set p (take (3 * P) v′) (take I i′) a → a ≡ Accepted
   drawn-accepted r s d d′ e e′ c =
@@ -52,7 +52,7 @@ module _ (set : Settings) (p : Patch) (surface : Surface p) (filled : set .«poi
       ∙ rw (point-words-drawn set p r d e, indices-drawn set p s d′ e′ .2)
       (answers set p _ _ Accepted (inr (record { asked = record { top = w .0; surface = surface; filled = filled }; kept = w .1 }, drawn-words-sound set (w .0) p surface (w .1) filled)))
 
-  -- a patch that is discarded has nothing drawn, and two empty lists are right
+  -- nothing is drawn for a discarded patch, and two empty lists are accepted
   pub discarded-accepted : (r : PointsAnswer) {v v′ : List ℕ} → DrewPoints set p v v′ r → toldPoints r ≡ refused 1 → Checked set p [] [] a → a ≡ Accepted
   discarded-accepted r {v} d e c =
       let w = discarded-means set p 1 (3 * pointsOf set p) (length v) (pointsOf set p) (sym e ∙ d .answer) in

@@ -1,5 +1,4 @@
--- What the tests of indices and points tell.
--- Assumes nothing.
+-- What the tests of indices and points show. Assumes nothing.
 use Prim.Native.Nat.{ℕ, _+_, _≤_, _<_}
 use mathlib.Core.Path.{_≡_, refl, sym, ap, _∙_}
 use mathlib.Core.Bool.{Bool, true, false, not, _&&_, true≢false}
@@ -50,7 +49,7 @@ is-inside (Triangles a b c i) q h = eq-eqb (q .u + q .v + q .w) 196608 h
 is-inside (Quads a b c d i j) q h = square-in q h
 is-inside (Isolines a b) q h = square-in q h
 
--- a test that is not met
+-- a test does not both hold and fail
 pub clash : {b : Bool} → not b ≡ true → b ≡ true → ⊥
 clash {b = true} h e = true≢false (sym h)
 clash {b = false} h e = true≢false (sym e)

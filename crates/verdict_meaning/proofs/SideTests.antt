@@ -1,5 +1,4 @@
--- What the tests of triangles, sides and the outline tell.
--- Assumes nothing.
+-- What the tests of triangles, sides and the outline show. Assumes nothing.
 use Prim.Native.Nat.{ℕ, zero, suc, _+_, _*_, _/_, _%_, _<_}
 use mathlib.Core.Path.{_≡_, refl, ap, sym, _∙_}
 use mathlib.Core.Bool.{Bool, true, false, not, _&&_, _||_, or-true, true≢false}
@@ -63,7 +62,7 @@ module _ (set : Settings) (p : Patch) (ps : List Point) (iw : List ℕ) where
     bad = λ k l e h. clash e (sign-tests (turn set) _ (rw (face-at ps ts _ k l) at h));
   }
 
-  -- of distinct points
+  -- for distinct points
   module _ (apart : (i j : ℕ) → i < length ps → j < length ps → at ps i ≡ at ps j → i ≡ j)
       (num : (k : ℕ) → k < length ts → Numbered (length ps) (triangleAt ts k)) where
     pub same-numbers : (s t : Triangle) (d e : ℕ) → Numbered (length ps) s → Numbered (length ps) t
@@ -96,7 +95,7 @@ module _ (set : Settings) (p : Patch) (ps : List Point) (iw : List ℕ) where
             (sym (side-of ps ts i (s .d) k (s .d-few)) ∙ s .same ∙ side-of ps ts j (s .e) m (s .e-few)) in
             true≢false (sym (share-has (triangleAt ts i) (triangleAt ts j) (s .d) (s .e) (w .0) (w .1)) ∙ h)
 
-    -- side number m
+    -- side m
     module _ (m : ℕ) (l : m < length ts * 3) where
       abbrev t : Triangle
       t = triangleAt ts (m / 3)

@@ -1,5 +1,4 @@
--- A mesh that has passed all stages is sound, and a sound one has passed them.
--- Assumes nothing.
+-- A mesh that has passed all stages is sound, and a sound mesh passes them. Assumes nothing.
 use Prim.Native.Nat.{ℕ, zero, suc, _+_, _*_, _/_, _%_, _<_}
 use mathlib.Core.Path.{_≡_, refl, ap, sym, _∙_}
 use mathlib.Core.Bool.{Bool}
@@ -37,7 +36,7 @@ pub numbers-of : (ps : List Point) (iw : List ℕ) → Every (KnownAt ps iw) (le
     → (k : ℕ) → k < length (readTriangles iw) → Numbered (length ps) (triangleAt (readTriangles iw) k)
 numbers-of ps iw h k l = numbered (length ps) iw k (record { at = h }) (omega (arith, triangles-count iw))
 
--- sides of one triangle that start at the same corner are the same
+-- sides of a triangle with different corners that start at the same corner are equal
 same-corner : (t : Triangle) (d e : ℕ) → Apart t → d < 3 → e < 3 → startOf t d ≡ startOf t e → d ≡ e
 same-corner t zero zero a l m h = refl
 same-corner t zero (suc zero) a l m h = absurd (a .0 h)
@@ -56,7 +55,7 @@ module _ (set : Settings) (p : Patch) (pw iw : List ℕ) where
   abbrev ts : List Triangle
   ts = readTriangles iw
 
-  -- no side is used twice
+  -- no side occurs twice
   module _ (s : Single set p pw iw) where
     shared : (i j : ℕ) → i / 3 < j / 3 → j < length ts * 3 → side (sidesIn ps iw) i ≡ side (sidesIn ps iw) j → ⊥
     shared i j l m e =
@@ -95,7 +94,7 @@ module _ (set : Settings) (p : Patch) (pw iw : List ℕ) where
         };
       }
 
-  -- the other way
+  -- conversely, a sound mesh has passed all stages
   pub sound-passed : Kept set p → SoundWords set p pw iw → Closed set p pw iw × Every (DrawnAt set p ps iw) (length (outline (set .spacing) (set .top) p))
   sound-passed k w =
       let s = w .mesh in

@@ -1,5 +1,4 @@
--- What a search says where its test tells a property.
--- Assumes nothing.
+-- What the result of a search shows, if its test decides a property. Assumes nothing.
 use Prim.Native.Nat.{ℕ, _≤_, _<_}
 use mathlib.Core.Path.{_≡_, refl, sym, _∙_}
 use mathlib.Core.Bool.{Bool, true, false}
@@ -10,7 +9,7 @@ use Rattle.searches.specs.First.{first, some}
 use Rattle.searches.proofs.First.{Below, first-at, first-none, first-before, first-holds, some-at, some-none, some-all}
 use Rattle.verdict_meaning.specs.Firsts.{Every, FirstNot, NoPair, FirstPair}
 
--- below n the test fails where P holds, and holds where it does not
+-- below n the test fails exactly if P holds
 pub record Tells (t : ℕ → Bool) (P : ℕ → Type 0) (n : ℕ) : Type 0 where
   pub good : (i : ℕ) → i < n → t i ≡ false → P i
   pub bad : (i : ℕ) → i < n → t i ≡ true → P i → ⊥
@@ -23,14 +22,14 @@ module _ {t : ℕ → Bool} {P : ℕ → Type 0} {n : ℕ} (h : Tells t P n) whe
       go true e = absurd (h .bad i l e p)
       go false e = e
 
-  -- found nowhere
+  -- the search found nothing
   pub tells-all : n ≤ first t n → Every P n
   tells-all l i m = h .good i m (first-before t n i (omega arith))
 
   pub all-none : Every P n → first t n ≡ n
   all-none p = first-none t n (λ i l. fails i l (p i l))
 
-  -- found
+  -- the search found a number
   pub tells-first : first t n < n → FirstNot P n (first t n)
   tells-first l = record {
     below = l;
@@ -45,12 +44,12 @@ module _ {t : ℕ → Bool} {P : ℕ → Type 0} {n : ℕ} (h : Tells t P n) whe
       go true e = e
       go false e = absurd (f .here (h .good k (f .below) e))
 
--- below n the test holds of two numbers where P does
+-- below n the test holds for two numbers exactly if P does
 pub record TellsPair (t : ℕ → ℕ → Bool) (P : ℕ → ℕ → Type 0) (n : ℕ) : Type 0 where
   pub yes : (i j : ℕ) → i < j → j < n → t i j ≡ true → P i j
   pub no : (i j : ℕ) → i < j → j < n → t i j ≡ false → P i j → ⊥
 
--- the first number with an earlier one
+-- the first number that passes the test with an earlier one
 abbrev pub later : (ℕ → ℕ → Bool) → ℕ → ℕ
 later t n = first (λ j. some (λ i. t i j) j) n
 

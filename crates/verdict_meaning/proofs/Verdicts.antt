@@ -1,5 +1,4 @@
--- The answer is each one exactly where it is the right one.
--- Assumes nothing.
+-- Each answer is given exactly if it is right. Assumes nothing.
 use Prim.Native.Nat.{ℕ}
 use mathlib.Core.Path.{_≡_, refl, ap, sym, subst, _∙_}
 use mathlib.Core.Bool.{Bool, true, false, cond, _&&_, true≢false}
@@ -60,7 +59,7 @@ not-empty pw iw h = go (isEmpty pw iw) refl
     go false e = refl
 
 module _ (set : Settings) (p : Patch) (pw iw : List ℕ) where
-  -- the answer means what it says
+  -- the answer is right
   pub means : Means set p pw iw (verdict set p pw iw)
   unfolding verdict patchFault
   means = top (isTop (set .top)) refl
@@ -89,7 +88,7 @@ module _ (set : Settings) (p : Patch) (pw iw : List ℕ) where
       top true e = lines (top-as (set .top) e) (isIsolines p) refl
       top false e = no-top (set .top) e
 
-  -- a patch that triangles can be asked of
+  -- triangles can be asked for: the answer by the patch and the mesh
   to-patch : Asked set p → verdict set p pw iw ≡ cond (discards p) (cond (isEmpty pw iw) said.Accepted said.ShouldBeDiscarded) (patchFault set p pw iw)
   unfolding verdict
   to-patch a = rw (is-top (set .top) (a .top), is-surface p (a .surface), a .filled)
@@ -100,7 +99,7 @@ module _ (set : Settings) (p : Patch) (pw iw : List ℕ) where
   empty-accepted : Asked set p → discards p ≡ true → Empty pw iw → verdict set p pw iw ≡ said.Accepted
   empty-accepted a d e = to-patch a ∙ rw (d, is-empty pw iw e)
 
-  -- where an answer is the right one, it is the answer
+  -- if an answer is right, it is given
   pub answers : (v : Verdict) → Means set p pw iw v → verdict set p pw iw ≡ v
   unfolding verdict patchFault
   answers said.BadTop h = rw (top-no (set .top) h)
@@ -120,7 +119,7 @@ module _ (set : Settings) (p : Patch) (pw iw : List ℕ) where
   pub exactly : (v : Verdict) → verdict set p pw iw ≡ v ↔ Means set p pw iw v
   exactly v = (λ h. subst (λ (x : Verdict). Means set p pw iw x) h means, answers v)
 
-  -- the promise
+  -- the whole contract
   pub checked : {r : Verdict} → r ≡ verdict set p pw iw → Checked set p pw iw r
   checked e = record {
     answer = ap toldVerdict e ∙ verdict-told set p pw iw;

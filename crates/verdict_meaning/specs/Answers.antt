@@ -1,5 +1,4 @@
--- The right answer by its number and values: the kinds of fault in the order of finding, each at its first place.
--- Assumes nothing.
+-- The right answer by its number and values: kinds of fault in a fixed order, and of one kind the first place. Assumes nothing.
 use Prim.Native.Nat.{ℕ, _*_, _/_, _%_}
 use mathlib.Core.Bool.{Bool, cond, _&&_}
 use mathlib.Core.List.{List, [], _∷_}
@@ -24,15 +23,15 @@ use Rattle.mesh_faults.specs.Outline.{firstOpen, firstMissing}
 use Rattle.tessellate.specs.Answers.{Told, refused}
 use Rattle.verdict_meaning.specs.Checks.{isIsolines, isTriangles, isEmpty}
 
--- a search among n places found x: where x is one of them this fault with its values, else what comes next
+-- the fault with its values if x is below n, so that a search among n places found one; otherwise the rest
 abbrev pub faultAt : ℕ → ℕ → ℕ → (ℕ → List ℕ) → Told → Told
 faultAt number n x values rest = cond (ltb x n) (record { number = number; values = values x }) rest
 
--- the value of a fault at one place
+-- the values of a fault at one place
 abbrev pub here : ℕ → List ℕ
 here x = x ∷ []
 
--- the faults of points ps and triangles ts: equal points and a side used twice have the first partner before the place
+-- the answer for the points ps and the triangles ts; equal points (26) and a side used twice (28) give the earlier partner first
 unfoldable pub faultVerdict : Bool → Bool → List Point → List Point → List Triangle → Told
 faultVerdict triangles positive outline ps ts =
     faultAt 25 (length ps) (firstOutside triangles ps) here
@@ -42,7 +41,7 @@ faultVerdict triangles positive outline ps ts =
     (faultAt 29 (length ts * 3) (firstOpen positive outline ps ts) (λ m. m / 3 ∷ m % 3 ∷ [])
     (faultAt 30 (length outline) (firstMissing positive outline ps ts) here (refused 0))))))
 
--- of a mesh for a patch that is not discarded, given as words
+-- the answer for a mesh, given as words, of a patch that is not discarded
 unfoldable pub meshVerdict : Settings → Patch → List ℕ → List ℕ → Told
 meshVerdict set p pw iw =
     cond (eqb (length pw % 3) 0 && eqb (length iw % 3) 0)
@@ -50,7 +49,7 @@ meshVerdict set p pw iw =
     (faultVerdict (isTriangles p) (positive (set .order) (set .origin)) (outline (set .spacing) (set .top) p) (readPoints pw) (readTriangles iw)))
     (refused 23)
 
--- of a mesh for any patch
+-- the answer for a mesh of any patch
 unfoldable pub checkVerdict : Settings → Patch → List ℕ → List ℕ → Told
 checkVerdict set p pw iw =
     cond (isTop (set .top))

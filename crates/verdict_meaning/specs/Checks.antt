@@ -1,5 +1,4 @@
--- What the check asks of a patch and of the lists before it looks for faults.
--- Assumes nothing.
+-- What is tested of the patch and of the lists before the faults. Assumes nothing.
 use Prim.Native.Nat.{ℕ}
 use mathlib.Core.Bool.{Bool, true, false, _&&_}
 use mathlib.Core.List.{List}
@@ -8,18 +7,18 @@ use lib.Dec.{eqb}
 use Rattle.patch.specs.declared.kinds.Patch.{Patch}
 use Rattle.patch.specs.declared.kinds.Patch.the-variants as patches
 
--- is the patch of isolines?
+-- whether the patch is an isoline patch
 abbrev pub isIsolines : Patch → Bool
 isIsolines (patches.Triangles a b c i) = false
 isIsolines (patches.Quads a b c d i j) = false
 isIsolines (patches.Isolines a b) = true
 
--- is the patch a triangle?
+-- whether the patch is a triangle patch
 abbrev pub isTriangles : Patch → Bool
 isTriangles (patches.Triangles a b c i) = true
 isTriangles (patches.Quads a b c d i j) = false
 isTriangles (patches.Isolines a b) = false
 
--- are both lists empty?
+-- whether both lists are empty
 abbrev pub isEmpty : List ℕ → List ℕ → Bool
 isEmpty pw iw = eqb (length pw) 0 && eqb (length iw) 0

@@ -1,5 +1,4 @@
--- What an accepted mesh of a patch that is not discarded is.
--- Assumes nothing.
+-- What an accepted mesh of a patch that is not discarded satisfies. Assumes nothing.
 use Prim.Native.Nat.{ℕ}
 use mathlib.Core.List.{List}
 use Rattle.patch.specs.declared.kinds.Patch.{Patch}
@@ -11,10 +10,10 @@ use Rattle.drawing.specs.Words.{readPoints}
 use Rattle.drawing.specs.Demand.{outline, twiceAreaOf, facesIn}
 use Rattle.drawing.specs.Inside.{Inside}
 
--- no hole, no overlap and no turned triangle, by the words pw of its points and iw of its indices
+-- the mesh with the point words pw and the index words iw has no hole, no overlap and no triangle of the wrong orientation
 pub record Covered (set : Settings) (p : Patch) (pw iw : List ℕ) : Type 0 where
-  -- demand 3, all seven sentences, as of what is drawn
+  -- demand 3, as for a drawn mesh
   pub cover : Cover (positive (set .order) (set .origin)) (twiceAreaOf p) (outline (set .spacing) (set .top) p) (readPoints pw) (facesIn (readPoints pw) iw)
-  -- each spot strictly inside that lies on no side is held by exactly one triangle
+  -- exactly one triangle holds each spot that lies strictly inside the patch and on no side
   pub once : (z : Spot) → Inside p z → Clear (facesIn (readPoints pw) iw) z
       → HeldOnce (positive (set .order) (set .origin)) (facesIn (readPoints pw) iw) z

@@ -1,4 +1,4 @@
--- The definitions of what checking a mesh answers.
+-- The definitions of `verdict_meaning`.
 pub mod Checks
 pub mod Firsts
 pub mod Numbers

@@ -1,5 +1,4 @@
--- When each answer is the right one.
--- Assumes nothing.
+-- When each answer is right. Assumes nothing.
 use Prim.Native.Nat.{ℕ, _+_, _*_, _%_, _<_}
 use mathlib.Core.Path.{_≡_}
 use mathlib.Core.Bool.{Bool, true, false}
@@ -24,13 +23,13 @@ use Rattle.verdict_meaning.specs.Answers.{checkVerdict}
 use Rattle.verdict_meaning.specs.Firsts.{Every, FirstNot, NoPair, FirstPair}
 use Rattle.verdict_meaning.specs.Numbers.{toldVerdict}
 
--- triangles can be asked for: the top is one, the patch is a triangle or a quad, and not of dots
+-- triangles can be asked for: a good top level, a triangle or quad patch, and no point mode
 pub record Asked (set : Settings) (p : Patch) : Type 0 where
   pub top : Top (set .top)
   pub surface : Surface p
   pub filled : set .«point_mode» ≡ false
 
--- and the patch is not discarded
+-- the same, and the patch is not discarded
 pub record Kept (set : Settings) (p : Patch) : Type 0 where
   pub asked : Asked set p
   pub kept : discards p ≡ false
@@ -39,7 +38,7 @@ pub record Kept (set : Settings) (p : Patch) : Type 0 where
 abbrev pub Empty : List ℕ → List ℕ → Type 0
 Empty pw iw = (length pw ≡ 0) × (length iw ≡ 0)
 
--- three words a point and three indices a triangle
+-- the numbers of point words and of indices are multiples of three
 abbrev pub Threes : List ℕ → List ℕ → Type 0
 Threes pw iw = (length pw % 3 ≡ 0) × (length iw % 3 ≡ 0)
 
@@ -55,7 +54,7 @@ InsideAt p ps k = InPatch (domainOf p) (getD ps k missing)
 abbrev pub EqualAt : List Point → ℕ → ℕ → Type 0
 EqualAt ps i j = getD ps i missing ≡ getD ps j missing
 
--- triangle k has area and turns the way asked
+-- triangle k has an area, and the orientation asked for
 abbrev pub TurnsAt : Settings → List Point → List ℕ → ℕ → Type 0
 TurnsAt set ps iw k = HasSign (positive (set .order) (set .origin)) (twiceArea (face (facesIn ps iw) k))
 
@@ -67,7 +66,7 @@ pub record SharedAt (ps : List Point) (iw : List ℕ) (i j : ℕ) : Type 0 where
   pub e-few : e < 3
   pub same : side (sidesIn ps iw) (i * 3 + d) ≡ side (sidesIn ps iw) (j * 3 + e)
 
--- side number m, three a triangle, is a piece of the outline or meets its own reverse
+-- side m is a piece of the outline or has its reverse among the sides; each triangle has three sides
 abbrev pub ClosedAt : Settings → Patch → List Point → List ℕ → ℕ → Type 0
 ClosedAt set p ps iw m =
     ((k : ℕ) × (k < length (outline (set .spacing) (set .top) p))
@@ -78,7 +77,7 @@ ClosedAt set p ps iw m =
 abbrev pub DrawnAt : Settings → Patch → List Point → List ℕ → ℕ → Type 0
 DrawnAt set p ps iw k = Occurs (piece (positive (set .order) (set .origin)) (outline (set .spacing) (set .top) p) k) (sidesIn ps iw)
 
--- what has been passed where a fault of each kind is looked for
+-- what holds before faults of each kind are searched for
 abbrev pub Counted : Settings → Patch → List ℕ → List ℕ → Type 0
 Counted set p pw iw = Kept set p × Threes pw iw
 
@@ -100,11 +99,11 @@ Single set p pw iw = Turning set p pw iw × NoPair (SharedAt (readPoints pw) iw)
 abbrev pub Closed : Settings → Patch → List ℕ → List ℕ → Type 0
 Closed set p pw iw = Single set p pw iw × Every (ClosedAt set p (readPoints pw) iw) (length (readTriangles iw) * 3)
 
--- accepted: a discarded patch with two empty lists, or another with a mesh that passes every test
+-- the mesh is accepted: two empty lists for a discarded patch, or a mesh that passes every test for any other patch
 abbrev pub Accepts : Settings → Patch → List ℕ → List ℕ → Type 0
 Accepts set p pw iw = (Asked set p × (discards p ≡ true) × Empty pw iw) ⊎ (Kept set p × SoundWords set p pw iw)
 
--- an answer is the right one: its fault is there, at this first place, and no fault of a kind before it
+-- the answer is right: its fault occurs first at this place, and no fault of an earlier kind occurs
 abbrev pub Means : Settings → Patch → List ℕ → List ℕ → Verdict → Type 0
 Means set p pw iw said.BadTop = Top (set .top) → ⊥
 Means set p pw iw said.Isolines = Top (set .top) × (Surface p → ⊥)
@@ -120,7 +119,7 @@ Means set p pw iw (said.OpenSide k e) = Single set p pw iw × (e < 3) × FirstNo
 Means set p pw iw (said.MissingPiece k) = Closed set p pw iw × FirstNot (DrawnAt set p (readPoints pw) iw) (length (outline (set .spacing) (set .top) p)) k
 Means set p pw iw said.Accepted = Accepts set p pw iw
 
--- what checking promises: the answer's number and values, and that they are those of a verdict exactly where that one is right
+-- the contract of the check: the number and values of the answer, and that they are those of a verdict exactly if that verdict is right
 pub record Checked (set : Settings) (p : Patch) (pw iw : List ℕ) (r : Verdict) : Type 0 where
   pub answer : toldVerdict r ≡ checkVerdict set p pw iw
   pub exactly : (v : Verdict) → toldVerdict r ≡ toldVerdict v ↔ Means set p pw iw v

@@ -1,11 +1,10 @@
--- The number of each answer and the values beside it.
--- Assumes nothing.
+-- The number and the values of each answer. Assumes nothing.
 use mathlib.Core.List.{[], _∷_}
 use Rattle.tessellate.specs.Answers.{Told, refused}
 use Rattle.mesh_verdict.specs.declared.Verdict.{Verdict}
 use Rattle.mesh_verdict.specs.declared.Verdict.the-variants.{BadTop, Isolines, Dots, ShouldBeDiscarded, NotThrees, UnknownIndex, Outside, EqualPoints, Turned, SideTwice, OpenSide, MissingPiece, Accepted}
 
--- accepted is 0 and a bad top 11, as everywhere; the faults are 20 and on in the order of finding, which no other answer uses
+-- 0 is accepted, 11 a bad top level, 20 and up are the faults in the order of finding
 abbrev pub toldVerdict : Verdict → Told
 toldVerdict Accepted = refused 0
 toldVerdict BadTop = refused 11

@@ -1,1 +1,1 @@
-// When each answer of checking a mesh is the right one, and what an accepted mesh is: definitions and theorems, with nothing to run.
+// When each answer of checking a mesh is right, and what an accepted mesh satisfies. Definitions and theorems, with no code to run.

@@ -1,5 +1,4 @@
--- A ring is written edge after edge.
--- Assumes nothing.
+-- A ring is written edge by edge. Assumes nothing.
 use Prim.Native.Nat.{ℕ, suc, _+_, _*_, _≤_}
 use mathlib.Core.Path.{_≡_, refl, ap}
 use mathlib.Core.List.{List, [], _∷_, _++_, append-nil}
@@ -14,7 +13,7 @@ use Rattle.vertices.specs.Edges.{edgePoints}
 use Rattle.mesh.proofs.Words.{words-length}
 use Rattle.vertices.proofs.Words.{words-append, table-words}
 
--- the edges k, k + 1, .. of a ring are left to write, into out from w on, when ys are written into xs from `at` on
+-- the edges k, k + 1, .. of a ring are left to write, into `out` from w on, where ys are written into xs from `at` on
 pub record EdgesLeft (place : ℕ → ℕ → ℕ → Point) (d k : ℕ) (es : List Run) (out : List ℕ) (w : ℕ) (xs : List ℕ) (at : ℕ) (ys : List ℕ) : Type 0 where
   pub left : Left out w (vertexWords (ring place k es d)) xs at ys
 

@@ -1,5 +1,4 @@
--- Where the writers find the rows of a patch's edges: in the table, or where they were filled in.
--- Assumes nothing.
+-- Where the writers find the rows of a patch's edges: in the table, or in the list of computed rows. Assumes nothing.
 use Prim.Native.Nat.{ℕ, _+_, _≤_}
 use mathlib.Core.Path.{_≡_}
 use mathlib.Core.Logic.{inr}
@@ -13,13 +12,13 @@ use Rattle.edge.proofs.Rows.{row-kept}
 use Rattle.stored_rows.proofs.StoredRows.{row-stored}
 use Rattle.vertices.specs.Rows.{Stored, AllStored, AllValid}
 
--- ---- filled in: a row stays where the row of s is filled in 65 words or more before it
+-- ---- computed rows: a row stays unchanged when the row of s is computed at least 65 words before it
 pub kept : (s : Segments) → s .count ≤ 64 → {xs ys : List ℕ} {from : ℕ} → Filled xs from (s .count) (s .scaled) ys → (k : ℕ) {n L : ℕ} → RowAt xs (from + 65 + k) n L
     → RowAt ys (from + 65 + k) n L
 kept s few f k r = row-kept f (inr (omega arith)) r
 
--- ---- in the table, of which m rows are taken
--- the widest of each edge and those before it
+-- ---- rows in the table, of which m are taken
+-- the most segments of each edge and those before it
 pub data Widths : ℕ → List Segments → ℕ → Type 0 where
   last : {before r : ℕ} {s : Segments} → Widest before s r → Widths before (s ∷ []) r
   then : {before r end : ℕ} {s : Segments} {ss : List Segments} → Widest before s r → Widths r ss end → Widths before (s ∷ ss) end
@@ -35,7 +34,7 @@ module _ (m : ℕ) (few : m ≤ 64) where
         let q = w .own (omega arith) in
         rw (e, q .scaled) (row-stored m (s .count) (v .some) (omega (arith, q .few)))
 
-    -- each edge has its row there
+    -- each edge has its row in the table
     pub all-stored : {before end : ℕ} {ss : List Segments} → end ≤ m → AllValid ss → Widths before ss end → AllStored rows ss
     all-stored k v (last w) = one-stored k v w
     all-stored k v (then w (last x)) = (one-stored (within k (last x)) (v .0) w, one-stored k (v .1) x)

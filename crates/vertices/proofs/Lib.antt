@@ -1,4 +1,4 @@
--- The laws that the writers' proofs share.
+-- The laws that the proofs of the writers share.
 pub mod Words
 pub mod Loops
 pub mod Parts

@@ -1,5 +1,4 @@
--- The invariants of the loops that write points one after the other, and rows of points.
--- Assumes nothing.
+-- The invariants of the loops that write points, and rows of points. Assumes nothing.
 use Prim.Native.Nat.{ℕ, _+_, _*_, _≤_, _<_}
 use mathlib.Core.Path.{_≡_, refl, subst}
 use mathlib.Core.List.{List}
@@ -34,7 +33,7 @@ pub points-done : (f : ℕ → Point) {i n : ℕ} {out : List ℕ} {w : ℕ} {xs
     → Wrote xs at (vertexWords (table f n)) out w
 points-done f {n = n} h c = rw (words-table f n) (count-done h c)
 
--- the places of a clear edge that it writes
+-- the places of a clear edge that the loop writes
 module _ (d i : ℕ) (row : List ℕ) (c : Clear d (listed row)) (h : i < length row) where
   pub clear-low : d ≤ places row i
   clear-low = c i h .0
@@ -45,7 +44,7 @@ module _ (d i : ℕ) (row : List ℕ) (c : Clear d (listed row)) (h : i < length
   pub clear-most : places row i ≤ 65536
   clear-most = omega (arith, clear-high)
 
--- all that the needs of such a loop ask
+-- all facts that the needs of such a loop use
 pub ruleset points = (points-start, points-fits, points-step, points-done, clear-low, clear-high, clear-most, needs)
 
 -- ---- a loop that writes h rows of n points each, P 0 0, P 0 1, .. P 1 0, ..

@@ -1,5 +1,4 @@
--- A row of places without its ends.
--- Assumes nothing.
+-- A row of places without its ends. Assumes nothing.
 use Prim.Native.Nat.{ℕ, suc, _-_, _<_}
 use mathlib.Core.Path.{_≡_, ap, _∙_}
 use mathlib.Core.List.{List}

@@ -1,5 +1,4 @@
--- Points in two parts, the second written after the first.
--- Assumes nothing.
+-- Points in two parts; the second is written after the first. Assumes nothing.
 use Prim.Native.Nat.{ℕ, _+_, _*_, _≤_}
 use mathlib.Core.Path.{_≡_, ap, _∙_, subst}
 use mathlib.Core.List.{List, _++_}
@@ -12,7 +11,7 @@ use Rattle.mesh.specs.Words.{vertexWords}
 use Rattle.mesh.proofs.Words.{words-length}
 use Rattle.vertices.proofs.Words.{words-append}
 
--- the points `all` are ps and then qs, and a list xs has room for their words from `at` on
+-- the points `all` are ps and then qs, and the list xs has room for their words from `at` on
 pub record Parts (all ps qs : List Point) (xs : List ℕ) (at : ℕ) : Type 0 where
   pub is : all ≡ ps ++ qs
   pub room : at + 3 * length all ≤ length xs
@@ -34,6 +33,6 @@ module _ {all ps qs : List Point} {xs : List ℕ} {at : ℕ} (p : Parts all ps q
       → Wrote xs at (vertexWords all) xs₂ w′
   both-parts h k = rw (p .is, words-append ps qs) (wrote-then (omega arith) h k)
 
--- the same points, by another name
+-- equal points have equal words
 pub wrote-same : {ps qs : List Point} {xs xs′ : List ℕ} {at w : ℕ} → ps ≡ qs → Wrote xs at (vertexWords ps) xs′ w → Wrote xs at (vertexWords qs) xs′ w
 wrote-same {xs = xs} {xs′ = xs′} {at = at} {w = w} e = subst (λ (ps : List Point). Wrote xs at (vertexWords ps) xs′ w) e

@@ -1,5 +1,4 @@
--- Points as words, of which only the heights change.
--- Assumes nothing.
+-- Points as words, of which only the heights change. Assumes nothing.
 use Prim.Native.Nat.{ℕ, zero, suc, _+_, _*_, _≤_, _<_}
 use mathlib.Core.Path.{_≡_, refl, sym, ap, _∙_}
 use mathlib.Core.List.{List, [], _∷_, _++_, append-assoc}
@@ -21,7 +20,7 @@ raised-length v (a ∷ []) = refl
 raised-length v (a ∷ b ∷ []) = refl
 raised-length v (a ∷ b ∷ c ∷ ws) = ap (λ (n : ℕ). suc (suc (suc n))) (raised-length v ws)
 
--- whole points, and more after them
+-- whole points, and further words after them
 raised-append : (v i : ℕ) (ws zs : List ℕ) → length ws ≡ 3 * i → raised v (ws ++ zs) ≡ raised v ws ++ raised v zs
 unfolding raised
 raised-append v zero [] zs h = refl
@@ -31,7 +30,7 @@ raised-append v (suc i) (a ∷ []) zs h = absurd (omega arith)
 raised-append v (suc i) (a ∷ b ∷ []) zs h = absurd (omega arith)
 raised-append v (suc i) (a ∷ b ∷ c ∷ ws) zs h = ap (λ (l : List ℕ). a ∷ v ∷ c ∷ l) (raised-append v i ws zs (omega arith))
 
--- one point more
+-- one more point
 pub raised-more : (v i : ℕ) (ws : List ℕ) → 3 * (i + 1) ≤ length ws
     → set (raised v (take (3 * i) ws) ++ drop (3 * i) ws) (3 * i + 1) v ≡ raised v (take (3 * (i + 1)) ws) ++ drop (3 * (i + 1)) ws
 unfolding raised
@@ -56,7 +55,7 @@ raised-more v i ws h =
     let back : drop (3 * (i + 1)) ws ≡ D = ap (λ (k : ℕ). drop k ws) past in
     here ∙ sym (rw (front, back) (append-assoc A (a ∷ v ∷ c ∷ []) D))
 
--- the words of points at one height, raised to another
+-- the words of points at one height, moved to another
 points-raised : (u : ℕ → ℕ) (x v n : ℕ) → raised v (vertexWords (table (λ c. record { u = u c; v = x; w = 0 }) n)) ≡ vertexWords (table (λ c. record { u = u c; v = v; w = 0 }) n)
 unfolding raised vertexWords table
 points-raised u x v zero = refl
@@ -81,7 +80,7 @@ copy-done {xs} {out} {row} {at} {i} h l e =
       next = refl;
     }
 
--- ---- the front of a row that was raised
+-- ---- the front of a row whose heights were changed
 pub raised-front : (v n : ℕ) (row : List ℕ) {row′ : List ℕ} → n ≤ length row → row′ ≡ raised v (take n row) ++ drop n row → take n row′ ≡ raised v (take n row)
 raised-front v n row h e =
     let size : length (raised v (take n row)) ≡ n = raised-length v (take n row) ∙ length-take n row ∙ omega arith in

@@ -1,5 +1,4 @@
--- Rows of places: what a writer reads in a part of one, and that the row of an edge has the edge's places.
--- Assumes nothing.
+-- Rows of places: what a writer reads in part of a row, and that the row of an edge has the edge's places. Assumes nothing.
 use Prim.Native.Nat.{ℕ, zero, suc, _-_, _≤_, _<_}
 use mathlib.Core.Path.{_≡_, refl, ap, _∙_}
 use mathlib.Core.List.{List, [], _∷_}
@@ -18,7 +17,7 @@ use Rattle.mesh.proofs.Edge.{good-to}
 use Rattle.mesh.proofs.Positions.{good-positions}
 use Rattle.vertices.specs.Rows.{places, listed, whole, Clear, GoodRow}
 
--- tables, and grids, that are alike as far as they go
+-- tables, and grids, that agree up to their size
 pub table-same : {A : Type 0} (f g : ℕ → A) (n : ℕ) → ((i : ℕ) → i < n → f i ≡ g i) → table f n ≡ table g n
 unfolding table
 table-same f g zero h = refl
@@ -33,7 +32,7 @@ grid-same P Q (suc m) n h =
       grid-same (λ r. P (suc r)) (λ r. Q (suc r)) m n (λ r c l k. h (suc r) c (omega arith) k),
     )
 
--- edges of as many segments, with the same points but for the end
+-- edges with equally many segments and the same points, except the end
 pub record Same (e f : Run) : Type 0 where
   pub count : e .c ≡ f .c
   pub at : (i : ℕ) → i < f .c → e .q i ≡ f .q i
@@ -50,7 +49,7 @@ ring-same place k d (more {e = e} {f = f} s t) =
     rw (s .count) (table-same (λ i. place k (e .q i) d) (λ i. place k (f .q i) d) (f .c) (λ i l. ap (λ x. place k x d) (s .at i l))) in
     rw (edge, ring-same place (suc k) d t)
 
--- a good row can be cut at both ends
+-- a good row has an interior and two ends
 module _ {row : List ℕ} (g : GoodRow row) where
   pub row-some : 1 ≤ length row
   row-some = omega (arith, g .some)
@@ -58,7 +57,7 @@ module _ {row : List ℕ} (g : GoodRow row) where
   pub row-more : 1 ≤ length row - 1
   row-more = omega (arith, g .some)
 
--- a row without its end, as the writers cut it
+-- a row without its end, as the writers take it
 abbrev pub front : List ℕ → List ℕ
 front row = take (length row - 1 - 0) row
 

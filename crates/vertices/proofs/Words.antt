@@ -1,5 +1,4 @@
--- The words of lists of points that are put together.
--- Assumes nothing.
+-- The words of joined lists of points. Assumes nothing.
 use Prim.Native.Nat.{ℕ, zero, suc, _+_, _*_}
 use mathlib.Core.Path.{_≡_, refl, ap, _∙_}
 use mathlib.Core.List.{List, [], _∷_, _++_}

@@ -6,6 +6,6 @@ use Rattle.edge.specs.Table.{table}
 use Rattle.mesh.specs.declared.Point.{Point}
 use Rattle.mesh.specs.Edge.{Run}
 
--- the points of edge k of the ring d units in, without its end; `place k x d` is the point at the place x
+-- the points of edge k on the ring d units inside, without the edge's end; `place k x d` is the point at place x
 abbrev pub edgePoints : (ℕ → ℕ → ℕ → Point) → ℕ → Run → ℕ → List Point
 edgePoints place k e d = table (λ i. place k (e .q i) d) (e .c)

@@ -1,5 +1,4 @@
--- Places along an edge that stand in a list of numbers.
--- Assumes nothing.
+-- Edges whose places are in a list. Assumes nothing.
 use Prim.Native.Nat.{ℕ, _+_, _-_, _≤_, _<_}
 use mathlib.Core.List.{List, [], _∷_}
 use lib.ListN.{length, getD}
@@ -9,38 +8,38 @@ use Rattle.level.specs.declared.Segments.{Segments}
 use Rattle.level.specs.Segments.{Valid}
 use Rattle.mesh.specs.Edge.{Run, GoodRun}
 
--- 01's q, where the list has it: entry i is the place of point i
+-- q of a list: entry i is the place of point i
 abbrev pub places : List ℕ → ℕ → ℕ
 places row i = getD row i 0
 
--- an edge whose places stand in the list, but for its end's
+-- the edge with the list's places, where the list lacks the end's
 abbrev pub listed : List ℕ → Run
 listed row = record { q = places row; c = length row }
 
--- an edge whose places stand in the list, its end's too
+-- the edge with the list's places, the end's included
 abbrev pub whole : List ℕ → Run
 whole row = record { q = places row; c = length row - 1 }
 
--- an edge whose points, but for its end, lie d units or more from both ends of a length of 65,536
+-- all points of the edge but its end lie at least d units from both ends of a length of 65,536
 abbrev pub Clear : ℕ → Run → Type 0
 Clear d e = (i : ℕ) → i < e .c → (d ≤ e .q i) × (e .q i + d ≤ 65536)
 
--- the row of an edge of a segment or more, at good places
+-- the row of an edge with at least one segment and good places
 pub record GoodRow (row : List ℕ) : Type 0 where
   pub some : 2 ≤ length row
   pub good : GoodRun (whole row)
 
--- the row of an edge stands in the table of equal spacing, or in its first rows
+-- the row of the edge is in the table of equal spacing, of which `rows` is all or the first part
 abbrev pub Stored : List ℕ → Segments → Type 0
 Stored rows s = RowAt rows (start (s .count)) (s .count) (s .scaled)
 
--- edges of some segments, one or more, as levels give them
+-- every edge has valid n and L
 abbrev pub AllValid : List Segments → Type 0
 AllValid [] = Unit {0}
 AllValid (s ∷ []) = Valid (s .count) (s .scaled)
 AllValid (s ∷ t ∷ ss) = Valid (s .count) (s .scaled) × AllValid (t ∷ ss)
 
--- edges, one or more, whose rows stand there
+-- the row of every edge is in `rows`
 abbrev pub AllStored : List ℕ → List Segments → Type 0
 AllStored rows [] = Unit {0}
 AllStored rows (s ∷ []) = Stored rows s

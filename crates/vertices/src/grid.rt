@@ -7,7 +7,7 @@ ghost use Rattle.buffer.specs.Over.{Wrote};
 ghost use Rattle.mesh.specs.Words.{vertexWords};
 ghost use Rattle.vertices.specs.Grids.{rowPoints, gridPoints, raised};
 
-// A point at the height v for each place along u.
+// Writes a row of points at height v, one for each place along u.
 fn write_row(out: &mut [u32], at: usize, columns: &[u32], v: u32) -> usize
     requires { ⌜ at + 3 * length (now columns) ≤ length (now out) ⌝ }
     ensures { λ w. ⌜ Wrote (now (out .entry)) at (vertexWords (rowPoints (now (columns .entry)) v)) (now (out .exit)) w ⌝ }
@@ -21,7 +21,7 @@ fn write_row(out: &mut [u32], at: usize, columns: &[u32], v: u32) -> usize
     to
 }
 
-// The first n points of a row, at the height v.
+// Sets the height of the first n points of a row to v.
 fn raise(row: &mut [u32], n: usize, v: u32)
     requires { ⌜ 3 * n ≤ length (now row) ⌝ }
     ensures { λ r. ⌜ now (row .exit) ≡ raised v (take (3 * n) (now (row .entry))) ++ drop (3 * n) (now (row .entry)) ⌝ }
@@ -33,7 +33,7 @@ fn raise(row: &mut [u32], n: usize, v: u32)
     }
 }
 
-// A row that stands elsewhere.
+// Writes a given row.
 pub fn copy_row(out: &mut [u32], at: usize, row: &[u32]) -> usize
     requires { ⌜ at + length (now row) ≤ length (now out) ⌝ }
     ensures { λ w. ⌜ Wrote (now (out .entry)) at (now (row .entry)) (now (out .exit)) w ⌝ }
@@ -46,7 +46,7 @@ pub fn copy_row(out: &mut [u32], at: usize, row: &[u32]) -> usize
     at + row.len()
 }
 
-// Such a row for each place along v, point by point.
+// Writes a row for each place along v, point by point.
 fn write_each(out: &mut [u32], at: usize, rows: &[u32], columns: &[u32]) -> usize
     requires { ⌜ at + 3 * (length (now rows) * length (now columns)) ≤ length (now out) ⌝ }
     ensures { λ w. ⌜ Wrote (now (out .entry)) at (vertexWords (gridPoints (now (rows .entry)) (now (columns .entry)))) (now (out .exit)) w ⌝ }
@@ -79,7 +79,7 @@ fn write_raised(out: &mut [u32], at: usize, rows: &[u32], columns: &[u32]) -> us
     to
 }
 
-// The same in the way that is quicker: few or short rows do not pay for laying one out.
+// The same, the faster way: preparing a row does not pay for few or short rows.
 pub fn write_grid(out: &mut [u32], at: usize, rows: &[u32], columns: &[u32]) -> usize
     requires { ⌜ at + 3 * (length (now rows) * length (now columns)) ≤ length (now out) ⌝ }
     ensures { λ w. ⌜ Wrote (now (out .entry)) at (vertexWords (gridPoints (now (rows .entry)) (now (columns .entry)))) (now (out .exit)) w ⌝ }

@@ -1,4 +1,3 @@
-// Points as words of a list, three a point, and what the writers of every kind of patch share: the point at a place along an edge,
-// and points in rows.
+// Points as words, three per point, and what the writers of all kinds of patch share: the point at a place of an edge, and points in rows.
 pub mod grid;
 pub mod place;

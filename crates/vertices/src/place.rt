@@ -1,11 +1,11 @@
-// The point at a place along an edge of a patch.
+// The point at a place of an edge of a patch.
 ghost use mathlib.Core.Path.{_≡_};
 ghost use Prim.Native.Nat.{_+_, _≤_, _<_};
 ghost use Rattle.mesh.specs.TrianglePoints.{trianglePlace};
 ghost use Rattle.mesh.specs.QuadPoints.{quadPlace};
 use mesh::Point;
 
-// Of edge k of a triangle patch, at the place x, on the ring d units in. `high` is 196608 - d, the start coordinate at 0.
+// Returns the point at place x of edge k of a triangle patch, on the ring d units inside; `high` is 196608 - d, the start coordinate at place 0.
 pub fn triangle_place(k: u32, x: u32, d: u32, high: u32) -> Point
     requires { ⌜ (k < 3) × (d ≤ x) × (x + d ≤ 65536) × (high + d ≡ 196608) ⌝ }
     ensures { λ r. ⌜ r ≡ trianglePlace k x d ⌝ }
@@ -32,7 +32,7 @@ pub fn triangle_place(k: u32, x: u32, d: u32, high: u32) -> Point
     }
 }
 
-// Of edge k of a quad patch's outline, x units along the walk.
+// Returns the point x units along edge k of a quad patch's outline.
 pub fn quad_place(k: u32, x: u32) -> Point
     requires { ⌜ (k < 4) × (x ≤ 65536) ⌝ }
     ensures { λ r. ⌜ r ≡ quadPlace k x 0 ⌝ }

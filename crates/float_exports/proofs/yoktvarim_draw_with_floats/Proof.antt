@@ -1,4 +1,4 @@
--- Meets its contract: a return for a refused call and one for what drawing answers. Assumes nothing.
+-- Meets its contract: one return for a refused call and one for the answer to drawing. Assumes nothing.
 use borrow.Author.Needs.{needs}
 use Rattle.float_exports.proofs.Calls.{floats-refused, floats-known}
 use Rattle.float_exports.proofs.yoktvarim_draw_with_floats.Statement.{statement}

@@ -1,4 +1,4 @@
--- `level::discards` meets its contract: `not-above` says all of it. Assumes nothing.
+-- `level::discards` meets its contract, by `not-above`. Assumes nothing.
 use lib.Ieee.{ofBits}
 use Rattle.level.proofs.Discard.{not-above}
 use Rattle.level.proofs.discards.Statement.{statement}

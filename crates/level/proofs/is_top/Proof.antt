@@ -9,7 +9,7 @@ use Rattle.level.proofs.is_top.Tie as tie
 use Rattle.level.proofs.is_top.Reads as reads
 use Rattle.level.proofs.is_top.Lts as lts
 
--- the code joins the tests of the two bounds
+-- the tests of the two bounds as the code joins them
 bounds : (c : lts.Joined1 reads.Pre reads.Post) → c .if1 .if2 ≡ (leb 2 (c .before .args .top) && leb (c .before .args .top) 64)
 bounds c = ⊎-elim (λ w. w .1 ∙ rw (le-leb _ _ (w .0 .taken))) (λ w. w .1 ∙ rw (lt-leb _ _ (w .0 .left))) (c .if1 .came)
 

@@ -1,4 +1,4 @@
--- `level::level_of_bits` meets its contract: a pattern above that of infinity, its sign aside, is a NaN. Assumes nothing.
+-- `level::level_of_bits` meets its contract: a pattern above that of infinity, apart from its sign, is a NaN. Assumes nothing.
 use borrow.Author.Needs.{needs}
 use borrow.Author.Tests.{le-ltb, lt-ltb}
 use mathlib.Core.Path.{_≡_, refl, sym}

@@ -1,4 +1,4 @@
--- `level::parts_of` meets its contract: `counted` says all of it. Assumes nothing.
+-- `level::parts_of` meets its contract, by `counted`. Assumes nothing.
 use native.Mathlib.Omega.{arith}
 use mathlib.Core.Bool.{not}
 use lib.Ieee.{binary64, fits, isNan, ofBits}

@@ -1,4 +1,4 @@
--- `level::range_of` meets its contract: each arm has its spacing's two ends. Assumes nothing.
+-- `level::range_of` meets its contract: each arm has the two ends of its spacing. Assumes nothing.
 use borrow.Author.Needs.{needs}
 use Prim.Native.Nat.{ℕ, _^_, _≤_}
 use native.Mathlib.Omega.{arith}
@@ -8,7 +8,7 @@ use lib.Ieee.{binary32, ofBits, inFloat}
 use Rattle.level.proofs.range_of.Statement.{statement}
 use Rattle.level.proofs.range_of.Tie as tie
 
--- an `f32` holds every number up to the top
+-- an `f32` holds every whole number up to the top level
 held : (n : ℕ) → n ≤ 64 → T (inFloat binary32 (pos n))
 unfolding inFloat
 held n h = le→leb n (2 ^ 24) (omega arith)

@@ -1,4 +1,4 @@
--- `level::segments_at` meets its contract: each arm computes what `segmentsAt` says of its spacing. Assumes nothing.
+-- `level::segments_at` meets its contract: each arm computes `segmentsAt` for its spacing. Assumes nothing.
 use borrow.Author.Needs.{needs}
 use Rattle.level.proofs.segments_at.Statement.{statement}
 use Rattle.level.proofs.segments_at.Tie as tie

@@ -1,4 +1,4 @@
--- `level::segments_in` meets its contract: a clamped level is in the range that each callee asks. Assumes nothing.
+-- `level::segments_in` meets its contract: a clamped level is in the range that each callee requires. Assumes nothing.
 use borrow.Author.Needs.{needs}
 use mathlib.Core.Path.{ap, _∙_}
 use Rattle.level.specs.Clamp.{clamped, sideOf, clampOf}

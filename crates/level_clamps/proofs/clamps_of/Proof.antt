@@ -1,4 +1,4 @@
--- Meets its contract: each arm says what `clamp_of` says of each level. Assumes nothing.
+-- Meets its contract: each arm calls `clamp_of` for each level. Assumes nothing.
 use borrow.Author.Needs.{needs}
 use Rattle.level_clamps.proofs.clamps_of.Statement.{statement}
 use Rattle.level_clamps.proofs.clamps_of.Tie as tie

@@ -15,7 +15,7 @@ Inv-loop out₀ at indices width from count w₀ i₀ out w i = Listed 18 width 
 abbrev μ-loop : tie.MeasureT-loop
 μ-loop out₀ at indices width from count w₀ i₀ out w i = count - i
 
--- the next row lies in the list
+-- the next row is in the list
 next-row : (c : tie.In-loop Inv-loop μ-loop)
     → let a = c .before .before .before .before .args in
     let n = a .from + c .before .loop .i in

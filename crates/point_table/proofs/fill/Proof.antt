@@ -1,4 +1,4 @@
--- Meets its contract: no point before j lies where an earlier one lies, and the table holds them. Assumes nothing.
+-- Meets its contract: no point before j equals an earlier point, and the table holds them all. Assumes nothing.
 use native.Mathlib.Omega.{arith}
 use Prim.Native.Nat.{_+_, _-_, _≤_}
 use mathlib.Core.Path.{_≡_, refl, sym, ap, _∙_}

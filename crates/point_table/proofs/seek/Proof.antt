@@ -1,4 +1,4 @@
--- Meets its contract: the points at the places so far do not lie at p. Assumes nothing.
+-- Meets its contract: no point at the places so far equals p. Assumes nothing.
 use native.Mathlib.Omega.{arith}
 use Prim.Native.Nat.{_+_, _*_, _-_, _≤_, _<_}
 use mathlib.Core.Path.{_≡_, refl, sym, _∙_}

@@ -1,4 +1,4 @@
--- The table's words are the rows of equal spacing: one test over all 2,144 words, which antt computes. Assumes nothing.
+-- The words of the table are the rows of equal spacing: one test of all 2,144 words, which antt computes. Assumes nothing.
 use Rattle.edge.specs.Positions.{position}
 use Rattle.edge.specs.Table.{table}
 use Rattle.stored_rows.specs.Stored.{rowsFrom, rowsTo}

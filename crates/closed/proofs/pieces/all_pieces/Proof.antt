@@ -1,4 +1,4 @@
--- Meets its contract: the sides before number k of the list are joined, and their pieces marked. Assumes nothing.
+-- Meets its contract: the sides before entry k of the list are closed, and their pieces marked. Assumes nothing.
 use native.Mathlib.Omega.{arith}
 use Prim.Native.Nat.{_-_, _≤_}
 use mathlib.Core.Path.{_≡_, refl, _∙_}

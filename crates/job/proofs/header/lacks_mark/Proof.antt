@@ -1,4 +1,4 @@
--- `job::header::lacks_mark` meets its contract: under five bytes, or what the comparison says. Assumes nothing.
+-- `job::header::lacks_mark` meets its contract: under five bytes, or the result of the comparison. Assumes nothing.
 use borrow.Author.Needs.{needs}
 use borrow.Author.Tests.{lt-ltb, le-ltb}
 use native.Mathlib.Omega.{arith}

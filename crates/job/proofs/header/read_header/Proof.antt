@@ -1,4 +1,4 @@
--- `job::header::read_header` meets its contract: each return is one of the ways through `headerOf`. Assumes nothing.
+-- `job::header::read_header` meets its contract: each return is one case of `headerOf`. Assumes nothing.
 use borrow.Author.Needs.{needs}
 use Prim.Native.Nat.{_≤_}
 use mathlib.Core.Path.{_≡_, sym, _∙_}
@@ -12,7 +12,7 @@ use Rattle.job.proofs.Headers.{header-read, header-lacks, header-versio
 use Rattle.job.proofs.header.read_header.Statement.{statement}
 use Rattle.job.proofs.header.read_header.Tie as tie
 
--- at the version there are 5 bytes, and the mark was found
+-- when the version is read, there are 5 bytes, and the mark matches
 found : (c : tie.Else1) → (5 ≤ length (now (c .before .before .before .before .args .bytes))) × (startsWith mark (now (c .before .before .before .before .args .bytes)) ≡ true)
 found c = has-mark mark _ (sym (c .before .lacks-mark .ensures) ∙ c .if1 .left)
 

@@ -1,4 +1,4 @@
--- `job::header::starts_with` meets its contract: at each turn every byte before `i` is the mark's. Assumes nothing.
+-- `job::header::starts_with` meets its contract: in each pass every byte before `i` is that of the mark. Assumes nothing.
 use borrow.Author.Count.{below-none, below-more}
 use Prim.Native.Nat.{ℕ, _-_, _<_, _≤_}
 use native.Mathlib.Omega.{arith}

@@ -1,4 +1,4 @@
--- `job::next::read_record` meets its contract: each return is one of the four ways through `recordAt`. Assumes nothing.
+-- `job::next::read_record` meets its contract: each return is one of the four cases of `recordAt`. Assumes nothing.
 use borrow.Author.Needs.{needs}
 use native.Mathlib.Omega.{arith}
 use mathlib.Core.Path.{sym, _∙_}

@@ -1,4 +1,4 @@
--- `job::next::read_whole` meets its contract, by those of the functions for its parts. Assumes nothing.
+-- `job::next::read_whole` meets its contract, by the contracts of the functions for its parts. Assumes nothing.
 use borrow.Author.Needs.{needs}
 use Rattle.job.specs.Records.{recordOf}
 use Rattle.job.proofs.next.read_whole.Statement.{statement}

@@ -1,4 +1,4 @@
--- `job_bytes::level_bits::record_of` meets its contract: a pattern that is read back gives its level. Assumes nothing.
+-- `job_bytes::level_bits::record_of` meets its contract: the bit pattern of a level reads back as the level. Assumes nothing.
 use borrow.Author.Needs.{needs}
 use mathlib.Core.Path.{_≡_}
 use Rattle.job_fields.specs.Levels.{levelsOf}
@@ -10,7 +10,7 @@ use Rattle.job_bytes.proofs.level_bits.record_of.Tie as tie
 bits-of-requires : tie.Need-bits-of-requires
 bits-of-requires c κs = search needs
 
--- what owning the levels tells: an f32 holds each of them
+-- each level is an f32, as its type says
 back : (c : tie.Start) → c .args .levels ≡ levelsOf (bitsOf (c .args .levels))
 back c =
     let l = c .good .1 .1 .0 .1 .1 in

@@ -1,4 +1,4 @@
--- `job_bytes::put::put_u32` meets its contract: the four bytes are the low ones. Assumes nothing.
+-- `job_bytes::put::put_u32` meets its contract: the four bytes are the low bytes. Assumes nothing.
 use borrow.Author.Needs.{needs}
 use native.Mathlib.Omega.{arith}
 use Rattle.job_bytes.proofs.LowBytes.{low-four}

@@ -1,4 +1,4 @@
--- `job_bytes::record_bytes::put_record` meets its contract, by those of the functions for its parts. Assumes nothing.
+-- `job_bytes::record_bytes::put_record` meets its contract, by the contracts of the functions for its parts. Assumes nothing.
 use borrow.Author.Needs.{needs}
 use native.Mathlib.Omega.{arith}
 use Rattle.buffer.proofs.Laws.{wrote-then, wrote-within}

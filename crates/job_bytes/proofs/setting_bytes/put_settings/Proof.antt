@@ -1,4 +1,4 @@
--- `job_bytes::setting_bytes::put_settings` meets its contract, by those of the functions for each byte. Assumes nothing.
+-- `job_bytes::setting_bytes::put_settings` meets its contract, by the contracts of the functions for each byte. Assumes nothing.
 use borrow.Author.Needs.{needs}
 use Rattle.job_bytes.proofs.setting_bytes.put_settings.Statement.{statement}
 use Rattle.job_bytes.proofs.setting_bytes.put_settings.Tie as tie

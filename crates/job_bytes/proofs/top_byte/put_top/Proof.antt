@@ -1,4 +1,4 @@
--- `job_bytes::top_byte::put_top` meets its contract: an allowed top level is a byte. Assumes nothing.
+-- `job_bytes::top_byte::put_top` meets its contract: a top level fits into a byte. Assumes nothing.
 use borrow.Author.Needs.{needs}
 use native.Mathlib.Omega.{arith}
 use Rattle.buffer.proofs.Laws.{wrote-none}

@@ -1,4 +1,4 @@
--- Meets its contract: each part of what stands there is left with the caller. Assumes nothing.
+-- Meets its contract: each part of what is found is left in the caller's memory. Assumes nothing.
 use borrow.Author.Needs.{needs}
 use mathlib.Core.Path.{ap}
 use mathlib.Core.List.{[], _∷_}

@@ -1,4 +1,4 @@
--- Meets its contract: a return for an unknown version and one for what writing answers. Assumes nothing.
+-- Meets its contract: one return for an unknown version and one for the writer's answer. Assumes nothing.
 use borrow.Author.Needs.{needs}
 use mathlib.Core.Path.{refl}
 use Rattle.tessellate.proofs.Tops.{good, bad}

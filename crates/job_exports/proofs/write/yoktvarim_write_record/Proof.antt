@@ -1,4 +1,4 @@
--- Meets its contract: a return for each refusal before room, and one for what writing answers. Assumes nothing.
+-- Meets its contract: one return for each refusal before room, and one for the writer's answer. Assumes nothing.
 use borrow.Author.Needs.{needs}
 use native.Mathlib.Omega.{arith}
 use mathlib.Core.Path.{refl, sym, ap}

@@ -1,4 +1,4 @@
--- `job_fields::setting::first_unknown` meets its contract: at each turn every byte before `place` is below its limit. Assumes nothing.
+-- `job_fields::setting::first_unknown` meets its contract: in each pass every byte before `place` is below its limit. Assumes nothing.
 use borrow.Author.Count.{below-none, below-more}
 use Prim.Native.Nat.{ℕ, _+_, _-_, _<_, _≤_}
 use native.Mathlib.Omega.{arith}

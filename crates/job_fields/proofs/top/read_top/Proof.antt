@@ -1,4 +1,4 @@
--- `job_fields::top::read_top` meets its contract: a byte fits. Assumes nothing.
+-- `job_fields::top::read_top` meets its contract: a byte fits into the result. Assumes nothing.
 use borrow.Author.Needs.{needs}
 use Prim.Native.Nat.{_+_}
 use native.Mathlib.Omega.{arith}

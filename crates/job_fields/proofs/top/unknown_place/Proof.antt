@@ -1,4 +1,4 @@
--- `job_fields::top::unknown_place` meets its contract: each result is one of the ways through `unknownPlace`. Assumes nothing.
+-- `job_fields::top::unknown_place` meets its contract: each result is one case of `unknownPlace`. Assumes nothing.
 use borrow.Author.Needs.{needs}
 use native.Mathlib.Omega.{arith}
 use mathlib.Core.Path.{_≡_, sym, ap, _∙_}
@@ -10,7 +10,7 @@ use Rattle.job_fields.proofs.Tops.{place-setting, place-top}
 use Rattle.job_fields.proofs.top.unknown_place.Statement.{statement}
 use Rattle.job_fields.proofs.top.unknown_place.Tie as tie
 
--- after five bytes in range the test of the top level decides
+-- if the first five bytes are in range, the test of the top level decides
 decides : (c : tie.After-is-top) (t : Bool) → c .is-top .result ≡ t
     → (let a = c .before .before .before .before .before .before .before .args in cond t 6 5 ≡ unknownPlace (a .version) (now (a .bytes)) (a .at))
 decides c t e =

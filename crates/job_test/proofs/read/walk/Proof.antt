@@ -1,5 +1,4 @@
--- `job_test::read::walk` ends: each record that is read or passed over brings the cursor nearer to the end.
--- Assumes nothing.
+-- `job_test::read::walk` ends: each record moves the cursor closer to the end. Assumes nothing.
 use borrow.Author.Needs.{needs}
 use Prim.Native.Nat.{_-_}
 use native.Mathlib.Omega.{arith}

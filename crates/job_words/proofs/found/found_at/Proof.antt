@@ -1,4 +1,4 @@
--- Meets its contract: a return for the end, one for an unknown version and one for what stands there. Assumes nothing.
+-- Meets its contract: one return for the end, one for an unknown version and one for what is there. Assumes nothing.
 use borrow.Author.Needs.{needs}
 use mathlib.Core.Path.{sym, _∙_}
 use Rattle.tessellate.proofs.Tops.{good, bad}

@@ -1,4 +1,4 @@
--- Meets its contract, by those of the functions for its parts. Assumes nothing.
+-- Meets its contract, by the contracts of the functions for its parts. Assumes nothing.
 use borrow.Author.Needs.{needs}
 use mathlib.Core.Path.{_∙_}
 use Rattle.job_words.proofs.input.record_in.Statement.{statement}

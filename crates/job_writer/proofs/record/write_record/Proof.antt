@@ -1,4 +1,4 @@
--- `job_writer::record::write_record` meets its contract: each return is one of the three verdicts. Assumes nothing.
+-- `job_writer::record::write_record` meets its contract: each return is one of the three answers. Assumes nothing.
 use borrow.Author.Needs.{needs}
 use native.Mathlib.Omega.{arith}
 use mathlib.Core.Path.{_≡_, sym, _∙_}
@@ -11,7 +11,7 @@ use Rattle.job_bytes.specs.Written.{takesTop}
 use Rattle.job_writer.proofs.record.write_record.Statement.{statement}
 use Rattle.job_writer.proofs.record.write_record.Tie as tie
 
--- what owning the record tells: its six bit patterns are of 32 bits
+-- the six bit patterns have at most 32 bits, as their types say
 patterns : (c : tie.Start) → Patterns (c .args .«record» .bits)
 patterns c =
     let b = c .good .1 .1 .0 .1 .1 .1 .1 .1 .0 .1 .1 in
@@ -24,7 +24,7 @@ patterns c =
       inner1 = b .1 .1 .1 .1 .1 .0 .1;
     }
 
--- the top level is taken past the first test
+-- after the first test the version can hold the top level
 good : (c : tie.Else1) → takesTop (c .before .before .before .before .args .version) (c .before .before .before .before .args .«record» .settings .top) ≡ true
 good c = sym (c .before .takes-top .ensures) ∙ not-false _ (c .if1 .left)
 

@@ -1,4 +1,4 @@
--- Meets its contract: a return for a refused call and one for the verdict. Assumes nothing.
+-- Meets its contract: one return for a refused call and one for the verdict. Assumes nothing.
 use borrow.Author.Needs.{needs}
 use Rattle.mesh_exports.proofs.Calls.{check-refused, check-known}
 use Rattle.mesh_exports.proofs.check.yoktvarim_check_mesh.Statement.{statement}

@@ -14,7 +14,7 @@ use Rattle.patch.proofs.Counts.{count, least}
 use Rattle.patch.proofs.subdivision.quad.Statement.{statement}
 use Rattle.patch.proofs.subdivision.quad.Tie as tie
 
--- the counts of the code's sum are those of `total`
+-- the code's sum of counts is `total`
 summed : {s : Spacing} {n : ℕ} {a b c d i j : Float} {p q r t u v : Segments} → Counted s n a p → Counted s n b q → Counted s n c r → Counted s n d t → Counted s n i u → Counted s n j v
     → total (count s n) (a ∷ b ∷ c ∷ d ∷ i ∷ j ∷ []) ≡ p .count + q .count + r .count + t .count + u .count + v .count
 unfolding total

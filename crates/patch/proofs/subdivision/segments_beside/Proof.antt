@@ -11,11 +11,11 @@ use Rattle.patch.specs.Counted.{Counted}
 use Rattle.patch.proofs.subdivision.segments_beside.Statement.{statement}
 use Rattle.patch.proofs.subdivision.segments_beside.Tie as tie
 
--- what is greater than another float is no NaN
+-- a float greater than another is not a NaN
 greater : (x y : Float) → lt x y ≡ true → T (not (isNan y))
 greater x y h = numbers x y (lt-le x y (passes (lt x y) h)) .1
 
--- two floats of the format with the same bits
+-- two `f32` with the same bits are equal
 same : (x y : Float) → fits binary32 x ≡ true → fits binary32 y ≡ true → toBits binary32 x ≡ toBits binary32 y → y ≡ x
 same x y h k e = sym (ofBits-toBits binary32 y (passes (fits binary32 y) k)) ∙ ap (ofBits binary32) (sym e) ∙ ofBits-toBits binary32 x (passes (fits binary32 x) h)
 

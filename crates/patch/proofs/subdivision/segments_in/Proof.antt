@@ -1,4 +1,4 @@
--- Meets its contract: a level's segments are at most 64. Assumes nothing.
+-- Meets its contract: a level gives at most 64 segments. Assumes nothing.
 use borrow.Author.Needs.{needs}
 use mathlib.Core.Path.{refl}
 use Rattle.level.proofs.Valid.{segments-valid}

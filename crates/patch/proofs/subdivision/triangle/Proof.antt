@@ -14,7 +14,7 @@ use Rattle.patch.proofs.Counts.{count, least}
 use Rattle.patch.proofs.subdivision.triangle.Statement.{statement}
 use Rattle.patch.proofs.subdivision.triangle.Tie as tie
 
--- the counts of the code's sum are those of `total`
+-- the code's sum of counts is `total`
 summed : {s : Spacing} {n : ℕ} {a b c i : Float} {p q r t : Segments} → Counted s n a p → Counted s n b q → Counted s n c r → Counted s n i t
     → total (count s n) (a ∷ b ∷ c ∷ i ∷ []) ≡ p .count + q .count + r .count + t .count
 unfolding total

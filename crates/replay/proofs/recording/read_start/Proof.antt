@@ -1,4 +1,4 @@
--- Meets its contract: each return is one of the ways through `startOf`. Assumes nothing.
+-- Meets its contract: each return is one case of `startOf`. Assumes nothing.
 use borrow.Author.Needs.{needs}
 use Prim.Native.Nat.{_≤_}
 use mathlib.Core.Path.{_≡_, sym, _∙_}
@@ -12,7 +12,7 @@ use Rattle.replay.proofs.Headers.{start-lacks, start-version, start-rig
 use Rattle.replay.proofs.recording.read_start.Statement.{statement}
 use Rattle.replay.proofs.recording.read_start.Tie as tie
 
--- at the version there are 5 bytes, and the mark was found
+-- when the version is read, there are 5 bytes, and the mark matches
 found : (c : tie.Else1) → (5 ≤ length (now (c .before .before .before .before .args .bytes))) × (startsWith mark (now (c .before .before .before .before .args .bytes)) ≡ true)
 found c = has-mark mark _ (sym (c .before .lacks-mark .ensures) ∙ c .if1 .left)
 

@@ -1,4 +1,4 @@
--- Meets its contract: a return for each kind. Assumes nothing.
+-- Meets its contract: one return per kind. Assumes nothing.
 use borrow.Author.Needs.{needs}
 use mathlib.Core.Path.{sym, ap, _∙_}
 use Rattle.level_clamps.specs.Numbers.{clampNumbers}

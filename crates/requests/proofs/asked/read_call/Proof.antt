@@ -1,4 +1,4 @@
--- Meets its contract: a return for a bad top, one for an unknown setting and one for known settings. Assumes nothing.
+-- Meets its contract: one return for a bad top level, one for an unknown setting and one for known settings. Assumes nothing.
 use borrow.Author.Needs.{needs}
 use Rattle.tessellate.proofs.Tops.{good, bad}
 use Rattle.requests.proofs.Reading.{asked-bad, asked-unknown, asked-known}

@@ -1,4 +1,4 @@
--- Meets its contract. The invariant: the numbers before i are raised, and those from i on are as they were. Assumes nothing.
+-- Meets its contract. Invariant: `base` is added to the numbers before i, and those from i on are unchanged. Assumes nothing.
 use Prim.Native.Nat.{_+_, _-_, _≤_, _<_}
 use mathlib.Core.Path.{_≡_, _∙_, ap}
 use borrow.Author.Needs.{needs}

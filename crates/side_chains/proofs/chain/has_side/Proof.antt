@@ -1,4 +1,4 @@
--- Meets its contract: the sides from x that were passed are not x to y. Assumes nothing.
+-- Meets its contract: no side of the chain passed so far is x→y. Assumes nothing.
 use native.Mathlib.Omega.{arith}
 use Prim.Native.Nat.{_-_}
 use mathlib.Core.Path.{_≡_, _∙_, sym}

@@ -1,4 +1,4 @@
--- Meets its contract: no triangle from `from` up to i is the one looked for. Assumes nothing.
+-- Meets its contract: no triangle from `from` up to i is t. Assumes nothing.
 use native.Mathlib.Omega.{arith}
 use Prim.Native.Nat.{_-_}
 use mathlib.Core.Bool.{true≢false}

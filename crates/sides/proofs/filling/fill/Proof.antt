@@ -1,4 +1,4 @@
--- Meets its contract: the table of the sides of the triangles before number k. Assumes nothing.
+-- Meets its contract: the table holds the sides of the triangles before number k. Assumes nothing.
 use native.Mathlib.Omega.{arith}
 use Prim.Native.Nat.{_-_, _*_, _≤_}
 use mathlib.Core.Path.{_≡_, refl, sym, _∙_}

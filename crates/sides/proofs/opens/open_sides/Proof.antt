@@ -1,4 +1,4 @@
--- Meets its contract: the sides of the triangles before number k. Assumes nothing.
+-- Meets its contract: the list has the sides without a reverse of the triangles before number k. Assumes nothing.
 use native.Mathlib.Omega.{arith}
 use Prim.Native.Nat.{_-_, _*_, _≤_}
 use mathlib.Core.Path.{_≡_, refl, _∙_}

@@ -1,4 +1,4 @@
--- Meets its contract: each turn of the loop leaves fewer bytes to write. Assumes nothing.
+-- Meets its contract: each pass of the loop leaves fewer bytes to write. Assumes nothing.
 use borrow.Author.Needs.{needs}
 use Prim.Native.Nat.{_-_, _≤_}
 use native.Mathlib.Omega.{arith}

@@ -1,4 +1,4 @@
--- Meets its contract: what is left to write is what follows in `s`. Assumes nothing.
+-- Meets its contract: what is left to write is the rest of `s`. Assumes nothing.
 use borrow.Author.Needs.{needs}
 use native.Mathlib.Omega.{arith}
 use Prim.Native.Nat.{_+_, _-_, _<_}

@@ -1,5 +1,5 @@
--- Meets its contract: a number of 32 bits is written as one, and any other by its last digit after those of its tenth part. The measure is the number.
--- Assumes nothing.
+-- Meets its contract: a number of 32 bits goes to `put_number`; a larger one is the digits of its tenth part, then its last
+-- digit. The measure is the number. Assumes nothing.
 use Prim.Native.Nat.{ℕ, _<_}
 use borrow.Author.Needs.{needs}
 use borrow.Fn.Kinds.{In}
@@ -23,7 +23,7 @@ module _ (t : ℕ) where
   abbrev given : In 1 kinds.ps
   given = and 1 kinds.ps (is 1 kinds.ps μ t) reads.Pre
 
-  -- what its calls ask and tell
+  -- what its calls require and ensure
   abbrev calls : lts.Claims
   calls = (number-reads.Asked, number-reads.Learnt, and 1 kinds.ps (falls 1 kinds.ps _<_ μ t) reads.Pre, reads.Post)
 

@@ -1,5 +1,5 @@
--- Meets its contract: a number below 100 has one or two digits, and any other those of its hundredth part and two more. The measure is the number.
--- Assumes nothing.
+-- Meets its contract: a number below 100 has one or two digits; a larger one has the digits of its hundredth part, then two
+-- more. The measure is the number. Assumes nothing.
 use Prim.Native.Nat.{ℕ, _<_}
 use borrow.Author.Needs.{needs}
 use borrow.Fn.Kinds.{In}
@@ -25,7 +25,7 @@ module _ (t : ℕ) where
   abbrev given : In 1 kinds.ps
   given = and 1 kinds.ps (is 1 kinds.ps μ t) reads.Pre
 
-  -- what its calls ask and tell
+  -- what its calls require and ensure
   abbrev calls : lts.Claims
   calls = (pair-reads.Asked, pair-reads.Learnt, and 1 kinds.ps (falls 1 kinds.ps _<_ μ t) reads.Pre, reads.Post)
 
