@@ -1,2 +1,3 @@
--- The law of `answer_codes`.
+-- The laws of `answer_codes`.
+pub mod Drew
 pub mod Exactly

@@ -2,7 +2,7 @@
 // needs; a mesh that is too large for it is not examined.
 ghost use Prim.Native.Nat.{_≤_, _<_};
 ghost use lib.ListN.{length};
-ghost use Rattle.drawing.specs.Words.{readPoints, readTriangles};
+ghost use Rattle.mesh.specs.Words.{readPoints, readTriangles};
 ghost use Rattle.mesh_faults.specs.Turns.{AllNumbered};
 ghost use Rattle.sides.specs.Tables.{vertices, Room, Cleared};
 ghost use Rattle.closed.specs.Closing.{Blank, Shown};

@@ -4,7 +4,7 @@ ghost use mathlib.Core.Bool.{true};
 ghost use Prim.Native.Nat.{_*_, _/_, _≤_, _<_};
 ghost use lib.ListN.{length, set};
 ghost use Rattle.mesh.specs.Cover.{piece};
-ghost use Rattle.drawing.specs.Words.{readPoints, readTriangles};
+ghost use Rattle.mesh.specs.Words.{readPoints, readTriangles};
 ghost use Rattle.mesh_faults.specs.Turns.{AllNumbered};
 ghost use Rattle.mesh_faults.specs.Outline.{sameEnds, closes, ClosedTo};
 ghost use Rattle.sides.specs.Opens.{Listed};

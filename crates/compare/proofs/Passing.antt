@@ -11,7 +11,7 @@ use Rattle.buffer.specs.Over.{flat}
 use Rattle.buffer.proofs.Laws.{flat-step, flat-all, flat-done}
 use Rattle.copies.proofs.Shifts.{flat-below}
 use Rattle.mesh.specs.Cover.{Face}
-use Rattle.drawing.specs.Words.{readPoints, readTriangles}
+use Rattle.mesh.specs.Words.{readPoints, readTriangles}
 use Rattle.searches.specs.Points.{samePoint}
 use Rattle.searches.proofs.First.{Below, some-here}
 use Rattle.searches.proofs.Equal.{is-same}

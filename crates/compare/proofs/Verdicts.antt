@@ -9,7 +9,7 @@ use lib.ListN.{length, getD}
 use lib.Dec.{ltb, leb, eqb}
 use borrow.Author.Tests.{lt-ltb, le-ltb, ltb-false, leb-false}
 use Rattle.buffer.proofs.Laws.{over-none}
-use Rattle.drawing.specs.Words.{readPoints}
+use Rattle.mesh.specs.Words.{readPoints}
 use Rattle.searches.specs.Indices.{firstUnknown}
 use Rattle.searches.specs.Points.{repeats, firstRepeated}
 use Rattle.searches.proofs.First.{first-most, first-before}
@@ -21,7 +21,7 @@ use Rattle.compare.specs.declared.answer.Comparison.the-variants.{Differ
 use Rattle.differences.specs.Meshes.{readMesh, Good}
 use Rattle.differences.specs.Differences.{Difference, differences, words}
 use Rattle.compare.specs.Answers.{checked, counted, verdict, told, Listed, Compared}
-use Rattle.tessellate.specs.Draws.{after}
+use Rattle.answer_codes.specs.Drew.{after}
 
 pub counted-short : (n k room : ℕ) → n ≡ k → room / 3 < n → NoRoom n ≡ counted k room
 counted-short n k room e h = rw (← e, lt-ltb room (3 * n) (omega arith))

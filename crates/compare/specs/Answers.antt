@@ -6,11 +6,11 @@ use mathlib.Core.Bool.{cond, _&&_}
 use mathlib.Core.List.{List, [], _∷_}
 use lib.ListN.{length}
 use lib.Dec.{ltb, eqb}
-use Rattle.drawing.specs.Words.{readPoints}
+use Rattle.mesh.specs.Words.{readPoints}
 use Rattle.searches.specs.Indices.{firstUnknown}
 use Rattle.searches.specs.Points.{firstRepeated}
-use Rattle.tessellate.specs.Answers.{Told, refused}
-use Rattle.tessellate.specs.Draws.{after}
+use Rattle.answer_codes.specs.Told.{Told, refused}
+use Rattle.answer_codes.specs.Drew.{after}
 use Rattle.compare.specs.declared.answer.Fault.{Fault}
 use Rattle.compare.specs.declared.answer.Fault.the-variants.{NotThrees, UnknownIndex, EqualPoints}
 use Rattle.compare.specs.declared.answer.Checked.{Checked}

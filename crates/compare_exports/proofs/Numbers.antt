@@ -8,7 +8,7 @@ use Rattle.compare.specs.declared.answer.Fault.{Fault}
 use Rattle.compare.specs.declared.answer.Fault.the-variants.{NotThrees, UnknownIndex, EqualPoints}
 use Rattle.compare.specs.declared.answer.Comparison.{Comparison}
 use Rattle.compare.specs.Answers.{toldFault, told, Answered}
-use Rattle.tessellate.specs.Draws.{after}
+use Rattle.answer_codes.specs.Drew.{after}
 use Rattle.exports.specs.Calls.{Called}
 use Rattle.compare_exports.specs.declared.reply.Reply.{Reply}
 use Rattle.compare_exports.specs.Calls.{replyOf, shiftOf}

@@ -5,7 +5,7 @@ use mathlib.Core.Path.{_≡_}
 use mathlib.Core.List.{List, [], _∷_}
 use mathlib.Core.Logic.{_↔_}
 use lib.ListN.{length, getD}
-use Rattle.tessellate.specs.Answers.{Told}
+use Rattle.answer_codes.specs.Told.{Told}
 use Rattle.exports.specs.Calls.{Called}
 use Rattle.replies.specs.Replies.{oneWord}
 use Rattle.answer_codes.specs.Reports.{AnsweredExactly}

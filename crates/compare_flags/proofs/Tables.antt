@@ -13,7 +13,7 @@ use lib.Seq.{getD-set-same, getD-set-other}
 use Rattle.mesh.specs.declared.Point.{Point}
 use Rattle.mesh.specs.Cover.{Face}
 use Rattle.mesh.specs.Faces.{at, faceOf}
-use Rattle.drawing.specs.Words.{readPoints, readTriangles}
+use Rattle.mesh.specs.Words.{readPoints, readTriangles}
 use Rattle.searches.specs.First.{some}
 use Rattle.searches.specs.Points.{firstRepeated}
 use Rattle.searches.specs.Triangles.{triangleAt}

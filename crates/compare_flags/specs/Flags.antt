@@ -7,7 +7,7 @@ use mathlib.Core.List.{List}
 use lib.Dec.{eqb}
 use lib.ListN.{length, getD}
 use Rattle.mesh.specs.Faces.{at}
-use Rattle.drawing.specs.Words.{readPoints, readTriangles}
+use Rattle.mesh.specs.Words.{readPoints, readTriangles}
 use Rattle.side_chains.specs.Links.{Linked}
 use Rattle.searches.specs.Points.{samePoint}
 use Rattle.differences.specs.Lacking.{among, lacks}

@@ -3,7 +3,7 @@ ghost use mathlib.Core.Path.{_≡_};
 ghost use Prim.Native.Nat.{_/_};
 ghost use lib.ListN.{length};
 ghost use Rattle.mesh.specs.Faces.{at, faceOf};
-ghost use Rattle.drawing.specs.Words.{readPoints};
+ghost use Rattle.mesh.specs.Words.{readPoints};
 ghost use Rattle.differences.specs.Lacking.{among};
 ghost use Rattle.differences.specs.Meshes.{facesIn, sameFace};
 ghost use Rattle.differences.specs.Found.{Cornered};

@@ -1,7 +1,7 @@
 // For each point of one mesh its partner: the number of the point of the other mesh that lies there, or the number of the other's points.
 ghost use Prim.Native.Nat.{_/_, _≤_, _<_};
 ghost use lib.ListN.{length};
-ghost use Rattle.drawing.specs.Words.{readPoints};
+ghost use Rattle.mesh.specs.Words.{readPoints};
 ghost use Rattle.point_table.specs.Trees.{PointTable};
 ghost use Rattle.differences.specs.Meshes.{Single};
 ghost use Rattle.differences.specs.Found.{Found};

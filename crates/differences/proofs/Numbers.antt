@@ -11,7 +11,7 @@ use borrow.Author.Tests.{eq-eqb, ne-eqb}
 use Rattle.mesh.specs.declared.Point.{Point}
 use Rattle.mesh.specs.Cover.{Face}
 use Rattle.mesh.specs.Faces.{at, faceOf}
-use Rattle.drawing.specs.Words.{readPoints, readTriangles}
+use Rattle.mesh.specs.Words.{readPoints, readTriangles}
 use Rattle.searches.specs.Points.{samePoint, firstRepeated}
 use Rattle.searches.specs.Triangles.{triangleAt}
 use Rattle.side_searches.specs.Same.{sameTriangle}

@@ -7,7 +7,7 @@ use lib.ListN.{length, getD}
 use Rattle.mesh.specs.declared.Point.{Point}
 use Rattle.mesh.specs.Cover.{Face}
 use Rattle.mesh.specs.Faces.{at, faceOf}
-use Rattle.drawing.specs.Words.{readPoints, readTriangles}
+use Rattle.mesh.specs.Words.{readPoints, readTriangles}
 use Rattle.searches.specs.Points.{samePoint, firstRepeated}
 use Rattle.searches.specs.Triangles.{triangleAt}
 use Rattle.differences.specs.Lacking.{Row}

@@ -3,7 +3,7 @@ ghost use mathlib.Core.Path.{_≡_};
 ghost use Prim.Native.Nat.{_/_, _≤_, _<_, ℕ};
 ghost use lib.ListN.{length};
 ghost use Rattle.mesh.specs.Faces.{at, faceOf};
-ghost use Rattle.drawing.specs.Words.{readPoints, readTriangles};
+ghost use Rattle.mesh.specs.Words.{readPoints, readTriangles};
 ghost use Rattle.differences.specs.Meshes.{Single};
 ghost use Rattle.differences.specs.Found.{Cornered, Matched, someTriangle};
 use crate::point::find_point;

@@ -3,7 +3,7 @@ ghost use mathlib.Core.Path.{_≡_};
 ghost use Prim.Native.Nat.{_/_, _≤_, _<_};
 ghost use lib.ListN.{length};
 ghost use Rattle.mesh.specs.Faces.{at};
-ghost use Rattle.drawing.specs.Words.{readPoints};
+ghost use Rattle.mesh.specs.Words.{readPoints};
 ghost use Rattle.searches.specs.Points.{samePoint};
 ghost use Rattle.differences.specs.Found.{Passed, Found};
 use crate::window::window_end;

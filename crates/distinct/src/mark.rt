@@ -2,7 +2,7 @@
 // it, and 65535 if several have it or the number is too large. The table has the same size for any number of points.
 ghost use mathlib.Core.Path.{_≡_};
 ghost use mathlib.Core.Bool.{true};
-ghost use Rattle.drawing.specs.Words.{readPoints};
+ghost use Rattle.mesh.specs.Words.{readPoints};
 ghost use Rattle.distinct.specs.Marks.{Clear, Marked};
 use mesh::Point;
 use searches::point::point_at;

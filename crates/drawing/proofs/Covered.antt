@@ -24,8 +24,9 @@ use Rattle.mesh.proofs.QuadPlaces.{quad-places}
 use Rattle.mesh.proofs.Plain.{plain-triangle-covers, plain-triangle-places, plain-quad-covers, plain-quad-places}
 use Rattle.drawing.specs.Points.{run, points}
 use Rattle.drawing.specs.Primitives.{triangles, primitives}
-use Rattle.drawing.specs.Demand.{Surface, outerRuns, outline, edges, twiceAreaOf, facesIn}
-use Rattle.drawing.proofs.ReadBack.{read-faces}
+use Rattle.drawing.specs.Demand.{Surface, outerRuns, outline, edges, twiceAreaOf}
+use Rattle.mesh.specs.Faces.{facesIn}
+use Rattle.mesh.proofs.ReadBack.{read-faces}
 use Rattle.drawing.proofs.Runs.{good-run}
 use Rattle.drawing.proofs.Cases.{Cases, drawn-cases}
 use Rattle.drawing.proofs.Plain.{plain-outline, plain-placed}

@@ -24,7 +24,7 @@ use Rattle.mesh.proofs.Grid.{grid-all}
 use Rattle.mesh.proofs.Inside.{Inside, good-inside, inside-in, inside-spans}
 use Rattle.mesh.proofs.TrianglePlace.{triangle as triangle-shape}
 use Rattle.mesh.proofs.QuadPlace.{square as square-shape}
-use Rattle.drawing.specs.Words.{vertexWords}
+use Rattle.mesh.specs.Words.{vertexWords}
 use Rattle.drawing.specs.Points.{run, points}
 use Rattle.drawing.proofs.Runs.{good-run}
 use Rattle.drawing.proofs.Cases.{Cases, all-cases}

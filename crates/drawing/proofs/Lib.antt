@@ -5,7 +5,6 @@ pub mod Runs
 pub mod Inside
 pub mod Counts
 pub mod Sizes
-pub mod ReadBack
 pub mod Numbered
 pub mod Plain
 pub mod Covered

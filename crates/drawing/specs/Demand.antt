@@ -20,7 +20,7 @@ use Rattle.mesh.specs.Faces.{at, faceOf}
 use Rattle.mesh.specs.TrianglePoints.{trianglePlace, triangleArea}
 use Rattle.mesh.specs.QuadPoints.{quadPlace, quadArea}
 use Rattle.drawing.specs.Points.{run}
-use Rattle.drawing.specs.Words.{readTriangles}
+use Rattle.mesh.specs.Words.{readTriangles}
 
 -- a triangle or a quad patch
 abbrev pub Surface : Patch → Type 0
@@ -53,10 +53,6 @@ abbrev pub twiceAreaOf : Patch → ℕ
 twiceAreaOf (Triangles a b c i) = triangleArea
 twiceAreaOf (Quads a b c d i j) = quadArea
 twiceAreaOf (Isolines a b) = 0
-
--- the triangles of index words, with points in place of numbers
-abbrev pub facesIn : List Point → List ℕ → List Face
-facesIn ps ws = map (faceOf (at ps)) (readTriangles ws)
 
 -- demand 3 for the points ps and the index words ws that are drawn for a patch
 pub record Demand (set : Settings) (p : Patch) (ps : List Point) (ws : List ℕ) : Type 0 where

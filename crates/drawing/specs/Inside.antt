@@ -10,7 +10,7 @@ use Rattle.patch.specs.Turn.{positive}
 use Rattle.mesh.specs.declared.Point.{Point}
 use Rattle.mesh.specs.Held.{Spot, Clear, HeldOnce}
 use Rattle.mesh.specs.Domain.{triangle, square, Within}
-use Rattle.drawing.specs.Demand.{facesIn}
+use Rattle.mesh.specs.Faces.{facesIn}
 
 -- the spot lies strictly inside the patch; no spot lies inside isolines
 abbrev pub Inside : Patch → Spot → Type 0

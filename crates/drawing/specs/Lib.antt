@@ -2,7 +2,6 @@
 pub mod Valid
 pub mod Points
 pub mod Primitives
-pub mod Words
 pub mod Coordinates
 pub mod Counts
 pub mod Demand

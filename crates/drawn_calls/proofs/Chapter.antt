@@ -12,10 +12,11 @@ use Rattle.level.specs.Top.{Top, isTop}
 use Rattle.patch.specs.declared.kinds.Patch.{Patch}
 use Rattle.patch.specs.declared.settings.Settings.{Settings}
 use Rattle.patch.specs.Subdivide.{discards}
-use Rattle.drawing.specs.Words.{readPoints}
+use Rattle.mesh.specs.Words.{readPoints}
 use Rattle.job_fields.specs.Settings.{choices, AllBelow}
-use Rattle.tessellate.specs.Answers.{Told, refused, drew, pointsOf, indicesOf, verdict}
-use Rattle.tessellate.proofs.Tops.{top-as, is-top}
+use Rattle.tessellate.specs.Answers.{pointsOf, indicesOf, verdict}
+use Rattle.answer_codes.specs.Told.{Told, refused, drew}
+use Rattle.level.proofs.Top.{top-as, is-top}
 use Rattle.replies.specs.Replies.{unknownSetting, badTop}
 use Rattle.requests.specs.Inputs.{patchIn, settingsIn}
 use Rattle.requests.specs.Asked.{known}

@@ -7,7 +7,7 @@ use lib.Ieee.{Float}
 use Rattle.patch.specs.declared.kinds.Patch.{Patch}
 use Rattle.patch.specs.declared.settings.Settings.{Settings}
 use Rattle.mesh.specs.declared.Point.{Point}
-use Rattle.drawing.specs.Words.{readPoints}
+use Rattle.mesh.specs.Words.{readPoints}
 use Rattle.drawing.specs.Demand.{Surface, Demand}
 use Rattle.drawing.specs.Inside.{SpotsOnce}
 use Rattle.drawing.specs.Kept.{Alike}

@@ -9,12 +9,12 @@ use lib.ListN.{getD, take}
 use Rattle.level.specs.Top.{Top}
 use Rattle.patch.specs.Subdivide.{discards, subdivision}
 use Rattle.drawing.specs.Points.{points}
-use Rattle.drawing.specs.Words.{readPoints}
-use Rattle.drawing.proofs.ReadBack.{read-points}
+use Rattle.mesh.specs.Words.{readPoints}
+use Rattle.mesh.proofs.ReadBack.{read-points}
 use Rattle.job_fields.specs.Settings.{choices, AllBelow}
 use Rattle.tessellate.specs.declared.answer.PointsAnswer.the-variants as point-answers
 use Rattle.tessellate.specs.declared.answer.IndicesAnswer.the-variants as index-answers
-use Rattle.tessellate.specs.Answers.{Told}
+use Rattle.answer_codes.specs.Told.{Told}
 use Rattle.tessellate.specs.Draws.{DrewPoints, DrewIndices, pointWords, connectionWords}
 use Rattle.tessellate.proofs.Together.{points-drawn, point-words-drawn, indices-drawn}
 use Rattle.float_drawing.specs.declared.answer.FloatsAnswer.the-variants as floats

@@ -7,7 +7,7 @@ use lib.ListN.{getD, take, drop}
 use Rattle.patch.specs.declared.kinds.Patch.{Patch}
 use Rattle.patch.specs.declared.settings.Settings.{Settings}
 use Rattle.mesh.specs.declared.Point.{Point}
-use Rattle.drawing.specs.Words.{readPoints}
+use Rattle.mesh.specs.Words.{readPoints}
 use Rattle.requests.specs.Inputs.{patchIn, settingsIn}
 use Rattle.shared_lists.specs.SharedList.{firstFree}
 use Rattle.shares.specs.Answers.{pointsIn}

@@ -6,8 +6,10 @@ use lib.ListN.{length}
 use lib.Ieee.{Float}
 use Rattle.patch.specs.declared.kinds.Patch.{Patch}
 use Rattle.patch.specs.declared.settings.Settings.{Settings}
-use Rattle.tessellate.specs.Answers.{Told, measureVerdict, pointsVerdict, indicesVerdict}
-use Rattle.tessellate.specs.Draws.{Drew, pointWords, connectionWords}
+use Rattle.tessellate.specs.Answers.{measureVerdict, pointsVerdict, indicesVerdict}
+use Rattle.answer_codes.specs.Told.{Told}
+use Rattle.tessellate.specs.Draws.{pointWords, connectionWords}
+use Rattle.answer_codes.specs.Drew.{Drew}
 use Rattle.replies.specs.declared.reply.Reply.{Reply}
 use Rattle.replies.specs.Clamps.{clampBytes, noClamps}
 use Rattle.replies.specs.Replies.{Tells, unknownSetting, badTop, twoWords, Says}

@@ -22,7 +22,7 @@ use Rattle.tessellate.specs.declared.answer.PointsAnswer.the-variants as points
 use Rattle.tessellate.specs.declared.answer.IndicesAnswer.{IndicesAnswer}
 use Rattle.tessellate.specs.declared.answer.IndicesAnswer.the-variants as indices
 use Rattle.tessellate.specs.Answers.{toldSize, toldPoints, toldIndices, pointsOf, indicesOf, verdict, pointsVerdict, indicesVerdict}
-use Rattle.tessellate.proofs.Tops.{top-as, is-top, no-top, top-no}
+use Rattle.level.proofs.Top.{top-as, is-top, no-top, top-no}
 use Rattle.tessellate.proofs.Measured.{measured, measured-told, sizeIn, size-back}
 use Rattle.replies.specs.Replies.{unknownSetting, badTop, oneWord}
 use Rattle.replies.proofs.Replies.{says-as}

@@ -9,7 +9,8 @@ use lib.Ieee.{Float}
 use Rattle.level.specs.Top.{isTop}
 use Rattle.patch.specs.Subdivide.{discards}
 use Rattle.job_fields.specs.Settings.{firstUnknown}
-use Rattle.tessellate.specs.Answers.{Told, pointsOf, indicesOf, verdict, measureVerdict}
+use Rattle.tessellate.specs.Answers.{pointsOf, indicesOf, verdict, measureVerdict}
+use Rattle.answer_codes.specs.Told.{Told}
 use Rattle.replies.specs.Replies.{unknownSetting, badTop, OneOf}
 use Rattle.requests.specs.Inputs.{topIn, patchIn, settingsIn}
 use Rattle.requests.specs.Asked.{known}

@@ -12,14 +12,16 @@ use Rattle.level.specs.Top.{isTop}
 use Rattle.patch.specs.declared.kinds.Patch.{Patch}
 use Rattle.patch.specs.declared.settings.Settings.{Settings}
 use Rattle.patch.specs.Subdivide.{discards}
-use Rattle.drawing.specs.Words.{readPoints}
+use Rattle.mesh.specs.Words.{readPoints}
 use Rattle.drawing.specs.Demand.{Demand}
 use Rattle.drawing.specs.Inside.{SpotsOnce}
 use Rattle.drawing.specs.Kept.{Alike}
 use Rattle.tessellate.specs.declared.answer.PointsAnswer.the-variants as points
 use Rattle.tessellate.specs.declared.answer.IndicesAnswer.the-variants as indices
-use Rattle.tessellate.specs.Answers.{Told, refused, drew, pointsOf, indicesOf, verdict, pointsVerdict, indicesVerdict}
-use Rattle.tessellate.specs.Draws.{Drew, DrewPoints, DrewIndices, pointWords, connectionWords}
+use Rattle.tessellate.specs.Answers.{pointsOf, indicesOf, verdict, pointsVerdict, indicesVerdict}
+use Rattle.answer_codes.specs.Told.{Told, refused, drew}
+use Rattle.tessellate.specs.Draws.{DrewPoints, DrewIndices, pointWords, connectionWords}
+use Rattle.answer_codes.specs.Drew.{Drew}
 use Rattle.tessellate.proofs.Together.{demand-together, once-together, kept}
 use Rattle.replies.specs.Replies.{unknownSetting, badTop}
 use Rattle.requests.specs.Inputs.{patchIn, settingsIn}

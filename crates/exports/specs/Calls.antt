@@ -5,8 +5,10 @@ use mathlib.Core.Path.{_≡_}
 use mathlib.Core.List.{List}
 use lib.Ieee.{Float}
 use lib.ListN.{length}
-use Rattle.tessellate.specs.Answers.{Told, pointsVerdict, indicesVerdict, measureVerdict}
-use Rattle.tessellate.specs.Draws.{after, pointWords, connectionWords}
+use Rattle.tessellate.specs.Answers.{pointsVerdict, indicesVerdict, measureVerdict}
+use Rattle.answer_codes.specs.Told.{Told}
+use Rattle.tessellate.specs.Draws.{pointWords, connectionWords}
+use Rattle.answer_codes.specs.Drew.{after}
 use Rattle.replies.specs.Clamps.{clampBytes}
 use Rattle.replies.specs.Replies.{unknownSetting, badTop, twoWords, oneWord, Says}
 use Rattle.requests.specs.Inputs.{patchIn, settingsIn}

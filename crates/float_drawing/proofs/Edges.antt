@@ -15,22 +15,21 @@ use Rattle.patch.specs.Subdivide.{outers, subdivision}
 use Rattle.mesh.specs.declared.Point.{Point}
 use Rattle.mesh.specs.Cover.{missing}
 use Rattle.mesh.specs.Seam.{places, Mirrors}
-use Rattle.mesh.specs.Words.{vertexWords}
+use Rattle.mesh.specs.Words.{vertexWords, readPoints}
 use Rattle.mesh.proofs.Along.{good-mirrors}
 use Rattle.mesh.proofs.Lists.{all-at}
 use Rattle.mesh.proofs.Words.{words-length}
 use Rattle.drawing.specs.Points.{points}
-use Rattle.drawing.specs.Words.{readPoints}
 use Rattle.drawing.specs.Coordinates.{one}
 use Rattle.drawing.specs.Demand.{Surface, outerLevel, edges, Demand}
 use Rattle.drawing.proofs.Runs.{good-run}
 use Rattle.drawing.proofs.Seams.{seam}
 use Rattle.tessellate.specs.declared.answer.PointsAnswer.the-variants.{Drawn}
-use Rattle.tessellate.proofs.Tops.{top-as}
+use Rattle.level.proofs.Top.{top-as}
 use Rattle.tessellate.proofs.Together.{points-drawn}
 use Rattle.coordinate.specs.Coordinate.{coordinate}
 use Rattle.float_drawing.specs.declared.answer.FloatsAnswer.{FloatsAnswer}
-use Rattle.tessellate.specs.Answers.{drewBoth}
+use Rattle.answer_codes.specs.Told.{drewBoth}
 use Rattle.float_drawing.specs.Answers.{toldFloats}
 use Rattle.float_drawing.specs.Draws.{DrewWithFloats}
 use Rattle.float_drawing.specs.Edges.{axis, inRisingOrder, edgeFloat, floatsAlong, SameKind}

@@ -20,11 +20,11 @@ use Rattle.drawing.specs.Points.{points}
 use Rattle.drawing.specs.Coordinates.{one}
 use Rattle.drawing.proofs.Distinct.{points-distinct}
 use Rattle.tessellate.specs.Draws.{pointWords}
-use Rattle.tessellate.proofs.Tops.{top-as}
+use Rattle.level.proofs.Top.{top-as}
 use Rattle.coordinate.specs.Coordinate.{coordinate}
 use Rattle.coordinate.proofs.Laws.{exact, near, triangle-apart, quad-apart}
 use Rattle.float_drawing.specs.declared.answer.FloatsAnswer.{FloatsAnswer}
-use Rattle.tessellate.specs.Answers.{drewBoth}
+use Rattle.answer_codes.specs.Told.{drewBoth}
 use Rattle.float_drawing.specs.Answers.{toldFloats}
 use Rattle.float_drawing.specs.Draws.{floatWords, DrewWithFloats}
 use Rattle.float_drawing.specs.Said.{FloatOf}

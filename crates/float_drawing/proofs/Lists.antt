@@ -19,9 +19,10 @@ use Rattle.drawing.specs.Coordinates.{one}
 use Rattle.drawing.proofs.InPatch.{words-up-to}
 use Rattle.tessellate.specs.declared.answer.PointsAnswer.{PointsAnswer}
 use Rattle.tessellate.specs.declared.answer.IndicesAnswer.{IndicesAnswer}
-use Rattle.tessellate.specs.Answers.{toldPoints, toldIndices, pointsOf, indicesOf, drew}
+use Rattle.tessellate.specs.Answers.{toldPoints, toldIndices, pointsOf, indicesOf}
+use Rattle.answer_codes.specs.Told.{drew}
 use Rattle.tessellate.specs.Draws.{pointWords, connectionWords, DrewPoints, DrewIndices}
-use Rattle.tessellate.proofs.Tops.{top-as}
+use Rattle.level.proofs.Top.{top-as}
 use Rattle.tessellate.proofs.Draws.{told-drawn}
 use Rattle.coordinate.specs.Coordinate.{coordinate, Castable}
 use Rattle.float_drawing.specs.Draws.{floatWords}

@@ -7,14 +7,15 @@ use lib.Ieee.{Float}
 use lib.ListN.{take}
 use Rattle.patch.specs.declared.kinds.Patch.{Patch}
 use Rattle.patch.specs.declared.settings.Settings.{Settings}
-use Rattle.drawing.specs.Words.{readPoints}
+use Rattle.mesh.specs.Words.{readPoints}
 use Rattle.drawing.specs.Demand.{Demand}
 use Rattle.drawing.specs.Inside.{SpotsOnce}
 use Rattle.tessellate.specs.declared.answer.PointsAnswer.the-variants as points
 use Rattle.tessellate.specs.declared.answer.IndicesAnswer.the-variants as indices
-use Rattle.tessellate.specs.Answers.{drew, drewBoth}
+use Rattle.answer_codes.specs.Told.{drew, drewBoth}
 use Rattle.tessellate.specs.Draws.{DrewPoints, DrewIndices}
-use Rattle.tessellate.proofs.Draws.{told-drawn, written}
+use Rattle.tessellate.proofs.Draws.{told-drawn}
+use Rattle.answer_codes.proofs.Drew.{written}
 use Rattle.tessellate.proofs.Together.{demand-together, once-together}
 use Rattle.float_drawing.specs.declared.answer.FloatsAnswer.{FloatsAnswer}
 use Rattle.float_drawing.specs.Answers.{toldFloats}

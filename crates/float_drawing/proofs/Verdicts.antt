@@ -14,7 +14,8 @@ use Rattle.patch.specs.declared.settings.Settings.{Settings}
 use Rattle.patch.specs.Subdivide.{discards}
 use Rattle.tessellate.specs.declared.answer.Size.{Size}
 use Rattle.tessellate.specs.declared.answer.Size.the-variants.{Counts, Discarded, BadTop}
-use Rattle.tessellate.specs.Answers.{Told, refused, pointsOf, indicesOf, toldSize, measureVerdict, drewBoth}
+use Rattle.tessellate.specs.Answers.{pointsOf, indicesOf, toldSize, measureVerdict}
+use Rattle.answer_codes.specs.Told.{Told, refused, drewBoth}
 use Rattle.tessellate.proofs.Measured.{measured, is-measured}
 use Rattle.float_drawing.specs.declared.answer.FloatsAnswer.{FloatsAnswer}
 use Rattle.float_drawing.specs.declared.answer.FloatsAnswer.the-variants.{Drawn}

@@ -7,7 +7,8 @@ use lib.ListN.{length}
 use Rattle.patch.specs.declared.kinds.Patch.{Patch}
 use Rattle.patch.specs.declared.settings.Settings.{Settings}
 use Rattle.drawing.specs.Coordinates.{one}
-use Rattle.tessellate.specs.Draws.{after, pointWords, connectionWords}
+use Rattle.tessellate.specs.Draws.{pointWords, connectionWords}
+use Rattle.answer_codes.specs.Drew.{after}
 use Rattle.coordinate.specs.Coordinate.{coordinate}
 use Rattle.float_drawing.specs.declared.answer.FloatsAnswer.{FloatsAnswer}
 use Rattle.float_drawing.specs.Answers.{toldFloats, floatsVerdict}

@@ -12,8 +12,9 @@ use Rattle.level.specs.Top.{isTop}
 use Rattle.patch.specs.declared.kinds.Patch.{Patch}
 use Rattle.patch.specs.declared.settings.Settings.{Settings}
 use Rattle.patch.specs.Subdivide.{discards}
-use Rattle.tessellate.specs.Answers.{refused, drewBoth, pointsOf, indicesOf}
-use Rattle.tessellate.proofs.Tops.{top-as, is-top, no-top, top-no}
+use Rattle.tessellate.specs.Answers.{pointsOf, indicesOf}
+use Rattle.answer_codes.specs.Told.{refused, drewBoth}
+use Rattle.level.proofs.Top.{top-as, is-top, no-top, top-no}
 use Rattle.float_drawing.specs.declared.answer.FloatsAnswer.{FloatsAnswer}
 use Rattle.float_drawing.specs.declared.answer.FloatsAnswer.the-variants as floats
 use Rattle.float_drawing.specs.Answers.{toldFloats, floatsVerdict}

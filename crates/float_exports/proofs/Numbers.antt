@@ -9,7 +9,8 @@ use lib.Ieee.{Float}
 use Rattle.level.specs.Top.{isTop}
 use Rattle.patch.specs.Subdivide.{discards}
 use Rattle.job_fields.specs.Settings.{firstUnknown}
-use Rattle.tessellate.specs.Answers.{refused, pointsOf, indicesOf, drewBoth}
+use Rattle.tessellate.specs.Answers.{pointsOf, indicesOf}
+use Rattle.answer_codes.specs.Told.{refused, drewBoth}
 use Rattle.replies.specs.Replies.{unknownSetting, badTop, OneOf}
 use Rattle.requests.specs.Inputs.{topIn, patchIn, settingsIn}
 use Rattle.requests.specs.Asked.{known}

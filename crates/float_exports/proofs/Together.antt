@@ -9,9 +9,10 @@ use lib.Ieee.{Float}
 use lib.ListN.{length, take, getD}
 use Rattle.level.specs.Top.{isTop}
 use Rattle.patch.specs.Subdivide.{discards}
-use Rattle.drawing.specs.Words.{readPoints}
+use Rattle.mesh.specs.Words.{readPoints}
 use Rattle.drawing.specs.Demand.{Demand}
-use Rattle.tessellate.specs.Answers.{Told, refused, pointsOf, indicesOf, drewBoth}
+use Rattle.tessellate.specs.Answers.{pointsOf, indicesOf}
+use Rattle.answer_codes.specs.Told.{Told, refused, drewBoth}
 use Rattle.replies.specs.Replies.{twoWords}
 use Rattle.requests.specs.Inputs.{patchIn, settingsIn}
 use Rattle.requests.proofs.Known.{known-zero}

@@ -8,7 +8,7 @@ use mathlib.Core.List.{List}
 use borrow.Author.Tests.{le-ltb}
 use lib.ListN.{length, take, drop}
 use Rattle.buffer.proofs.Laws.{over-front}
-use Rattle.tessellate.specs.Answers.{Told}
+use Rattle.answer_codes.specs.Told.{Told}
 use Rattle.patch.specs.declared.settings.Settings.{Settings}
 use Rattle.job.specs.declared.cursor.Cursor.{Cursor}
 use Rattle.job.specs.declared.record.Record.{Record}

@@ -8,7 +8,7 @@ use borrow.Author.Tests.{ltb-false, le-ltb, eqb-true}
 use lib.Dec.{ltb, eqb}
 use lib.ListN.{length, take, drop, getD, length-take, length-drop}
 use Rattle.buffer.proofs.Laws.{over-front}
-use Rattle.tessellate.specs.Answers.{Told, refused, drew}
+use Rattle.answer_codes.specs.Told.{Told, refused, drew}
 use Rattle.replies.specs.Replies.{unknownSetting, badTop, oneWord}
 use Rattle.requests.specs.Inputs.{topIn}
 use Rattle.job.specs.declared.header.Header.{Header}

@@ -4,8 +4,8 @@ use mathlib.Core.Path.{_≡_, sym, _∙_}
 use mathlib.Core.Bool.{true, false}
 use mathlib.Core.List.{List}
 use borrow.Author.Tests.{lt-ltb, le-ltb}
-use Rattle.tessellate.specs.Answers.{Told, refused}
-use Rattle.tessellate.specs.Draws.{Drew}
+use Rattle.answer_codes.specs.Told.{Told, refused}
+use Rattle.answer_codes.specs.Drew.{Drew}
 use Rattle.exports.specs.Calls.{Called}
 use Rattle.replies.specs.Replies.{unknownSetting, badTop, oneWord, Says}
 use Rattle.replies.proofs.Replies.{says-as}

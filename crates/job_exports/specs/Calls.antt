@@ -6,7 +6,7 @@ use mathlib.Core.Bool.{cond}
 use mathlib.Core.List.{List, [], _∷_}
 use lib.Dec.{ltb}
 use lib.ListN.{length}
-use Rattle.tessellate.specs.Answers.{Told, refused, drew}
+use Rattle.answer_codes.specs.Told.{Told, refused, drew}
 use Rattle.exports.specs.Calls.{Called}
 use Rattle.replies.specs.Replies.{unknownSetting, badTop, oneWord, Says}
 use Rattle.requests.specs.Inputs.{topIn}

@@ -8,8 +8,8 @@ use borrow.Author.Tests.{le-ltb}
 use lib.Dec.{ltb}
 use lib.ListN.{length, take, drop, getD}
 use Rattle.buffer.proofs.Laws.{over-front}
-use Rattle.tessellate.specs.Answers.{Told, refused}
-use Rattle.tessellate.specs.Draws.{Drew}
+use Rattle.answer_codes.specs.Told.{Told, refused}
+use Rattle.answer_codes.specs.Drew.{Drew}
 use Rattle.job_fields.specs.declared.version.Version.{Version}
 use Rattle.job.specs.declared.cursor.Cursor.{Cursor}
 use Rattle.job.specs.declared.record.Record.{Record}

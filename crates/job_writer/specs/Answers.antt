@@ -5,8 +5,8 @@ use mathlib.Core.Bool.{cond}
 use mathlib.Core.List.{List}
 use lib.Dec.{ltb}
 use lib.ListN.{length}
-use Rattle.tessellate.specs.Answers.{Told, refused, drew}
-use Rattle.tessellate.specs.Draws.{Drew}
+use Rattle.answer_codes.specs.Told.{Told, refused, drew}
+use Rattle.answer_codes.specs.Drew.{Drew}
 use Rattle.job_fields.specs.declared.version.Version.{Version}
 use Rattle.job.specs.declared.record.Record.{Record}
 use Rattle.job.specs.declared.header.Header.the-variants as read-header

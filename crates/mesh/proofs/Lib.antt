@@ -28,6 +28,7 @@ pub mod QuadPlaces
 pub mod Plain
 pub mod Examples
 pub mod Words
+pub mod ReadBack
 pub mod Members
 pub mod Walk
 pub mod Stokes

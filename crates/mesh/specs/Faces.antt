@@ -7,6 +7,7 @@ use Rattle.strip.specs.declared.triangle.Triangle.{Triangle}
 use Rattle.strip.specs.Triangles.{turned}
 use Rattle.mesh.specs.declared.Point.{Point}
 use Rattle.mesh.specs.Cover.{Face, missing}
+use Rattle.mesh.specs.Words.{readTriangles}
 
 -- point number k
 abbrev pub at : List Point → ℕ → Point
@@ -19,3 +20,7 @@ faceOf P t = record { p = P (t .a); q = P (t .b); r = P (t .c) }
 -- the faces of the triangles ts, in the orientation asked for
 abbrev pub facesOf : Bool → List Point → List Triangle → List Face
 facesOf positive ps ts = map (faceOf (at ps)) (map (turned positive) ts)
+
+-- the triangles of index words, with points in place of numbers
+abbrev pub facesIn : List Point → List ℕ → List Face
+facesIn ps ws = map (faceOf (at ps)) (readTriangles ws)

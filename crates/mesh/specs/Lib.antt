@@ -4,6 +4,7 @@ pub mod Held
 pub mod EitherTurn
 pub mod Seam
 pub mod Edge
+pub mod Words
 pub mod Faces
 pub mod TrianglePoints
 pub mod QuadPoints
@@ -12,5 +13,4 @@ pub mod OnEdge
 pub mod OuterRing
 pub mod RingPoints
 pub mod GridPoints
-pub mod Words
 pub mod Segmented

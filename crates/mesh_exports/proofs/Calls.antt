@@ -5,7 +5,7 @@ use mathlib.Core.List.{List, [], _∷_}
 use lib.Ieee.{Float}
 use Rattle.patch.specs.declared.kinds.Patch.{Patch}
 use Rattle.patch.specs.declared.settings.Settings.{Settings}
-use Rattle.tessellate.specs.Answers.{Told}
+use Rattle.answer_codes.specs.Told.{Told}
 use Rattle.mesh_verdict.specs.declared.Verdict.{Verdict}
 use Rattle.verdict_meaning.specs.Means.{Checked}
 use Rattle.verdict_meaning.specs.Numbers.{toldVerdict}

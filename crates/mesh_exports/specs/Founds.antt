@@ -4,7 +4,7 @@ use mathlib.Core.Path.{_≡_}
 use mathlib.Core.List.{List}
 use lib.Ieee.{Float}
 use lib.ListN.{getD}
-use Rattle.tessellate.specs.Answers.{Told}
+use Rattle.answer_codes.specs.Told.{Told}
 use Rattle.verdict_meaning.specs.Answers.{checkVerdict}
 use Rattle.replies.specs.Replies.{unknownSetting, badTop}
 use Rattle.requests.specs.Inputs.{patchIn, settingsIn}

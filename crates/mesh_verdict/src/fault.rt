@@ -2,7 +2,7 @@
 ghost use mathlib.Core.Path.{_≡_};
 ghost use Prim.Native.Nat.{_*_, _/_, _≤_};
 ghost use lib.ListN.{length};
-ghost use Rattle.drawing.specs.Words.{readPoints, readTriangles};
+ghost use Rattle.mesh.specs.Words.{readPoints, readTriangles};
 ghost use Rattle.mesh_faults.specs.Turns.{AllNumbered, AllSmall};
 ghost use Rattle.mesh_faults.specs.Outline.{ClosedTo, DrawnTo};
 ghost use Rattle.mesh_verdict.specs.Faults.{outlineFault, sideFault, pointFault, meshFault};

@@ -12,11 +12,10 @@ use Rattle.mesh.specs.declared.Point.{Point}
 use Rattle.mesh.specs.Edge.{Run, around, ring}
 use Rattle.mesh.specs.TrianglePoints.{trianglePlace, centre, rings, trianglePatch}
 use Rattle.mesh.specs.QuadPoints.{quadPlace, grid, quadPatch}
-use Rattle.mesh.specs.Words.{vertexWords}
+use Rattle.mesh.specs.Words.{vertexWords, readPoints}
 use Rattle.mesh.proofs.Words.{words-length}
 use Rattle.mesh.proofs.Ring.{ring-length}
-use Rattle.drawing.specs.Words.{readPoints}
-use Rattle.drawing.proofs.ReadBack.{read-points}
+use Rattle.mesh.proofs.ReadBack.{read-points}
 use Rattle.vertices.proofs.Words.{words-append}
 use Rattle.outline.specs.Outlines.{OutlineOf}
 

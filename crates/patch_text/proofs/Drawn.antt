@@ -18,10 +18,11 @@ use Rattle.tessellate.specs.declared.answer.PointsAnswer.{PointsAnswer}
 use Rattle.tessellate.specs.declared.answer.PointsAnswer.the-variants as points
 use Rattle.tessellate.specs.declared.answer.IndicesAnswer.{IndicesAnswer}
 use Rattle.tessellate.specs.declared.answer.IndicesAnswer.the-variants as indices
-use Rattle.tessellate.specs.Answers.{Told, refused, drew, toldPoints, toldIndices, pointsOf, indicesOf, verdict}
+use Rattle.tessellate.specs.Answers.{toldPoints, toldIndices, pointsOf, indicesOf, verdict}
+use Rattle.answer_codes.specs.Told.{Told, refused, drew}
 use Rattle.tessellate.specs.Draws.{DrewPoints, DrewIndices, pointWords, connectionWords}
 use Rattle.tessellate.proofs.Together.{drawn-means}
-use Rattle.tessellate.proofs.Tops.{top-as}
+use Rattle.level.proofs.Top.{top-as}
 use Rattle.text.specs.Heads.{discardedLine, refusedLine}
 use Rattle.patch_text.specs.Widths.{widthOf}
 use Rattle.patch_text.specs.Room.{room, FullSize}

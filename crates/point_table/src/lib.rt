@@ -5,7 +5,7 @@
 ghost use mathlib.Core.Path.{_≡_};
 ghost use Prim.Native.Nat.{_+_, _*_, _/_, _%_, _≤_, _<_};
 ghost use lib.ListN.{length};
-ghost use Rattle.drawing.specs.Words.{readPoints};
+ghost use Rattle.mesh.specs.Words.{readPoints};
 ghost use Rattle.searches.specs.Points.{firstRepeated};
 ghost use Rattle.point_table.specs.Trees.{slotOf, turned, PointTable, Sought};
 use mesh::Point;

@@ -11,7 +11,7 @@ use Rattle.patch.specs.declared.kinds.Patch.{Patch}
 use Rattle.patch.specs.declared.settings.Settings.{Settings}
 use Rattle.patch.specs.Subdivide.{discards}
 use Rattle.tessellate.specs.Answers.{pointsOf, indicesOf}
-use Rattle.tessellate.proofs.Tops.{top-as}
+use Rattle.level.proofs.Top.{top-as}
 use Rattle.patch_text.proofs.Sizes.{points-fit, indices-fit}
 use Rattle.job_fields.specs.declared.version.Version.the-variants.{One}
 use Rattle.job.specs.declared.next.NextRecord.the-variants.{Read}

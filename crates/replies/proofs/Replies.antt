@@ -2,7 +2,7 @@
 use Prim.Native.Nat.{ℕ}
 use mathlib.Core.Path.{_≡_, sym, ap, _∙_}
 use mathlib.Core.List.{List, [], _∷_}
-use Rattle.tessellate.specs.Answers.{Told, drew, drewBoth}
+use Rattle.answer_codes.specs.Told.{Told, drew, drewBoth}
 use Rattle.replies.specs.declared.reply.Reply.{Reply}
 use Rattle.replies.specs.Replies.{replyOf, Tells, twoWords, oneWord, Says}
 

@@ -4,7 +4,7 @@ use mathlib.Core.Path.{_≡_}
 use mathlib.Core.List.{List, [], _∷_}
 use mathlib.Core.Logic.{_⊎_}
 use lib.ListN.{getD}
-use Rattle.tessellate.specs.Answers.{Told}
+use Rattle.answer_codes.specs.Told.{Told}
 use Rattle.replies.specs.declared.reply.Reply.{Reply}
 
 -- the number of an answer and its first two values; 0 for a value that it lacks

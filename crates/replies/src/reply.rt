@@ -2,7 +2,8 @@
 ghost use mathlib.Core.Path.{_≡_};
 ghost use mathlib.Core.List.{[], _∷_};
 ghost use Prim.Native.Nat.{_<_};
-ghost use Rattle.tessellate.specs.Answers.{refused, drewBoth, toldPoints, toldIndices, toldSize};
+ghost use Rattle.tessellate.specs.Answers.{toldPoints, toldIndices, toldSize};
+ghost use Rattle.answer_codes.specs.Told.{refused, drewBoth};
 ghost use Rattle.replies.specs.Replies.{Tells, unknownSetting, badTop};
 use tessellate::answer::IndicesAnswer;
 use tessellate::answer::PointsAnswer;

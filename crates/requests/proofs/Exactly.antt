@@ -8,7 +8,7 @@ use lib.Dec.{ltb, eqb}
 use lib.ListN.{getD}
 use Rattle.level.specs.Top.{Top, isTop}
 use Rattle.job_fields.specs.Settings.{choices, firstUnknown, FirstOver, AllBelow}
-use Rattle.tessellate.specs.Answers.{Told}
+use Rattle.answer_codes.specs.Told.{Told}
 use Rattle.replies.specs.Replies.{unknownSetting, badTop, Says}
 use Rattle.answer_codes.specs.Reports.{Reports}
 use Rattle.answer_codes.proofs.Exactly.{number-exactly, answered-exactly}

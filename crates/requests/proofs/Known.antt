@@ -9,8 +9,8 @@ use lib.Dec.{ltb}
 use Rattle.level.specs.Top.{Top, isTop}
 use Rattle.job_fields.specs.Settings.{choices, firstUnknown, FirstOver, AllBelow}
 use Rattle.job_fields.proofs.Limits.{first-is, first-none}
-use Rattle.tessellate.specs.Answers.{Told}
-use Rattle.tessellate.proofs.Tops.{top-as, no-top}
+use Rattle.answer_codes.specs.Told.{Told}
+use Rattle.level.proofs.Top.{top-as, no-top}
 use Rattle.replies.specs.Replies.{unknownSetting, badTop}
 use Rattle.requests.specs.Inputs.{topIn}
 use Rattle.requests.specs.Asked.{known}

@@ -3,7 +3,7 @@ use Prim.Native.Nat.{ℕ}
 use mathlib.Core.List.{List}
 use Rattle.level.specs.Top.{Top}
 use Rattle.job_fields.specs.Settings.{choices, FirstOver, AllBelow}
-use Rattle.tessellate.specs.Answers.{Told}
+use Rattle.answer_codes.specs.Told.{Told}
 use Rattle.replies.specs.Replies.{unknownSetting}
 use Rattle.answer_codes.specs.Reports.{AnsweredExactly}
 use Rattle.requests.specs.Inputs.{topIn}

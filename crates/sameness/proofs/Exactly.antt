@@ -8,7 +8,7 @@ use lib.ListN.{length, getD}
 use lib.Dec.{ltb, leb, eqb}
 use borrow.Author.Tests.{lt-ltb, le-ltb, ltb-true, ltb-false, le-leb, lt-leb, leb-true, leb-false, eq-eqb, eqb-true}
 use Rattle.mesh.specs.Faces.{at}
-use Rattle.drawing.specs.Words.{readPoints}
+use Rattle.mesh.specs.Words.{readPoints}
 use Rattle.searches.specs.Indices.{firstUnknown}
 use Rattle.searches.specs.Points.{samePoint, repeats, firstRepeated}
 use Rattle.searches.proofs.First.{some-which, some-here, some-none, some-all}

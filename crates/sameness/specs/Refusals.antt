@@ -4,7 +4,7 @@ use mathlib.Core.Path.{_≡_}
 use mathlib.Core.List.{List}
 use lib.ListN.{length, getD}
 use Rattle.mesh.specs.Faces.{at}
-use Rattle.drawing.specs.Words.{readPoints}
+use Rattle.mesh.specs.Words.{readPoints}
 use Rattle.compare.specs.declared.answer.Fault.{Fault}
 use Rattle.compare.specs.declared.answer.Fault.the-variants.{NotThrees, UnknownIndex, EqualPoints}
 use Rattle.compare.specs.declared.answer.Checked.{Checked}

@@ -11,7 +11,7 @@ use lib.Ieee.{Float}
 use lib.ListN.{length}
 use Rattle.level.specs.Top.{isTop}
 use Rattle.job_fields.specs.Settings.{firstUnknown}
-use Rattle.tessellate.specs.Answers.{Told, refused}
+use Rattle.answer_codes.specs.Told.{Told, refused}
 use Rattle.replies.specs.Replies.{unknownSetting, badTop, twoWords}
 use Rattle.requests.specs.Inputs.{topIn, patchIn, settingsIn}
 use Rattle.shared_lists.specs.declared.state.Designer.{Designer}

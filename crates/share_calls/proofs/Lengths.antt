@@ -4,7 +4,7 @@ use mathlib.Core.Path.{_≡_, sym, ap, ap₂, _∙_}
 use mathlib.Core.List.{List}
 use lib.Ieee.{Float}
 use lib.ListN.{length}
-use Rattle.tessellate.specs.Answers.{Told}
+use Rattle.answer_codes.specs.Told.{Told}
 use Rattle.replies.specs.Replies.{twoWords}
 use Rattle.requests.specs.Inputs.{patchIn, settingsIn}
 use Rattle.shared_lists.specs.Operations.{unlessRefused}

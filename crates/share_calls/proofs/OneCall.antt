@@ -16,13 +16,14 @@ use Rattle.level.specs.Top.{isTop}
 use Rattle.job_fields.specs.Settings.{choices, firstUnknown, AllBelow}
 use Rattle.job_fields.proofs.Limits.{first-none}
 use Rattle.drawing.specs.Points.{points}
-use Rattle.drawing.specs.Words.{readPoints}
+use Rattle.mesh.specs.Words.{readPoints}
 use Rattle.drawing.specs.Demand.{Demand}
 use Rattle.drawing.specs.Inside.{SpotsOnce}
-use Rattle.drawing.proofs.ReadBack.{read-points}
-use Rattle.tessellate.specs.Answers.{Told, refused, drewBoth, pointsOf, indicesOf}
+use Rattle.mesh.proofs.ReadBack.{read-points}
+use Rattle.tessellate.specs.Answers.{pointsOf, indicesOf}
+use Rattle.answer_codes.specs.Told.{Told, refused, drewBoth}
 use Rattle.tessellate.specs.Draws.{pointWords, connectionWords}
-use Rattle.tessellate.proofs.Tops.{top-as}
+use Rattle.level.proofs.Top.{top-as}
 use Rattle.replies.specs.Replies.{unknownSetting, badTop, twoWords}
 use Rattle.requests.specs.Inputs.{topIn, patchIn, settingsIn}
 use Rattle.shared_lists.specs.declared.state.Designer.{Designer}

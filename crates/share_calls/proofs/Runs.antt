@@ -6,7 +6,7 @@ use mathlib.Core.List.{List, [], _∷_}
 use native.Mathlib.Omega.{arith}
 use lib.Dec.{eqb}
 use lib.ListN.{length}
-use Rattle.tessellate.specs.Answers.{Told, refused}
+use Rattle.answer_codes.specs.Told.{Told, refused}
 use Rattle.shared_lists.specs.declared.state.State.{State}
 use Rattle.shared_lists.specs.Answers.{done, quotasFit}
 use Rattle.shared_lists.specs.Operations.{startState}

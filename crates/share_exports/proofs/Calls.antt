@@ -12,7 +12,7 @@ use Rattle.level.specs.Top.{isTop}
 use Rattle.patch.specs.declared.kinds.Patch.{Patch}
 use Rattle.patch.specs.declared.settings.Settings.{Settings}
 use Rattle.job_fields.specs.Settings.{firstUnknown}
-use Rattle.tessellate.specs.Answers.{Told, refused}
+use Rattle.answer_codes.specs.Told.{Told, refused}
 use Rattle.replies.specs.declared.reply.Reply.{Reply}
 use Rattle.replies.specs.Replies.{Tells, unknownSetting, badTop}
 use Rattle.replies.proofs.Replies.{said-two, says-as}

@@ -15,8 +15,9 @@ use Rattle.patch.specs.declared.settings.Settings.{Settings}
 use Rattle.patch.specs.Subdivide.{discards}
 use Rattle.job_fields.specs.Settings.{choices, firstUnknown, AllBelow}
 use Rattle.job_fields.proofs.Limits.{first-is, first-none, first-all}
-use Rattle.tessellate.specs.Answers.{Told, refused, drewBoth, pointsOf, indicesOf}
-use Rattle.tessellate.proofs.Tops.{top-as, is-top, no-top, top-no}
+use Rattle.tessellate.specs.Answers.{pointsOf, indicesOf}
+use Rattle.answer_codes.specs.Told.{Told, refused, drewBoth}
+use Rattle.level.proofs.Top.{top-as, is-top, no-top, top-no}
 use Rattle.replies.specs.Replies.{unknownSetting, badTop, twoWords}
 use Rattle.requests.specs.Inputs.{topIn, patchIn, settingsIn}
 use Rattle.answer_codes.specs.Reports.{Reports}

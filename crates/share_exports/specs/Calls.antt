@@ -11,7 +11,7 @@ use Rattle.level.specs.Top.{isTop}
 use Rattle.patch.specs.declared.kinds.Patch.{Patch}
 use Rattle.patch.specs.declared.settings.Settings.{Settings}
 use Rattle.job_fields.specs.Settings.{firstUnknown}
-use Rattle.tessellate.specs.Answers.{Told, refused}
+use Rattle.answer_codes.specs.Told.{Told, refused}
 use Rattle.tessellate.specs.Draws.{pointWords}
 use Rattle.replies.specs.Replies.{unknownSetting, badTop, twoWords, Says}
 use Rattle.requests.specs.Inputs.{topIn, patchIn, settingsIn}

@@ -9,7 +9,8 @@ use Rattle.level.specs.Top.{Top}
 use Rattle.patch.specs.declared.kinds.Patch.{Patch}
 use Rattle.patch.specs.Subdivide.{discards}
 use Rattle.job_fields.specs.Settings.{choices, FirstOver, AllBelow}
-use Rattle.tessellate.specs.Answers.{Told, pointsOf, indicesOf}
+use Rattle.tessellate.specs.Answers.{pointsOf, indicesOf}
+use Rattle.answer_codes.specs.Told.{Told}
 use Rattle.replies.specs.Replies.{unknownSetting, twoWords}
 use Rattle.requests.specs.Inputs.{topIn, patchIn, settingsIn}
 use Rattle.answer_codes.specs.Reports.{AnsweredExactly}

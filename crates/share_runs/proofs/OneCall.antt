@@ -9,15 +9,15 @@ use Rattle.patch.specs.declared.kinds.Patch.{Patch}
 use Rattle.patch.specs.declared.settings.Settings.{Settings}
 use Rattle.patch.specs.Subdivide.{subdivision}
 use Rattle.drawing.specs.Points.{points}
-use Rattle.drawing.specs.Words.{readPoints}
+use Rattle.mesh.specs.Words.{readPoints}
 use Rattle.drawing.specs.Demand.{Demand}
 use Rattle.drawing.specs.Inside.{SpotsOnce}
-use Rattle.drawing.proofs.ReadBack.{read-points}
+use Rattle.mesh.proofs.ReadBack.{read-points}
 use Rattle.drawing.proofs.Demand.{demand}
 use Rattle.drawing.proofs.Once.{demand-once}
-use Rattle.tessellate.specs.Answers.{Told, drewBoth}
+use Rattle.answer_codes.specs.Told.{Told, drewBoth}
 use Rattle.tessellate.specs.Draws.{pointWords, connectionWords}
-use Rattle.tessellate.proofs.Tops.{top-as}
+use Rattle.level.proofs.Top.{top-as}
 use Rattle.shared_lists.specs.declared.state.Designer.{Designer}
 use Rattle.shared_lists.specs.declared.state.State.{State}
 use Rattle.shares.specs.declared.answer.DrawResult.{DrawResult}

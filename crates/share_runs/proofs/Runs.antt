@@ -5,7 +5,7 @@ use mathlib.Core.Bool.{Bool, true, false, cond}
 use mathlib.Core.List.{List}
 use native.Mathlib.Omega.{arith}
 use lib.ListN.{length}
-use Rattle.tessellate.specs.Answers.{Told, refused}
+use Rattle.answer_codes.specs.Told.{Told, refused}
 use Rattle.tessellate.specs.Draws.{pointWords}
 use Rattle.shared_lists.specs.declared.state.Designer.{Designer}
 use Rattle.shared_lists.specs.declared.state.State.{State}

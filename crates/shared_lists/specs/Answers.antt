@@ -3,7 +3,7 @@ use Prim.Native.Nat.{ℕ, _+_}
 use mathlib.Core.Bool.{Bool, cond, _&&_}
 use mathlib.Core.List.{[]}
 use lib.Dec.{leb, eqb}
-use Rattle.tessellate.specs.Answers.{Told, refused}
+use Rattle.answer_codes.specs.Told.{Told, refused}
 use Rattle.shared_lists.specs.declared.state.Quota.{Quota}
 use Rattle.shared_lists.specs.declared.state.State.{State}
 use Rattle.shared_lists.specs.declared.answer.StartAnswer.{StartAnswer}

@@ -13,9 +13,11 @@ use Rattle.patch.specs.declared.kinds.Patch.{Patch}
 use Rattle.patch.specs.declared.settings.Settings.{Settings}
 use Rattle.patch.specs.Subdivide.{discards}
 use Rattle.drawing.proofs.Demand.{demand}
-use Rattle.tessellate.specs.Answers.{Told, drew, verdict, pointsOf}
-use Rattle.tessellate.specs.Draws.{Drew, connectionWords, after}
-use Rattle.tessellate.proofs.Tops.{top-as}
+use Rattle.tessellate.specs.Answers.{verdict, pointsOf}
+use Rattle.answer_codes.specs.Told.{Told, drew}
+use Rattle.tessellate.specs.Draws.{connectionWords}
+use Rattle.answer_codes.specs.Drew.{Drew, after}
+use Rattle.level.proofs.Top.{top-as}
 use Rattle.shared_lists.specs.declared.state.Designer.{Designer}
 use Rattle.shared_lists.specs.declared.state.Share.{Share}
 use Rattle.shared_lists.specs.declared.state.SharedList.{SharedList}

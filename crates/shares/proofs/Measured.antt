@@ -11,7 +11,8 @@ use Rattle.patch.specs.Subdivide.{discards}
 use Rattle.level_clamps.specs.Clamps.{clampsOf}
 use Rattle.tessellate.specs.declared.answer.Size.{Size}
 use Rattle.tessellate.specs.declared.answer.Size.the-variants.{Counts, Discarded, BadTop}
-use Rattle.tessellate.specs.Answers.{Told, pointsOf, indicesOf}
+use Rattle.tessellate.specs.Answers.{pointsOf, indicesOf}
+use Rattle.answer_codes.specs.Told.{Told}
 use Rattle.tessellate.proofs.Measured.{measured}
 use Rattle.shared_lists.specs.declared.state.Share.{Share}
 use Rattle.shares.specs.Answers.{roomVerdict, partVerdict}

@@ -9,7 +9,8 @@ use Rattle.level.specs.Top.{isTop}
 use Rattle.patch.specs.declared.kinds.Patch.{Patch}
 use Rattle.patch.specs.declared.settings.Settings.{Settings}
 use Rattle.patch.specs.Subdivide.{discards}
-use Rattle.tessellate.specs.Answers.{refused, pointsOf, indicesOf, drewBoth}
+use Rattle.tessellate.specs.Answers.{pointsOf, indicesOf}
+use Rattle.answer_codes.specs.Told.{refused, drewBoth}
 use Rattle.shares.specs.Answers.{roomVerdict, partVerdict, verdict}
 
 -- no test refuses the drawing

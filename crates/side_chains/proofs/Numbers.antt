@@ -9,7 +9,7 @@ use lib.Dec.{eqb}
 use lib.ListN.{length, getD}
 use borrow.Author.Tests.{eq-eqb, eqb-true}
 use Rattle.strip.specs.declared.triangle.Triangle.{Triangle}
-use Rattle.drawing.specs.Words.{readTriangles}
+use Rattle.mesh.specs.Words.{readTriangles}
 use Rattle.searches.specs.Triangles.{triangleAt, hasSide, shareSide}
 use Rattle.searches.proofs.Read.{triangle-read}
 use Rattle.mesh_faults.specs.Outline.{startOf, endOf}

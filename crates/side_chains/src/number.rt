@@ -2,7 +2,7 @@
 ghost use mathlib.Core.Path.{_≡_};
 ghost use Prim.Native.Nat.{_*_, _/_, _<_};
 ghost use lib.ListN.{length};
-ghost use Rattle.drawing.specs.Words.{readTriangles};
+ghost use Rattle.mesh.specs.Words.{readTriangles};
 ghost use Rattle.side_chains.specs.Sides.{sideEnd};
 
 // Returns the vertex where side m ends.

@@ -2,7 +2,7 @@
 ghost use mathlib.Core.Path.{_≡_};
 ghost use Prim.Native.Nat.{_+_, _^_, _<_};
 ghost use lib.Bits.{bitOr};
-ghost use Rattle.drawing.specs.Words.{readTriangles};
+ghost use Rattle.mesh.specs.Words.{readTriangles};
 ghost use Rattle.searches.specs.First.{some};
 ghost use Rattle.side_chains.specs.Sides.{sideStart, sideEnd, isSide};
 ghost use Rattle.side_rows.specs.Rows.{bit, Rowed};

@@ -12,7 +12,7 @@ use Rattle.side_chains.specs.Sides.{sideStart, sideEnd, isSide, Once}
 use Rattle.side_chains.specs.Links.{Linked, Zeros}
 use Rattle.side_chains.proofs.Table.{linked-none}
 use Rattle.side_chains.proofs.Numbers.{numbered-start, numbered-end, start-known, end-known}
-use Rattle.drawing.specs.Words.{readTriangles}
+use Rattle.mesh.specs.Words.{readTriangles}
 use Rattle.searches.specs.Triangles.{triangleAt}
 use Rattle.mesh_faults.specs.Outline.{startOf, endOf}
 use Rattle.mesh_faults.specs.Turns.{AllNumbered}

@@ -1,7 +1,7 @@
 // The sides without a reverse.
 ghost use Prim.Native.Nat.{_+_, _*_, _/_, _<_};
 ghost use lib.ListN.{length};
-ghost use Rattle.drawing.specs.Words.{readTriangles};
+ghost use Rattle.mesh.specs.Words.{readTriangles};
 ghost use Rattle.mesh_faults.specs.Turns.{AllNumbered};
 ghost use Rattle.sides.specs.Tables.{vertices, SideAt, Tabled};
 ghost use Rattle.sides.specs.Opens.{Opens};

@@ -1,7 +1,7 @@
 // The table of sides in either form.
 ghost use mathlib.Core.Path.{_≡_};
 ghost use Prim.Native.Nat.{_+_, _<_};
-ghost use Rattle.drawing.specs.Words.{readTriangles};
+ghost use Rattle.mesh.specs.Words.{readTriangles};
 ghost use Rattle.searches.specs.First.{some};
 ghost use Rattle.side_chains.specs.Sides.{isSide};
 ghost use Rattle.sides.specs.Tables.{vertices, SideAt, Room, Tabled};

@@ -8,8 +8,8 @@ use Rattle.mesh.specs.declared.Point.{Point}
 use Rattle.mesh.specs.Cover.{Face, Side, missing, sides, twiceArea, HasSign, directed}
 use Rattle.mesh.proofs.Lists.{All, none, more, all-at}
 use Rattle.mesh.proofs.Frame.{Left}
-use Rattle.drawing.specs.Words.{readTriangles}
-use Rattle.drawing.specs.Demand.{facesIn}
+use Rattle.mesh.specs.Words.{readTriangles}
+use Rattle.mesh.specs.Faces.{facesIn}
 use Rattle.mesh.proofs.Rim.{joining}
 use Rattle.mesh.proofs.Sign.{turned-left}
 

@@ -9,7 +9,7 @@ use Rattle.mesh.specs.declared.Point.{Point}
 use Rattle.mesh.specs.Cover.{Face, missing, reversed, directed, piece, sides, Occurs, twiceArea, totalTwiceArea, signed, HasSign, Cover}
 use Rattle.mesh.specs.Edge.{Run, GoodRun, ring}
 use Rattle.mesh.proofs.Lists.{All, none, more, all-more, all-map, all-at}
-use Rattle.drawing.specs.Demand.{facesIn}
+use Rattle.mesh.specs.Faces.{facesIn}
 use Rattle.mesh.specs.Held.{Spot, Clear, HeldOnce}
 use Rattle.mesh.specs.Domain.{Domain, edgeCount, placeOn, Within}
 use Rattle.mesh.proofs.Members.{all-member, all-places}

@@ -13,8 +13,8 @@ use Rattle.mesh.specs.Edge.{GoodRun, ends, ring}
 use Rattle.mesh.specs.TrianglePoints.{triangleCorners, triangleArea}
 use Rattle.mesh.proofs.Lists.{All, none, more, all-at, Distinct, distinct-at}
 use Rattle.mesh.proofs.Plain.{plain-triangle-covers}
-use Rattle.drawing.specs.Words.{readTriangles}
-use Rattle.drawing.specs.Demand.{facesIn}
+use Rattle.mesh.specs.Words.{readTriangles}
+use Rattle.mesh.specs.Faces.{facesIn}
 use Rattle.mesh.specs.Held.{face}
 use Rattle.mesh.specs.Domain.{Domain, triangle}
 use Rattle.mesh.proofs.Rim.{joining}

@@ -21,11 +21,12 @@ use Rattle.mesh.specs.Cover.{missing, Cover}
 use Rattle.mesh.specs.Edge.{GoodRun}
 use Rattle.mesh.proofs.Lists.{All, all-at, all-map}
 use Rattle.mesh.proofs.Words.{words-length}
-use Rattle.drawing.specs.Words.{vertexWords}
+use Rattle.mesh.specs.Words.{vertexWords}
 use Rattle.drawing.specs.Points.{points}
 use Rattle.drawing.specs.Primitives.{primitives, indexWords}
-use Rattle.drawing.specs.Demand.{Surface, outerRuns, outline, twiceAreaOf, facesIn, Demand}
-use Rattle.drawing.proofs.ReadBack.{read-points}
+use Rattle.drawing.specs.Demand.{Surface, outerRuns, outline, twiceAreaOf, Demand}
+use Rattle.mesh.specs.Faces.{facesIn}
+use Rattle.mesh.proofs.ReadBack.{read-points}
 use Rattle.drawing.proofs.Runs.{good-run}
 use Rattle.drawing.proofs.Cases.{Cases, drawn-cases}
 use Rattle.drawing.proofs.Demand.{not-discarded, demand}

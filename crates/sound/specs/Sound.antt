@@ -11,8 +11,9 @@ use Rattle.patch.specs.declared.settings.Settings.{Settings}
 use Rattle.patch.specs.Turn.{positive}
 use Rattle.mesh.specs.declared.Point.{Point}
 use Rattle.mesh.specs.Cover.{Side, missing, reversed, sides, side, twiceArea, HasSign, piece, Occurs}
-use Rattle.drawing.specs.Words.{readPoints}
-use Rattle.drawing.specs.Demand.{outline, facesIn}
+use Rattle.mesh.specs.Words.{readPoints}
+use Rattle.drawing.specs.Demand.{outline}
+use Rattle.mesh.specs.Faces.{facesIn}
 use Rattle.mesh.specs.Held.{face}
 use Rattle.mesh.specs.Domain.{Domain}
 use Rattle.drawing.specs.InPatch.{InPatch, domainOf}

@@ -17,12 +17,14 @@ use Rattle.drawing.specs.Counts.{pointCount, countIn}
 use Rattle.drawing.specs.Valid.{ValidCut}
 use Rattle.tessellate.specs.declared.cut.Cut.{Cut}
 use Rattle.tessellate.specs.declared.cut.Cut.the-variants.{BadTop, Discarded, Ready}
-use Rattle.tessellate.specs.Answers.{Told, refused, drew, pointsOf, indicesOf, verdict}
+use Rattle.tessellate.specs.Answers.{pointsOf, indicesOf, verdict}
+use Rattle.answer_codes.specs.Told.{Told, refused, drew}
 use Rattle.tessellate.specs.Cuts.{cutOf}
-use Rattle.tessellate.specs.Draws.{Drew}
+use Rattle.answer_codes.specs.Drew.{Drew}
 use Rattle.tessellate.proofs.Counted.{valid, few, many-points, many-indices}
-use Rattle.tessellate.proofs.Draws.{told-bad, told-discarded, told-short, told-drawn, untouched, written}
-use Rattle.tessellate.proofs.Tops.{top-as}
+use Rattle.tessellate.proofs.Draws.{told-bad, told-discarded, told-short, told-drawn}
+use Rattle.answer_codes.proofs.Drew.{untouched, written}
+use Rattle.level.proofs.Top.{top-as}
 
 -- a patch that is cut
 pub record Into (set : Settings) (p : Patch) (c : Subdivision) : Type 0 where

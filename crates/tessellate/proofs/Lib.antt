@@ -1,5 +1,4 @@
 -- The laws of `tessellate`.
-pub mod Tops
 mod Counted
 mod Cutting
 pub mod Draws

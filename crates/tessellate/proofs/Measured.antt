@@ -13,7 +13,8 @@ use Rattle.level_clamps.specs.Clamps.{clampsOf}
 use Rattle.level_clamps.proofs.Numbers.{clampsIn, clamps-back}
 use Rattle.tessellate.specs.declared.answer.Size.{Size}
 use Rattle.tessellate.specs.declared.answer.Size.the-variants.{Counts, Discarded, BadTop}
-use Rattle.tessellate.specs.Answers.{Told, refused, toldSize, pointsOf, indicesOf, measureVerdict}
+use Rattle.tessellate.specs.Answers.{toldSize, pointsOf, indicesOf, measureVerdict}
+use Rattle.answer_codes.specs.Told.{Told, refused}
 
 -- ---- no two answers have the same number and values
 abbrev pub sizeIn : ℕ → List ℕ → Size

@@ -16,19 +16,21 @@ use Rattle.patch.specs.declared.settings.Settings.{Settings}
 use Rattle.patch.specs.Subdivide.{discards, subdivision}
 use Rattle.mesh.proofs.Words.{words-length}
 use Rattle.drawing.specs.Points.{points}
-use Rattle.drawing.specs.Words.{readPoints}
+use Rattle.mesh.specs.Words.{readPoints}
 use Rattle.drawing.specs.Demand.{Demand}
 use Rattle.drawing.specs.Inside.{SpotsOnce}
 use Rattle.drawing.specs.Kept.{Alike}
-use Rattle.drawing.proofs.ReadBack.{read-points}
+use Rattle.mesh.proofs.ReadBack.{read-points}
 use Rattle.drawing.proofs.Demand.{demand}
 use Rattle.drawing.proofs.Once.{demand-once}
 use Rattle.drawing.proofs.Kept.{kept-connections}
 use Rattle.tessellate.specs.declared.answer.PointsAnswer.{PointsAnswer}
 use Rattle.tessellate.specs.declared.answer.IndicesAnswer.{IndicesAnswer}
-use Rattle.tessellate.specs.Answers.{Told, refused, drew, toldPoints, toldIndices, pointsOf, indicesOf, verdict}
-use Rattle.tessellate.proofs.Tops.{top-as}
-use Rattle.tessellate.specs.Draws.{Drew, pointWords, connectionWords, DrewPoints, DrewIndices}
+use Rattle.tessellate.specs.Answers.{toldPoints, toldIndices, pointsOf, indicesOf, verdict}
+use Rattle.answer_codes.specs.Told.{Told, refused, drew}
+use Rattle.level.proofs.Top.{top-as}
+use Rattle.tessellate.specs.Draws.{pointWords, connectionWords, DrewPoints, DrewIndices}
+use Rattle.answer_codes.specs.Drew.{Drew}
 
 -- what "drawn" means: the top is one, the patch is not discarded, there was room, and the count is right
 pub record Fits (set : Settings) (p : Patch) (need have all n : ℕ) : Type 0 where

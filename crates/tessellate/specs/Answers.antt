@@ -13,29 +13,13 @@ use Rattle.level_clamps.specs.Clamps.{clampsOf}
 use Rattle.level_clamps.specs.Numbers.{clampNumbers}
 use Rattle.drawing.specs.Points.{points}
 use Rattle.drawing.specs.Primitives.{indexWords}
+use Rattle.answer_codes.specs.Told.{Told, refused, drew}
 use Rattle.tessellate.specs.declared.answer.PointsAnswer.{PointsAnswer}
 use Rattle.tessellate.specs.declared.answer.PointsAnswer.the-variants as points
 use Rattle.tessellate.specs.declared.answer.IndicesAnswer.{IndicesAnswer}
 use Rattle.tessellate.specs.declared.answer.IndicesAnswer.the-variants as indices
 use Rattle.tessellate.specs.declared.answer.Size.{Size}
 use Rattle.tessellate.specs.declared.answer.Size.the-variants.{Counts, Discarded as NoCounts, BadTop as NoTop}
-
--- an answer's number and the values beside it
-pub record Told : Type 0 where
-  pub number : ℕ
-  pub values : List ℕ
-
--- a number with no values
-abbrev pub refused : ℕ → Told
-refused n = record { number = n; values = [] }
-
--- drawn, with the one count of an operation
-abbrev pub drew : ℕ → Told
-drew n = record { number = 0; values = n ∷ [] }
-
--- drawn, with both counts
-abbrev pub drewBoth : ℕ → ℕ → Told
-drewBoth p i = record { number = 0; values = p ∷ i ∷ [] }
 
 -- the table, number by number; 2 once stood for more points than an index can number, and is not used again
 abbrev pub toldPoints : PointsAnswer → Told

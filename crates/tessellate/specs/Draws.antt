@@ -1,31 +1,18 @@
 -- The promises of the two drawing operations: the answer, and the operation's own list at exit.
 -- Assumes nothing.
-use Prim.Native.Nat.{ℕ, zero, suc}
-use mathlib.Core.Path.{_≡_}
+use Prim.Native.Nat.{ℕ}
 use mathlib.Core.List.{List}
 use lib.ListN.{length}
-use Rattle.buffer.specs.Over.{over}
 use Rattle.patch.specs.declared.kinds.Patch.{Patch}
 use Rattle.patch.specs.declared.settings.Settings.{Settings}
 use Rattle.patch.specs.Subdivide.{subdivision}
 use Rattle.mesh.specs.Words.{vertexWords}
 use Rattle.drawing.specs.Points.{points}
 use Rattle.drawing.specs.Primitives.{indexWords}
+use Rattle.answer_codes.specs.Drew.{Drew}
 use Rattle.tessellate.specs.declared.answer.PointsAnswer.{PointsAnswer}
 use Rattle.tessellate.specs.declared.answer.IndicesAnswer.{IndicesAnswer}
-use Rattle.tessellate.specs.Answers.{Told, toldPoints, toldIndices, pointsVerdict, indicesVerdict}
-
--- a list after an answer of this number: with the words at its front where it is 0, else as it was
-abbrev pub after : {A : Type 0} → ℕ → List A → List A → List A
-after zero xs words = over xs 0 words
-after (suc n) xs words = xs
-
--- an operation told t, as is right, and its list xs became xs′
-pub record Drew (t right : Told) (words xs xs′ : List ℕ) : Type 0 where
-  -- the lowest number that applies, with the count where drawn
-  pub answer : t ≡ right
-  -- drawn: the counted words at the front and not one more; else untouched
-  pub list : xs′ ≡ after (t .number) xs words
+use Rattle.tessellate.specs.Answers.{toldPoints, toldIndices, pointsVerdict, indicesVerdict}
 
 -- the words of a patch's points and of its indices
 abbrev pub pointWords : Settings → Patch → List ℕ

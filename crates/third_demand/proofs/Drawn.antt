@@ -9,7 +9,8 @@ use Rattle.mesh.specs.declared.Point.{Point}
 use Rattle.drawing.specs.Demand.{Surface}
 use Rattle.tessellate.specs.declared.answer.PointsAnswer.{PointsAnswer}
 use Rattle.tessellate.specs.declared.answer.IndicesAnswer.{IndicesAnswer}
-use Rattle.tessellate.specs.Answers.{drew, toldPoints, toldIndices}
+use Rattle.tessellate.specs.Answers.{toldPoints, toldIndices}
+use Rattle.answer_codes.specs.Told.{drew}
 use Rattle.tessellate.specs.Draws.{DrewPoints, DrewIndices}
 use Rattle.tessellate.proofs.Together.{points-drawn, demand-together}
 use Rattle.third_demand.specs.Written.{drawnPoints, WrotePoints, wrote}

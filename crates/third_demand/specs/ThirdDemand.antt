@@ -12,7 +12,8 @@ use Rattle.patch.specs.Turn.{positive}
 use Rattle.mesh.specs.declared.Point.{Point}
 use Rattle.mesh.specs.Cover.{Face, Side, missing, sides, side, reversed, piece, Occurs, HasSign, twiceArea, totalTwiceArea, signed}
 use Rattle.mesh.specs.Seam.{Mirrors}
-use Rattle.drawing.specs.Demand.{outline, twiceAreaOf, facesIn}
+use Rattle.drawing.specs.Demand.{outline, twiceAreaOf}
+use Rattle.mesh.specs.Faces.{facesIn}
 use Rattle.third_demand.specs.Seams.{IsEdge, EdgesAlike, placesOn, row}
 
 -- point mode is off

@@ -6,9 +6,10 @@ use lib.ListN.{take}
 use Rattle.patch.specs.declared.kinds.Patch.{Patch}
 use Rattle.patch.specs.declared.settings.Settings.{Settings}
 use Rattle.mesh.specs.declared.Point.{Point}
-use Rattle.drawing.specs.Words.{readPoints}
+use Rattle.mesh.specs.Words.{readPoints}
 use Rattle.tessellate.specs.declared.answer.PointsAnswer.{PointsAnswer}
-use Rattle.tessellate.specs.Answers.{drew, toldPoints}
+use Rattle.tessellate.specs.Answers.{toldPoints}
+use Rattle.answer_codes.specs.Told.{drew}
 use Rattle.tessellate.specs.Draws.{DrewPoints}
 
 -- the n drawn points at the front of a list, three words each

@@ -3,7 +3,7 @@ ghost use mathlib.Core.Path.{_≡_};
 ghost use mathlib.Core.Bool.{true};
 ghost use Prim.Native.Nat.{_*_, _/_, _%_, _≤_, _<_};
 ghost use lib.ListN.{length};
-ghost use Rattle.drawing.specs.Words.{readTriangles};
+ghost use Rattle.mesh.specs.Words.{readTriangles};
 ghost use Rattle.searches.specs.Triangles.{triangleAt};
 ghost use Rattle.mesh_faults.specs.Turns.{AllNumbered};
 ghost use Rattle.side_chains.specs.Sides.{sideStart, sideEnd};

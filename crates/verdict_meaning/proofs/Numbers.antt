@@ -11,14 +11,14 @@ use Rattle.patch.specs.declared.settings.Settings.{Settings}
 use Rattle.patch.specs.Subdivide.{discards}
 use Rattle.strip.specs.declared.triangle.Triangle.{Triangle}
 use Rattle.mesh.specs.declared.Point.{Point}
-use Rattle.drawing.specs.Words.{readPoints}
+use Rattle.mesh.specs.Words.{readPoints}
 use Rattle.searches.specs.Indices.{firstUnknown}
 use Rattle.searches.specs.Points.{firstRepeated}
 use Rattle.searches.specs.Triangles.{firstReused}
 use Rattle.mesh_faults.specs.Inside.{firstOutside}
 use Rattle.mesh_faults.specs.Turns.{firstTurned}
 use Rattle.mesh_faults.specs.Outline.{firstOpen, firstMissing}
-use Rattle.tessellate.specs.Answers.{Told, refused}
+use Rattle.answer_codes.specs.Told.{Told, refused}
 use Rattle.mesh_verdict.specs.declared.Verdict.{Verdict}
 use Rattle.mesh_verdict.specs.declared.Verdict.the-variants.{BadTop, Isolines, Dots, ShouldBeDiscarded, NotThrees, UnknownIndex, Outside, EqualPoints, Turned, SideTwice, OpenSide, MissingPiece, Accepted}
 use Rattle.mesh_verdict.specs.Faults.{openSide, sideTwice, equalPoints, outlineFault, sideFault, pointFault, meshFault}

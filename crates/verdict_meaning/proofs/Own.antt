@@ -15,9 +15,10 @@ use Rattle.patch.specs.Subdivide.{discards}
 use Rattle.drawing.specs.Demand.{Surface}
 use Rattle.tessellate.specs.declared.answer.PointsAnswer.{PointsAnswer}
 use Rattle.tessellate.specs.declared.answer.IndicesAnswer.{IndicesAnswer}
-use Rattle.tessellate.specs.Answers.{Told, refused, drew, toldPoints, toldIndices, pointsOf, verdict}
+use Rattle.tessellate.specs.Answers.{toldPoints, toldIndices, pointsOf, verdict}
+use Rattle.answer_codes.specs.Told.{Told, refused, drew}
 use Rattle.tessellate.specs.Draws.{DrewPoints, DrewIndices}
-use Rattle.tessellate.proofs.Tops.{top-as}
+use Rattle.level.proofs.Top.{top-as}
 use Rattle.tessellate.proofs.Together.{points-drawn, point-words-drawn, indices-drawn}
 use Rattle.sound.proofs.Patches.{drawn-words-sound}
 use Rattle.mesh_verdict.specs.declared.Verdict.{Verdict}

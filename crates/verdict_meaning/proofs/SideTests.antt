@@ -13,7 +13,7 @@ use Rattle.strip.specs.declared.triangle.Triangle.{Triangle}
 use Rattle.mesh.specs.declared.Point.{Point}
 use Rattle.mesh.specs.Cover.{Face, Side, reversed, side, piece, twiceArea, Occurs}
 use Rattle.mesh.specs.Faces.{at, faceOf}
-use Rattle.drawing.specs.Words.{readTriangles}
+use Rattle.mesh.specs.Words.{readTriangles}
 use Rattle.drawing.specs.Demand.{outline}
 use Rattle.sound.specs.Sound.{sidesIn}
 use Rattle.searches.specs.Points.{samePoint}

@@ -14,7 +14,7 @@ use Rattle.mesh.specs.declared.Point.{Point}
 use Rattle.mesh.specs.Cover.{side}
 use Rattle.mesh.specs.Faces.{at, faceOf}
 use Rattle.mesh.proofs.Lists.{neither}
-use Rattle.drawing.specs.Words.{readPoints, readTriangles}
+use Rattle.mesh.specs.Words.{readPoints, readTriangles}
 use Rattle.drawing.specs.Demand.{outline}
 use Rattle.sound.specs.Sound.{sidesIn, SoundWords}
 use Rattle.searches.specs.Triangles.{triangleAt}

@@ -19,7 +19,7 @@ use Rattle.verdict_meaning.specs.Checks.{isIsolines, isEmpty}
 use Rattle.verdict_meaning.proofs.Named.{patchFault, verdict}
 use Rattle.verdict_meaning.specs.Means.{Asked, Kept, Empty, Means, Checked}
 use Rattle.verdict_meaning.specs.Numbers.{toldVerdict}
-use Rattle.tessellate.proofs.Tops.{top-as, is-top, no-top, top-no}
+use Rattle.level.proofs.Top.{top-as, is-top, no-top, top-no}
 use Rattle.verdict_meaning.proofs.Sides.{both-which}
 use Rattle.verdict_meaning.proofs.Forward.{mesh-means}
 use Rattle.verdict_meaning.proofs.Numbers.{same-verdict, verdict-told}

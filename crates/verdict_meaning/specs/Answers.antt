@@ -12,7 +12,7 @@ use Rattle.patch.specs.Turn.{positive}
 use Rattle.strip.specs.declared.triangle.Triangle.{Triangle}
 use Rattle.mesh.specs.declared.Point.{Point}
 use Rattle.mesh.specs.Faces.{at}
-use Rattle.drawing.specs.Words.{readPoints, readTriangles}
+use Rattle.mesh.specs.Words.{readPoints, readTriangles}
 use Rattle.drawing.specs.Demand.{outline}
 use Rattle.searches.specs.Indices.{firstUnknown}
 use Rattle.searches.specs.Points.{firstEqual, firstRepeated}
@@ -20,7 +20,7 @@ use Rattle.searches.specs.Triangles.{triangleAt, firstSharing, firstReused}
 use Rattle.mesh_faults.specs.Inside.{firstOutside}
 use Rattle.mesh_faults.specs.Turns.{firstTurned}
 use Rattle.mesh_faults.specs.Outline.{firstOpen, firstMissing}
-use Rattle.tessellate.specs.Answers.{Told, refused}
+use Rattle.answer_codes.specs.Told.{Told, refused}
 use Rattle.verdict_meaning.specs.Checks.{isIsolines, isTriangles, isEmpty}
 
 -- the fault with its values if x is below n, so that a search among n places found one; otherwise the rest

@@ -6,8 +6,9 @@ use Rattle.patch.specs.declared.settings.Settings.{Settings}
 use Rattle.patch.specs.Turn.{positive}
 use Rattle.mesh.specs.Cover.{Cover}
 use Rattle.mesh.specs.Held.{Spot, Clear, HeldOnce}
-use Rattle.drawing.specs.Words.{readPoints}
-use Rattle.drawing.specs.Demand.{outline, twiceAreaOf, facesIn}
+use Rattle.mesh.specs.Words.{readPoints}
+use Rattle.drawing.specs.Demand.{outline, twiceAreaOf}
+use Rattle.mesh.specs.Faces.{facesIn}
 use Rattle.drawing.specs.Inside.{Inside}
 
 -- the mesh with the point words pw and the index words iw has no hole, no overlap and no triangle of the wrong orientation

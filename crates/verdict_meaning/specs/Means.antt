@@ -12,8 +12,9 @@ use Rattle.patch.specs.Subdivide.{discards}
 use Rattle.patch.specs.Turn.{positive}
 use Rattle.mesh.specs.declared.Point.{Point}
 use Rattle.mesh.specs.Cover.{missing, reversed, side, twiceArea, HasSign, piece, Occurs}
-use Rattle.drawing.specs.Words.{readPoints, readTriangles}
-use Rattle.drawing.specs.Demand.{Surface, outline, facesIn}
+use Rattle.mesh.specs.Words.{readPoints, readTriangles}
+use Rattle.drawing.specs.Demand.{Surface, outline}
+use Rattle.mesh.specs.Faces.{facesIn}
 use Rattle.mesh.specs.Held.{face}
 use Rattle.drawing.specs.InPatch.{InPatch, domainOf}
 use Rattle.sound.specs.Sound.{sidesIn, SoundWords}

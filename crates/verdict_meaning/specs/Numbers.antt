@@ -1,6 +1,6 @@
 -- The number and the values of each answer. Assumes nothing.
 use mathlib.Core.List.{[], _∷_}
-use Rattle.tessellate.specs.Answers.{Told, refused}
+use Rattle.answer_codes.specs.Told.{Told, refused}
 use Rattle.mesh_verdict.specs.declared.Verdict.{Verdict}
 use Rattle.mesh_verdict.specs.declared.Verdict.the-variants.{BadTop, Isolines, Dots, ShouldBeDiscarded, NotThrees, UnknownIndex, Outside, EqualPoints, Turned, SideTwice, OpenSide, MissingPiece, Accepted}
 

@@ -39,9 +39,10 @@ use Rattle.mesh.proofs.Edge.{good-some}
 use Rattle.mesh.proofs.Members.{all-member, at-member}
 use Rattle.drawing.specs.Points.{points}
 use Rattle.drawing.specs.Primitives.{triangles, primitives, indexWords}
-use Rattle.drawing.specs.Words.{readTriangles}
-use Rattle.drawing.specs.Demand.{Surface, outline, facesIn, Demand}
-use Rattle.drawing.proofs.ReadBack.{read-triangles}
+use Rattle.mesh.specs.Words.{readTriangles}
+use Rattle.drawing.specs.Demand.{Surface, outline, Demand}
+use Rattle.mesh.specs.Faces.{facesIn}
+use Rattle.mesh.proofs.ReadBack.{read-triangles}
 use Rattle.drawing.proofs.Runs.{good-run}
 use Rattle.drawing.proofs.Plain.{plain-outline}
 use Rattle.drawing.proofs.Demand.{not-discarded, demand}

@@ -12,13 +12,15 @@ use Rattle.level.specs.Top.{Top, isTop}
 use Rattle.patch.specs.declared.kinds.Patch.{Patch}
 use Rattle.patch.specs.declared.settings.Settings.{Settings}
 use Rattle.patch.specs.Subdivide.{discards}
-use Rattle.drawing.specs.Words.{readPoints}
+use Rattle.mesh.specs.Words.{readPoints}
 use Rattle.tessellate.specs.declared.answer.PointsAnswer.{PointsAnswer}
 use Rattle.tessellate.specs.declared.answer.IndicesAnswer.{IndicesAnswer}
-use Rattle.tessellate.specs.Answers.{Told, refused, drew, toldPoints, toldIndices, pointsOf, indicesOf, verdict}
-use Rattle.tessellate.specs.Draws.{Drew, DrewPoints, DrewIndices}
+use Rattle.tessellate.specs.Answers.{toldPoints, toldIndices, pointsOf, indicesOf, verdict}
+use Rattle.answer_codes.specs.Told.{Told, refused, drew}
+use Rattle.tessellate.specs.Draws.{DrewPoints, DrewIndices}
+use Rattle.answer_codes.specs.Drew.{Drew}
 use Rattle.tessellate.proofs.Together.{points-drawn, indices-drawn}
-use Rattle.tessellate.proofs.Tops.{is-top}
+use Rattle.level.proofs.Top.{is-top}
 use Rattle.vulkan_chapter.specs.Discard.{PatchDiscarded, DiscardedExactly}
 use Rattle.vulkan_chapter.specs.Chapter.{Chapter}
 use Rattle.vulkan_chapter.proofs.Spacing.{ourEdges}

@@ -18,8 +18,9 @@ use Rattle.mesh.specs.Seam.{places}
 use Rattle.mesh.specs.Edge.{Run, ring, along}
 use Rattle.mesh.specs.TrianglePoints.{trianglePlace}
 use Rattle.mesh.specs.QuadPoints.{quadPlace}
-use Rattle.drawing.specs.Words.{readTriangles}
-use Rattle.drawing.specs.Demand.{Surface, outerLevel, edges, twiceAreaOf, facesIn}
+use Rattle.mesh.specs.Words.{readTriangles}
+use Rattle.drawing.specs.Demand.{Surface, outerLevel, edges, twiceAreaOf}
+use Rattle.mesh.specs.Faces.{facesIn}
 use Rattle.drawing.specs.Inside.{SpotsOnce}
 use Rattle.drawing.specs.InPatch.{InPatch, domainOf}
 use Rattle.vulkan_chapter.specs.Members.{Member}

@@ -10,7 +10,7 @@ use lib.Dec.{T}
 use lib.Ieee.{Float, fin, le, isNan}
 use Rattle.patch.specs.declared.kinds.Patch.{Patch}
 use Rattle.patch.specs.Subdivide.{outers}
-use Rattle.tessellate.specs.Answers.{Told, refused}
+use Rattle.answer_codes.specs.Told.{Told, refused}
 use Rattle.vulkan_chapter.specs.Members.{Member}
 
 -- a level that discards: zero or below, or a NaN

@@ -3,7 +3,7 @@ use native.Mathlib.Omega.{arith}
 use Prim.Native.Nat.{_+_, _-_, _≤_}
 use mathlib.Core.Path.{_≡_, refl, sym, ap, _∙_}
 use lib.ListN.{length, length-set}
-use Rattle.drawing.specs.Words.{readPoints}
+use Rattle.mesh.specs.Words.{readPoints}
 use Rattle.searches.specs.Points.{repeats, firstRepeated}
 use Rattle.searches.proofs.First.{Below, below-zero, below-more, first-at, first-none}
 use Rattle.searches.proofs.Read.{points-count}

@@ -3,7 +3,7 @@ use native.Mathlib.Omega.{arith}
 use Prim.Native.Nat.{_+_, _*_, _-_, _≤_, _<_}
 use mathlib.Core.Path.{_≡_, refl, sym, _∙_}
 use lib.ListN.{length, getD}
-use Rattle.drawing.specs.Words.{readPoints}
+use Rattle.mesh.specs.Words.{readPoints}
 use Rattle.point_table.proofs.Trees.{Passed, passed-none, passed-more, sought-at, sought-empty}
 use borrow.Author.Needs.{needs}
 use Rattle.point_table.proofs.seek.Statement.{statement}

@@ -3,7 +3,7 @@ use native.Mathlib.Omega.{arith}
 use Prim.Native.Nat.{_-_, _≤_, _/_, _*_}
 use mathlib.Core.Path.{_≡_, refl, _∙_, sym}
 use lib.ListN.{length}
-use Rattle.drawing.specs.Words.{readTriangles}
+use Rattle.mesh.specs.Words.{readTriangles}
 use Rattle.side_chains.specs.Links.{Linked}
 use Rattle.side_chains.proofs.Numbers.{start-word}
 use Rattle.side_chains.proofs.Table.{linked-none}

@@ -2,7 +2,7 @@
 use native.Mathlib.Omega.{arith}
 use Prim.Native.Nat.{_-_, _*_}
 use mathlib.Core.Path.{_≡_, refl, _∙_, sym}
-use Rattle.drawing.specs.Words.{readTriangles}
+use Rattle.mesh.specs.Words.{readTriangles}
 use Rattle.triangle_table.specs.Hits.{Sought}
 use Rattle.side_chains.proofs.Table.{link-end}
 use Rattle.triangle_table.proofs.Walks.{seek-begins, seek-here, seek-goes-on, seek-less, seek-meets, seek-ends}

@@ -2,7 +2,7 @@
 use mathlib.Core.Path.{_≡_, sym, ap, _∙_}
 use Rattle.verdict_meaning.proofs.Named.{patchFault, verdict}
 use Rattle.verdict_meaning.proofs.Verdicts.{checked}
-use Rattle.tessellate.proofs.Tops.{bad, good, top-as}
+use Rattle.level.proofs.Top.{bad, good, top-as}
 use Rattle.checker.proofs.Arms.{flag}
 use borrow.Author.Needs.{needs}
 use Rattle.checker.proofs.check.check_mesh.Statement.{statement}

@@ -2,7 +2,7 @@
 use native.Mathlib.Omega.{arith}
 use mathlib.Core.Path.{_≡_}
 use lib.ListN.{length}
-use Rattle.drawing.specs.Words.{readTriangles}
+use Rattle.mesh.specs.Words.{readTriangles}
 use Rattle.searches.proofs.Read.{points-count, triangles-count}
 use Rattle.side_chains.proofs.Numbers.{numbered-wider}
 use Rattle.sides.proofs.Forms.{numbered-as}

@@ -3,7 +3,7 @@ use native.Mathlib.Omega.{arith}
 use Prim.Native.Nat.{_-_, _≤_}
 use mathlib.Core.Path.{_≡_, refl, _∙_}
 use lib.ListN.{length}
-use Rattle.drawing.specs.Words.{readPoints, readTriangles}
+use Rattle.mesh.specs.Words.{readPoints, readTriangles}
 use Rattle.searches.proofs.Read.{points-count, triangles-count}
 use Rattle.closed.specs.Closing.{Joins, Marked}
 use Rattle.closed.proofs.Joins.{joins-none, joins-more, joined-all, joined-before}

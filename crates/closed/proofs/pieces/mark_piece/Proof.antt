@@ -2,7 +2,7 @@
 use native.Mathlib.Omega.{arith}
 use Prim.Native.Nat.{_<_}
 use lib.ListN.{length}
-use Rattle.drawing.specs.Words.{readPoints, readTriangles}
+use Rattle.mesh.specs.Words.{readPoints, readTriangles}
 use Rattle.searches.proofs.Read.{points-count, triangles-count}
 use Rattle.side_chains.proofs.Numbers.{start-word, end-known}
 use Rattle.closed.proofs.Joins.{piece-met, piece-closes, marked-more}

@@ -2,7 +2,7 @@
 use native.Mathlib.Omega.{arith}
 use Prim.Native.Nat.{_-_}
 use mathlib.Core.Path.{sym, _∙_}
-use Rattle.drawing.specs.Words.{readPoints}
+use Rattle.mesh.specs.Words.{readPoints}
 use Rattle.differences.proofs.Finds.{Open, open-start, open-more, open-found, open-done}
 use borrow.Author.Needs.{needs}
 use Rattle.differences.proofs.point.first_in.Statement.{statement}

@@ -1,7 +1,7 @@
 -- Meets its contract: one return for an unknown version and one for the writer's answer. Assumes nothing.
 use borrow.Author.Needs.{needs}
 use mathlib.Core.Path.{refl}
-use Rattle.tessellate.proofs.Tops.{good, bad}
+use Rattle.level.proofs.Top.{good, bad}
 use Rattle.replies.proofs.Replies.{said-one}
 use Rattle.job_exports.proofs.Calls.{kept, done, header-other, header-known}
 use Rattle.job_exports.proofs.write.yoktvarim_write_header.Statement.{statement}

@@ -2,7 +2,7 @@
 use borrow.Author.Needs.{needs}
 use native.Mathlib.Omega.{arith}
 use mathlib.Core.Path.{refl, sym, ap}
-use Rattle.tessellate.proofs.Tops.{good, bad}
+use Rattle.level.proofs.Top.{good, bad}
 use Rattle.replies.specs.Replies.{unknownSetting}
 use Rattle.replies.proofs.Replies.{said-one, tells-as}
 use Rattle.job_exports.proofs.Calls.{kept, done, record-other, record-top, record-unknown, record-known}

@@ -1,7 +1,7 @@
 -- Meets its contract: one return for the end, one for an unknown version and one for what is there. Assumes nothing.
 use borrow.Author.Needs.{needs}
 use mathlib.Core.Path.{sym, _∙_}
-use Rattle.tessellate.proofs.Tops.{good, bad}
+use Rattle.level.proofs.Top.{good, bad}
 use Rattle.job_words.proofs.Places.{number-small, found-end, found-other, found-here}
 use Rattle.job_words.proofs.found.found_at.Statement.{statement}
 use Rattle.job_words.proofs.found.found_at.Tie as tie

@@ -1,6 +1,6 @@
 -- Meets its contract. Assumes nothing.
 use native.Mathlib.Omega.{arith}
-use Rattle.drawing.specs.Words.{readPoints}
+use Rattle.mesh.specs.Words.{readPoints}
 use Rattle.searches.proofs.Read.{points-count}
 use Rattle.mesh_verdict.specs.declared.Verdict.the-variants.{Outside}
 use Rattle.mesh_verdict.specs.Faults.{equalPoints, pointFault}

@@ -1,6 +1,6 @@
 -- Meets its contract. Assumes nothing.
 use native.Mathlib.Omega.{arith}
-use Rattle.drawing.specs.Words.{readTriangles}
+use Rattle.mesh.specs.Words.{readTriangles}
 use Rattle.searches.proofs.Read.{points-count, triangles-count}
 use Rattle.mesh_verdict.specs.declared.Verdict.the-variants.{Turned}
 use Rattle.mesh_verdict.specs.Faults.{sideTwice, sideFault}

@@ -1,6 +1,6 @@
 -- Meets its contract: one return for a bad top level, one for an unknown setting and one for known settings. Assumes nothing.
 use borrow.Author.Needs.{needs}
-use Rattle.tessellate.proofs.Tops.{good, bad}
+use Rattle.level.proofs.Top.{good, bad}
 use Rattle.requests.proofs.Reading.{asked-bad, asked-unknown, asked-known}
 use Rattle.requests.proofs.asked.read_call.Statement.{statement}
 use Rattle.requests.proofs.asked.read_call.Tie as tie

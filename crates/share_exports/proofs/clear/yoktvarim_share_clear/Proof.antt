@@ -1,5 +1,5 @@
 -- Meets its contract. Assumes nothing.
-use Rattle.tessellate.proofs.Tops.{good, bad}
+use Rattle.level.proofs.Top.{good, bad}
 use Rattle.share_exports.proofs.Calls.{clear-bad, clear-unknown, clear-done}
 use borrow.Author.Needs.{needs}
 use Rattle.share_exports.proofs.clear.yoktvarim_share_clear.Statement.{statement}

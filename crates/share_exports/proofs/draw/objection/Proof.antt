@@ -2,7 +2,7 @@
 use mathlib.Core.Path.{ap, _∙_}
 use Rattle.level.specs.Top.{isTop}
 use Rattle.replies.proofs.Replies.{tells-as}
-use Rattle.tessellate.proofs.Tops.{good, bad}
+use Rattle.level.proofs.Top.{good, bad}
 use Rattle.share_exports.proofs.Calls.{found-top, found-state, found-designer, found-setting, found-none}
 use borrow.Author.Needs.{needs}
 use Rattle.share_exports.proofs.draw.objection.Statement.{statement}

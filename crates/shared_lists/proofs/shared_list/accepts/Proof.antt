@@ -1,6 +1,6 @@
 -- Meets its contract. Assumes nothing.
 use borrow.Author.Tests.{eq-eqb, ne-eqb}
-use Rattle.tessellate.proofs.Tops.{good, bad}
+use Rattle.level.proofs.Top.{good, bad}
 use Rattle.shared_lists.specs.Answers.{lent, soundState}
 use borrow.Author.Needs.{needs}
 use Rattle.shared_lists.proofs.shared_list.accepts.Statement.{statement}

@@ -1,6 +1,6 @@
 -- Meets its contract. Assumes nothing.
 use borrow.Author.Tests.{le-leb, lt-leb}
-use Rattle.tessellate.proofs.Tops.{good, bad}
+use Rattle.level.proofs.Top.{good, bad}
 use Rattle.shared_lists.specs.SharedList.{sound}
 use borrow.Author.Needs.{needs}
 use Rattle.shared_lists.proofs.shared_list.is_sound.Statement.{statement}

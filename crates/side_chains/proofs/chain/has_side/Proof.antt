@@ -2,7 +2,7 @@
 use native.Mathlib.Omega.{arith}
 use Prim.Native.Nat.{_-_}
 use mathlib.Core.Path.{_≡_, _∙_, sym}
-use Rattle.drawing.specs.Words.{readTriangles}
+use Rattle.mesh.specs.Words.{readTriangles}
 use Rattle.side_chains.specs.Links.{Walked}
 use Rattle.side_chains.proofs.Table.{walk-begins, walk-goes-on, walk-less, walk-meets, walk-ends}
 use borrow.Author.Needs.{needs}

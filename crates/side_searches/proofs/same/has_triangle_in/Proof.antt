@@ -2,7 +2,7 @@
 use native.Mathlib.Omega.{arith}
 use Prim.Native.Nat.{_-_}
 use mathlib.Core.Bool.{true≢false}
-use Rattle.drawing.specs.Words.{readTriangles}
+use Rattle.mesh.specs.Words.{readTriangles}
 use Rattle.searches.specs.Triangles.{triangleAt}
 use Rattle.side_searches.specs.Same.{sameTriangle}
 use Rattle.side_searches.proofs.Skips.{Clear, clear-begins, clear-more, held-missed}

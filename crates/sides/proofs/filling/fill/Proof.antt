@@ -6,7 +6,7 @@ use mathlib.Core.Bool.{true≢false}
 use lib.ListN.{length}
 use borrow.Author.Tests.{not-false}
 use borrow.Author.Needs.{needs}
-use Rattle.drawing.specs.Words.{readTriangles}
+use Rattle.mesh.specs.Words.{readTriangles}
 use Rattle.searches.proofs.Read.{triangles-count}
 use Rattle.sides.specs.Tables.{Filled}
 use Rattle.sides.proofs.Forms.{numbered-as, room-as, filled-none, filled-as}

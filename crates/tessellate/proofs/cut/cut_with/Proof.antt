@@ -2,7 +2,7 @@
 use borrow.Author.Needs.{needs}
 use Rattle.tessellate.proofs.Counted.{flag}
 use Rattle.tessellate.proofs.Cutting.{cut-bad, cut-discarded, cut-ready}
-use Rattle.tessellate.proofs.Tops.{good, bad, top-as}
+use Rattle.level.proofs.Top.{good, bad, top-as}
 use Rattle.tessellate.proofs.cut.cut_with.Statement.{statement}
 use Rattle.tessellate.proofs.cut.cut_with.Tie as tie
 

@@ -1,7 +1,7 @@
 -- Meets its contract: a return for a bad top, one for a discarded patch and one for the counts. Assumes nothing.
 use borrow.Author.Needs.{needs}
 use Rattle.tessellate.specs.Answers.{measureVerdict}
-use Rattle.tessellate.proofs.Tops.{top-as}
+use Rattle.level.proofs.Top.{top-as}
 use Rattle.tessellate.proofs.Cutting.{bad-top, is-discarded, is-cut, cut-valid, cut-points, cut-indices}
 use Rattle.tessellate.proofs.measure.measure.Statement.{statement}
 use Rattle.tessellate.proofs.measure.measure.Tie as tie

@@ -4,10 +4,9 @@ use mathlib.Core.Bool.{Bool}
 use mathlib.Core.List.{List, [], _∷_, map}
 use Rattle.strip.specs.declared.triangle.Triangle.{Triangle}
 use Rattle.strip.specs.Triangles.{turned, indices}
 use Rattle.mesh.specs.declared.Point.{Point}
-use Rattle.mesh.specs.Faces.{at, faceOf, facesOf}
-use Rattle.drawing.specs.Words.{vertexWords, readPoints, readTriangles}
-use Rattle.drawing.specs.Demand.{facesIn}
+use Rattle.mesh.specs.Faces.{at, faceOf, facesOf, facesIn}
+use Rattle.mesh.specs.Words.{vertexWords, readPoints, readTriangles}
 
 pub read-points : (ps : List Point) → readPoints (vertexWords ps) ≡ ps
 unfolding vertexWords readPoints

@@ -1,0 +1,20 @@
+-- Answers as a number with values. Assumes nothing.
+use Prim.Native.Nat.{ℕ}
+use mathlib.Core.List.{List, [], _∷_}
+
+-- an answer's number and the values beside it
+pub record Told : Type 0 where
+  pub number : ℕ
+  pub values : List ℕ
+
+-- a number with no values
+abbrev pub refused : ℕ → Told
+refused n = record { number = n; values = [] }
+
+-- drawn, with the one count of an operation
+abbrev pub drew : ℕ → Told
+drew n = record { number = 0; values = n ∷ [] }
+
+-- drawn, with both counts
+abbrev pub drewBoth : ℕ → ℕ → Told
+drewBoth p i = record { number = 0; values = p ∷ i ∷ [] }
