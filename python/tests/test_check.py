@@ -2,8 +2,10 @@
 
 import doctest
 import math
+import re
 import unittest
 from array import array
+from pathlib import Path
 
 import yoktvarim
 import yoktvarim.check
@@ -13,6 +15,7 @@ from yoktvarim.check import Fault
 ONE = 65536
 SQUARE = Quads(outer=(1, 1, 1, 1), inner=(1, 1))
 CORNERS = (0, ONE, 0, 0, 0, 0, ONE, 0, 0, ONE, ONE, 0)
+RUST = Path(__file__).resolve().parents[2] / "rust/src/check.rs"
 
 
 def said(patch, points, indices, settings=Settings()):
@@ -51,6 +54,12 @@ class Meshes(unittest.TestCase):
             self.assertIsInstance(found, Fault)
             self.assertNotIn("{", str(found))
         self.assertEqual([wanted.number for _, wanted in cases], [20, 21, 23, 24, 25, 26, 27, 28, 29, 30])
+
+    def test_the_words_are_those_of_the_rust_wrapper(self):
+        source = RUST.read_text()
+        names = dict(re.findall(r"(\d+) => Verdict::(\w+)", source))
+        words = dict(re.findall(r'Verdict::(\w+)[^=]*=> \{?\s*write!\(\s*f,\s*"(.*)"', source))
+        self.assertEqual({kind.number: kind.words for kind in Fault.__subclasses__()}, {at: words[names[str(at)]] for at in range(20, 31)})
 
     def test_a_bad_top_is_told_first(self):
         self.assertEqual(said(Isolines((1, 1)), (1,), (), Settings(top=5)), BadTop())

@@ -1,6 +1,6 @@
 """The module and the program tsj say the same of random patches: every kind, setting and top, and levels on both sides of limits.
 
-TSJ names the program; without it the one in target/bin is run.
+TSJ names the program; without it the script at the repository's root runs the current one.
 """
 
 import math
@@ -14,7 +14,7 @@ from pathlib import Path
 import yoktvarim
 from yoktvarim import BadTop, Discarded, DomainOrigin, Isolines, Mesh, Quads, Settings, Spacing, Triangles, VertexOrder
 
-TSJ = os.environ.get("TSJ", str(Path(__file__).resolve().parents[2] / "target/bin/tsj"))
+TSJ = os.environ.get("TSJ", str(Path(__file__).resolve().parents[2] / "tsj"))
 LEVELS = (math.nan, math.inf, -math.inf, 0.0, -0.0, -1.0, 1e-45, 0.5, 1.0, 1.0000001, 2.0, 2.0000002, 3.0, 5.5, 63.0, 64.0, 1e30)
 PATCHES = 600
 

@@ -41,31 +41,31 @@ class Fault(Answer):
 @dataclass(frozen=True)
 class IsolinesNotChecked(Fault):
     number = 20
-    words = "isolines have no triangles"
+    words = "isolines have no triangles to check"
 
 
 @dataclass(frozen=True)
 class DotsNotChecked(Fault):
     number = 21
-    words = "a patch in point mode has no triangles"
+    words = "dots have no triangles to check"
 
 
 @dataclass(frozen=True)
 class ShouldBeDiscarded(Fault):
     number = 22
-    words = "the patch is discarded, and a list is not empty"
+    words = "the patch is discarded, so that both lists should be empty"
 
 
 @dataclass(frozen=True)
 class NotThrees(Fault):
     number = 23
-    words = "the words of the points or the number of indices is no multiple of three"
+    words = "the words of the points or the indices are no multiple of three"
 
 
 @dataclass(frozen=True)
 class UnknownIndex(Fault):
     number = 24
-    words = "the index at place {place} is no point's number"
+    words = "the index at place {place} is past the points"
     place: int
 
 
@@ -104,7 +104,7 @@ class OpenSide(Fault):
     """The side that starts at this corner, 0 to 2, of this triangle."""
 
     number = 29
-    words = "the side from corner {corner} of triangle {triangle} has no reverse and is no piece of the outline"
+    words = "the side of triangle {triangle} from corner {corner} has no reverse and is no piece of the outline"
     triangle: int
     corner: int
 

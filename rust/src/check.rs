@@ -3,17 +3,7 @@
 use crate::patch::{setting_bytes, six_levels, Patch, Settings};
 use std::fmt::{self, Display, Formatter};
 
-extern "C" {
-    fn yoktvarim_check_mesh(
-        settings: &[u8; 6],
-        levels: &[f32; 6],
-        points: *const u32,
-        point_words: usize,
-        indices: *const u16,
-        index_words: usize,
-        places: &mut [u64; 2],
-    ) -> u32;
-}
+pub use crate::raw::{check_numbered, Checked};
 
 /// What [`check_mesh`] says: `Accepted`, or the first kind of fault in the order of the variants, at its first place. Points,
 /// indices, triangles, a triangle's corners and the outline's pieces are numbered from 0.
@@ -114,42 +104,6 @@ impl Display for Verdict {
             }
         }
     }
-}
-
-/// What [`check_numbered`] answers: 0 accepted, 8 unknown setting, 11 bad top, else the fault, 20 to 30 in the order of
-/// [`Verdict`]. No other number is given.
-#[must_use = "only the number 0 means that the mesh was accepted"]
-#[derive(Clone, Copy, Debug, PartialEq, Eq)]
-pub struct Checked {
-    pub number: u32,
-    /// The fault's places in the order of the variant's fields, the setting's place, 0 to 4, beside 8; 0 where nothing is
-    /// told.
-    pub places: [u64; 2],
-}
-
-/// The same check by setting bytes and levels as a job file of version 2 has them.
-pub fn check_numbered(
-    settings: &[u8; 6],
-    levels: &[f32; 6],
-    points: &[u32],
-    indices: &[u16],
-) -> Checked {
-    // Overwritten whatever the answer is.
-    let mut places = [u64::MAX; 2];
-    // SAFETY: the function is proved for every value of its arguments; the lists go as pointers and their own lengths, are
-    // only read, and cannot overlap `places`, which is borrowed as `&mut`.
-    let number = unsafe {
-        yoktvarim_check_mesh(
-            settings,
-            levels,
-            points.as_ptr(),
-            points.len(),
-            indices.as_ptr(),
-            indices.len(),
-            &mut places,
-        )
-    };
-    Checked { number, places }
 }
 
 /// Whether points, three words each, and triangle indices are a right mesh of the patch, whoever made them. Lists of any

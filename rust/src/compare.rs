@@ -17,21 +17,7 @@
 //! assert_eq!(compare_meshes(left, left, &mut []), Comparison::Differences { count: 0 });
 //! ```
 
-extern "C" {
-    fn yoktvarim_compare_meshes(
-        left_points: *const u32,
-        left_point_words: usize,
-        left_indices: *const u16,
-        left_index_words: usize,
-        right_points: *const u32,
-        right_point_words: usize,
-        right_indices: *const u16,
-        right_index_words: usize,
-        differences: *mut u64,
-        difference_words: usize,
-        count: &mut [u64; 1],
-    ) -> u32;
-}
+use crate::raw;
 
 /// Why a mesh is refused. Where several apply, the one that stands first here is given.
 #[derive(Clone, Copy, Debug, PartialEq, Eq)]
@@ -87,28 +73,7 @@ pub type MeshWords<'a> = (&'a [u32], &'a [u16]);
 /// side's triangles, the right side's, each in the order of its own list and each once. Words past those stay as they were, and
 /// every answer but `Differences` leaves the whole list as it was. An empty list counts them.
 pub fn compare_meshes(left: MeshWords, right: MeshWords, differences: &mut [u64]) -> Comparison {
-    let (left_points, left_indices) = left;
-    let (right_points, right_indices) = right;
-    // Overwritten whatever the answer is.
-    let mut count = [u64::MAX];
-    // SAFETY: the function is proved for every value of its arguments; each list goes as a pointer and its own length, and what
-    // is written overlaps nothing, since it is borrowed as `&mut`.
-    let number = unsafe {
-        yoktvarim_compare_meshes(
-            left_points.as_ptr(),
-            left_points.len(),
-            left_indices.as_ptr(),
-            left_indices.len(),
-            right_points.as_ptr(),
-            right_points.len(),
-            right_indices.as_ptr(),
-            right_indices.len(),
-            differences.as_mut_ptr(),
-            differences.len(),
-            &mut count,
-        )
-    };
-    let [count] = count;
+    let (number, count) = raw::compare_meshes(left, right, differences);
     match number {
         0 => Comparison::Differences { count },
         40 => Comparison::NoRoom { count },

@@ -20,19 +20,7 @@
 
 use crate::patch::{setting_bytes, six_levels, Patch, Settings};
 
-extern "C" {
-    fn yoktvarim_draw_with_floats(
-        settings: &[u8; 6],
-        levels: &[f32; 6],
-        vertices: *mut u32,
-        vertex_words: usize,
-        indices: *mut u16,
-        index_words: usize,
-        floats: *mut f32,
-        float_words: usize,
-        counts: &mut [u32; 2],
-    ) -> u32;
-}
+pub use crate::raw::{draw_with_floats_by_number, FloatsNumbered};
 
 /// What drawing with floats answers. Where several refusals apply, the one that stands first here is given.
 #[must_use = "only `Drawn` means that something was written"]
@@ -50,16 +38,6 @@ pub enum FloatsAnswer {
     NoRoomForIndices,
     /// The float list has under 3 words a point.
     NoRoomForFloats,
-}
-
-/// What [`draw_with_floats_by_number`] answers: 0 drawn, 1 discarded, 3 no room for vertices, 4 no room for indices, 8 unknown
-/// setting, 9 no room for floats, 11 bad top. No other number is given.
-#[must_use = "only the number 0 means that something was drawn"]
-#[derive(Clone, Copy, Debug, PartialEq, Eq)]
-pub struct FloatsNumbered {
-    pub number: u32,
-    /// Points and indices beside 0, the place, 0 to 4, of the first unknown setting and 0 beside 8, else 0 and 0.
-    pub counts: [u32; 2],
 }
 
 /// Writes the points of the patch, its indices and the floats of the points to the fronts of the three lists. Words past those
@@ -97,32 +75,4 @@ pub fn draw_with_floats(
             "every setting is known, so the answer is 0, 1, 3, 4, 9 or 11 and not {number}"
         ),
     }
-}
-
-/// The same by setting bytes and levels, as [`crate::raw`] has them.
-pub fn draw_with_floats_by_number(
-    settings: &[u8; 6],
-    levels: &[f32; 6],
-    vertices: &mut [u32],
-    indices: &mut [u16],
-    floats: &mut [f32],
-) -> FloatsNumbered {
-    // Both overwritten whatever the answer is.
-    let mut counts = [u32::MAX; 2];
-    // SAFETY: the function is proved for every value of its arguments; each list goes as a pointer and its own length, and none
-    // can overlap another or `counts`, since all are borrowed as `&mut`.
-    let number = unsafe {
-        yoktvarim_draw_with_floats(
-            settings,
-            levels,
-            vertices.as_mut_ptr(),
-            vertices.len(),
-            indices.as_mut_ptr(),
-            indices.len(),
-            floats.as_mut_ptr(),
-            floats.len(),
-            &mut counts,
-        )
-    };
-    FloatsNumbered { number, counts }
 }

@@ -22,7 +22,7 @@
 //! # }
 //! ```
 
-pub mod raw;
+pub use crate::raw::job as raw;
 
 use crate::patch::{
     setting_bytes, six_levels, DomainOrigin, Patch, Settings, Spacing, VertexOrder,

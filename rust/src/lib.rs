@@ -20,6 +20,8 @@
 //! The top of the settings says how finely a patch can be cut at most: an even number from 2 to 64. Any other number is
 //! answered with `BadTop`, before everything else.
 
+#![deny(unsafe_code)]
+
 pub mod answers;
 pub mod check;
 mod clamps;
@@ -30,6 +32,7 @@ pub mod job;
 mod measure;
 mod mesh;
 mod patch;
+#[allow(unsafe_code)]
 pub mod raw;
 mod replay;
 pub mod shared;

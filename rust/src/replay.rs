@@ -1,9 +1,6 @@
 //! Replaying a recorded session: every call is made again, and its answer compared with the recorded one.
 
-extern "C" {
-    // The bytes go as a pointer and a length; seven words come back: the entry, and both sides.
-    fn yoktvarim_replay(bytes: *const u8, byte_count: usize, told: &mut [u64; 7]) -> u32;
-}
+use crate::raw;
 
 /// What was answered to a recorded call: the answer's number, and the counts, which are 0 unless it is 0, "drawn".
 #[derive(Clone, Copy, Debug, PartialEq, Eq)]
@@ -51,12 +48,7 @@ pub enum Replay {
 ///
 /// Each record is drawn into lists on the stack, about 100 kB of them.
 pub fn replay(bytes: &[u8]) -> Replay {
-    // Overwritten whatever the answer is.
-    let mut told = [u64::MAX; 7];
-    // SAFETY: the function is proved for every value of its arguments; it reads the bytes, which go as a pointer and their own
-    // length, and writes `told`.
-    let number = unsafe { yoktvarim_replay(bytes.as_ptr(), bytes.len(), &mut told) };
-    let [entry, recorded @ .., a, p, i] = told;
+    let (number, [entry, recorded @ .., a, p, i]) = raw::replay(bytes);
     match number {
         0 => Replay::AllAgree { entries: entry },
         5 => Replay::NotARecording,

@@ -27,6 +27,7 @@
 //! once are not made, since each borrows the state and the lists.
 
 use crate::patch::{setting_bytes, six_levels, Patch, Settings};
+use crate::raw;
 
 /// Whose part of the lists a call is about.
 #[derive(Clone, Copy, Debug, PartialEq, Eq)]
@@ -103,39 +104,6 @@ pub enum ClearAnswer {
     BadState,
 }
 
-extern "C" {
-    fn yoktvarim_share_start(
-        vertices: *const u32,
-        vertex_words: usize,
-        indices: *const u16,
-        index_words: usize,
-        quotas: *const [Quota; 2],
-        state: *mut Shared,
-    ) -> u32;
-    fn yoktvarim_share_draw(
-        state: *mut Shared,
-        designer: u32,
-        settings: *const [u8; 6],
-        levels: *const [f32; 6],
-        vertices: *mut u32,
-        vertex_words: usize,
-        indices: *mut u16,
-        index_words: usize,
-        counts: *mut [u32; 2],
-    ) -> u32;
-    fn yoktvarim_share_clear(
-        state: *mut Shared,
-        designer: u32,
-        vertices: *const u32,
-        vertex_words: usize,
-        indices: *const u16,
-        index_words: usize,
-    ) -> u32;
-}
-
-// The library reads and writes exactly this.
-const _: () = assert!(size_of::<Shared>() == 80 && size_of::<[Quota; 2]>() == 32);
-
 impl Designer {
     fn number(self) -> u32 {
         match self {
@@ -161,21 +129,10 @@ impl Shared {
             vertices: nothing,
             indices: nothing,
         };
-        // SAFETY: each pointer is to as many words as the library reads or writes there, and only `state` is written.
-        let number = unsafe {
-            yoktvarim_share_start(
-                vertices.as_ptr(),
-                vertices.len(),
-                indices.as_ptr(),
-                indices.len(),
-                &quotas,
-                &mut state,
-            )
-        };
-        match number {
+        match raw::share_start(vertices, indices, &quotas, &mut state) {
             0 => Ok(state),
             12 => Err(QuotasTooLarge),
-            _ => unreachable!("starting answers 0 or 12 and not {number}"),
+            number => unreachable!("starting answers 0 or 12 and not {number}"),
         }
     }
 
@@ -189,21 +146,15 @@ impl Shared {
         vertices: &mut [u32],
         indices: &mut [u16],
     ) -> DrawAnswer {
-        let mut counts = [0; 2];
-        // SAFETY: each pointer is to as many words as the library reads or writes there, and what is written overlaps nothing.
-        let number = unsafe {
-            yoktvarim_share_draw(
-                self,
-                designer.number(),
-                &setting_bytes(patch, settings),
-                &six_levels(patch),
-                vertices.as_mut_ptr(),
-                vertices.len(),
-                indices.as_mut_ptr(),
-                indices.len(),
-                &mut counts,
-            )
-        };
+        let (settings, levels) = (setting_bytes(patch, settings), six_levels(patch));
+        let (number, counts) = raw::share_draw(
+            self,
+            designer.number(),
+            &settings,
+            &levels,
+            vertices,
+            indices,
+        );
         match number {
             0 => DrawAnswer::Drawn {
                 points: counts[0],
@@ -223,21 +174,10 @@ impl Shared {
 
     /// Gives the room of the designer's part back. Its words stay as they are until they are written over.
     pub fn clear(&mut self, designer: Designer, vertices: &[u32], indices: &[u16]) -> ClearAnswer {
-        // SAFETY: each pointer is to as many words as the library reads or writes there, and only the state is written.
-        let number = unsafe {
-            yoktvarim_share_clear(
-                self,
-                designer.number(),
-                vertices.as_ptr(),
-                vertices.len(),
-                indices.as_ptr(),
-                indices.len(),
-            )
-        };
-        match number {
+        match raw::share_clear(self, designer.number(), vertices, indices) {
             0 => ClearAnswer::Cleared,
             14 => ClearAnswer::BadState,
-            _ => unreachable!("the designer is known, and the answer is {number}"),
+            number => unreachable!("the designer is known, and the answer is {number}"),
         }
     }
 }

@@ -1,38 +1,11 @@
-//! The exported functions by their numbers, for callers that have setting bytes and bit patterns.
+//! Job files by numbers, for callers that have setting bytes and bit patterns.
 //!
 //! A version is the number 1 or 2. The settings are six bytes as in [`crate::raw`], the top level last; in version 1 it is
 //! 64. The patterns are the bits of the levels: outer one to four, inner one and two.
 
-extern "C" {
-    fn yoktvarim_write_header(
-        version: u32,
-        bytes: *mut u8,
-        length: usize,
-        count: &mut [u32; 1],
-    ) -> u32;
-
-    fn yoktvarim_write_record(
-        version: u32,
-        settings: &[u8; 6],
-        patterns: &[u32; 6],
-        bytes: *mut u8,
-        length: usize,
-        count: &mut [u32; 1],
-    ) -> u32;
-
-    fn yoktvarim_read_header(bytes: *const u8, length: usize, version: &mut [u32; 1]) -> u32;
-
-    fn yoktvarim_read_record(
-        bytes: *const u8,
-        length: usize,
-        version: u32,
-        at: usize,
-        settings: &mut [u8; 6],
-        patterns: &mut [u32; 6],
-        next: &mut [usize; 1],
-        place: &mut [u32; 1],
-    ) -> u32;
-}
+use super::foreign::{
+    yoktvarim_read_header, yoktvarim_read_record, yoktvarim_write_header, yoktvarim_write_record,
+};
 
 /// The number of [`read_record`] where no byte is left, which is no refusal.
 pub const END: u32 = 255;

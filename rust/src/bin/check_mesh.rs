@@ -4,14 +4,12 @@
 //! standard input. Records are numbered from 0. Status 0: every record is accepted; 1: some record is not; 2: the words on the
 //! command line are wrong, or an input cannot be read, and then standard error says which line is malformed.
 
-mod text;
-
 use std::collections::HashSet;
 use std::env;
 use std::fs;
 use std::io::{self, Read, Write};
 use std::process::ExitCode;
-use text::{Answer, Lines};
+use yoktvarim::answers::{Answer, Malformed, Reader};
 use yoktvarim::job::{self, Kind, Record, RecordRefusal};
 use yoktvarim::{check_mesh, mesh, Verdict};
 
@@ -48,24 +46,26 @@ fn run(job_path: &str, text_path: &str) -> Result<bool, String> {
     let job = read(job_path)?;
     let records = job::read(&job).map_err(|refusal| format!("{job_path}: {refusal}"))?;
     let text = read(text_path)?;
-    let in_text = |what: String| format!("{text_path}: {what}");
-    let mut lines = Lines::of(&text).map_err(in_text)?;
-    lines
+    let in_text = |malformed: Malformed| format!("{text_path}: {malformed}");
+    let mut reader = Reader::new(&text);
+    reader
         .take_title(&format!("TSJ {}", records.version().number()))
         .map_err(in_text)?;
     let mut out = io::stdout().lock();
     let mut all_accepted = true;
     let mut count = 0;
     for record in records {
-        let answer = lines
-            .take_answer(count, primitive_size(&record))
+        let answer = reader
+            .take_answer(count, Some(primitive_size(&record)))
             .map_err(in_text)?;
         let (accepted, words) = judge(&record, &answer);
         all_accepted &= accepted;
         writeln!(out, "record {count}: {words}").map_err(|error| error.to_string())?;
         count += 1;
     }
-    lines.end(count).map_err(in_text)?;
+    reader
+        .take_end(&format!("the job has no record {count}"))
+        .map_err(in_text)?;
     Ok(all_accepted)
 }
 
@@ -87,7 +87,12 @@ fn judge(record: &Result<Record, RecordRefusal>, answer: &Answer) -> (bool, Stri
         (Err(refusal), answer) => judge_refusal(*refusal, answer),
         (Ok(_), Answer::Refused(told)) => (false, format!("should not be refused {told}")),
         (Ok(record), Answer::Discarded) => judge_mesh(record, &[], &[]),
-        (Ok(record), Answer::Drawn { points, indices }) => judge_mesh(record, points, indices),
+        (
+            Ok(record),
+            Answer::Drawn {
+                points, indices, ..
+            },
+        ) => judge_mesh(record, points, indices),
     }
 }
 
