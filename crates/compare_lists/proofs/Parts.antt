@@ -11,7 +11,7 @@ use Rattle.searches.specs.Points.{samePoint}
 use Rattle.differences.specs.Lacking.{lacking}
 use Rattle.differences.specs.Meshes.{Mesh, sameFace}
 use Rattle.differences.specs.Differences.{leftPoints, rightPoints, leftFaces, rightFaces, differences, words}
-use Rattle.compare.proofs.Passing.{words-append}
+use Rattle.compare_lists.proofs.Passing.{words-append}
 
 module _ (l r : Mesh) where
   -- how many there are

@@ -19,8 +19,8 @@ use Rattle.searches.proofs.Read.{points-count, triangles-count}
 use Rattle.differences.specs.Lacking.{Row, passing, lacks, lacking}
 use Rattle.differences.specs.Meshes.{Mesh, readMesh, pointsIn, facesIn, sameFace}
 use Rattle.differences.proofs.Tests.{lacks-found, in-order}
-use Rattle.compare_flags.specs.Flags.{isSet, Flagged}
-use Rattle.compare_flags.proofs.Tables.{flag-tells}
+use Rattle.table_flags.specs.Flags.{isSet, Flagged}
+use Rattle.table_flags.proofs.Tables.{flag-tells}
 use Rattle.differences.specs.Differences.{Difference, each, differences, words, wordsIf}
 
 -- the number k, if it passes

@@ -5,9 +5,15 @@ ghost use lib.ListN.{length};
 ghost use Rattle.searches.specs.Points.{samePoint};
 ghost use Rattle.differences.specs.Lacking.{lacks};
 ghost use Rattle.differences.specs.Meshes.{Single, Good, pointsIn, facesIn, sameFace};
-ghost use Rattle.compare_flags.specs.Flags.{KnownFlags};
+ghost use Rattle.table_flags.specs.Flags.{KnownFlags};
 
-pub fn lacks_point(points: &[u32], k: usize, others: &[u32], known: bool, flags: &[u8]) -> bool
+pub(crate) fn lacks_point(
+    points: &[u32],
+    k: usize,
+    others: &[u32],
+    known: bool,
+    flags: &[u8],
+) -> bool
     requires { ⌜ k < length (now points) / 3 ⌝ ∗ ⌜ Single (now points) ⌝ ∗ ⌜ KnownFlags known (lacks samePoint (pointsIn (now points)) (pointsIn (now others))) (length (now points) / 3) (now flags) ⌝ }
     ensures { λ r. ⌜ r ≡ lacks samePoint (pointsIn (now (points .entry))) (pointsIn (now (others .entry))) k ⌝ }
 {
@@ -17,7 +23,7 @@ pub fn lacks_point(points: &[u32], k: usize, others: &[u32], known: bool, flags:
     differences::side::lacks_point(points, k, others)
 }
 
-pub fn lacks_face(
+pub(crate) fn lacks_face(
     points: &[u32],
     indices: &[u16],
     k: usize,

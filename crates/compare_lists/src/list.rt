@@ -8,10 +8,10 @@ ghost use Rattle.buffer.specs.Over.{Wrote};
 ghost use Rattle.searches.specs.Points.{samePoint};
 ghost use Rattle.differences.specs.Lacking.{passing, lacks, lacking};
 ghost use Rattle.differences.specs.Meshes.{Single, Good, pointsIn, facesIn, sameFace};
-ghost use Rattle.compare_flags.specs.Flags.{isSet, KnownFlags};
+ghost use Rattle.table_flags.specs.Flags.{isSet, KnownFlags};
 ghost use Rattle.differences.specs.Differences.{wordsIf, pointDifferences, faceDifferences, words};
-use compare_flags::ask::lacks_face;
-use compare_flags::ask::lacks_point;
+use crate::ask::lacks_face;
+use crate::ask::lacks_point;
 
 // 1 for true.
 fn one_if(is: bool) -> usize
@@ -34,7 +34,7 @@ fn count_set(flags: &[u8], count: usize) -> usize
     n
 }
 
-pub fn count_points(points: &[u32], others: &[u32], known: bool, flags: &[u8]) -> usize
+pub(crate) fn count_points(points: &[u32], others: &[u32], known: bool, flags: &[u8]) -> usize
     requires { ⌜ Single (now points) ⌝ ∗ ⌜ KnownFlags known (lacks samePoint (pointsIn (now points)) (pointsIn (now others))) (length (now points) / 3) (now flags) ⌝ }
     ensures { λ n. ⌜ n ≡ length (lacking samePoint (pointsIn (now (points .entry))) (pointsIn (now (others .entry)))) ⌝ }
 {
@@ -51,7 +51,7 @@ pub fn count_points(points: &[u32], others: &[u32], known: bool, flags: &[u8]) -
     n
 }
 
-pub fn count_faces(
+pub(crate) fn count_faces(
     points: &[u32],
     indices: &[u16],
     other_points: &[u32],
@@ -106,7 +106,7 @@ fn put_if(out: &mut [u64], at: usize, is: bool, kind: u64, side: u64, number: us
     }
 }
 
-pub fn write_points(
+pub(crate) fn write_points(
     out: &mut [u64],
     at: usize,
     side: u64,
@@ -135,7 +135,7 @@ pub fn write_points(
     to
 }
 
-pub fn write_faces(
+pub(crate) fn write_faces(
     out: &mut [u64],
     at: usize,
     side: u64,

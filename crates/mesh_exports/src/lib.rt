@@ -3,4 +3,3 @@
 //   places    two words, always written: what is told beside the answer, 0 where nothing is
 // The answer is its number: 0 accepted, 8 unknown setting, 11 bad top, and 20 to 30 the faults in the order of finding.
 pub mod check;
-pub mod found;

@@ -2,7 +2,7 @@
 ghost use Prim.Native.Nat.{_+_, _*_, _/_, _≤_};
 ghost use lib.ListN.{length};
 ghost use Rattle.buffer.specs.Over.{Wrote};
-ghost use Rattle.patch_text.specs.Answers.{Mesh, listText};
+ghost use Rattle.mesh_text.specs.Lists.{Mesh, listText};
 
 // The first `points` points of a list of vertices, and the first `words` indices of a list of indices, `width` to a primitive.
 pub fn put_mesh(

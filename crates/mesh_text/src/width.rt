@@ -1,6 +1,6 @@
 // How many indices a primitive has.
 ghost use mathlib.Core.Path.{_≡_};
-ghost use Rattle.patch_text.specs.Widths.{widthOf};
+ghost use Rattle.mesh_text.specs.Widths.{widthOf};
 use patch::kinds::Patch;
 
 pub fn width_of(patch: Patch, point_mode: bool) -> usize

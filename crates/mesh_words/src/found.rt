@@ -2,7 +2,7 @@
 ghost use mathlib.Core.Path.{_≡_};
 ghost use mathlib.Core.List.{[], _∷_};
 ghost use Rattle.verdict_meaning.specs.Numbers.{toldVerdict};
-ghost use Rattle.mesh_exports.specs.Founds.{Finds};
+ghost use Rattle.mesh_words.specs.Founds.{Finds};
 use mesh_verdict::Verdict;
 use replies::reply::Reply;
 

@@ -29,7 +29,7 @@ use Rattle.differences.specs.Meshes.{Single, Indexed, Good, facesIn, sameFace}
 use Rattle.differences.specs.Found.{Found, Cornered, Matched}
 use Rattle.differences.proofs.Numbers.{match-found, missing-p, missing-q, missing-r}
 use Rattle.differences.proofs.Lacks.{has-found, has-missing, among-own}
-use Rattle.compare_flags.specs.Flags.{Partners, Partnered, AllSet, Narrowed, Flagged, KnownFlags, missing, isFirst}
+use Rattle.table_flags.specs.Flags.{Partners, Partnered, AllSet, Narrowed, Flagged, KnownFlags, missing, isFirst}
 
 -- ---- a table of all points
 pub table-whole : {ow : List ℕ} {slots r : ℕ} {t : List ℕ} → Single ow → r ≡ firstRepeated (readPoints ow) → PointTable (readPoints ow) slots r t → PointTable (readPoints ow) slots (length ow / 3) t

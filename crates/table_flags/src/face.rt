@@ -7,7 +7,7 @@ ghost use Rattle.drawing.specs.Words.{readPoints};
 ghost use Rattle.differences.specs.Lacking.{among};
 ghost use Rattle.differences.specs.Meshes.{facesIn, sameFace};
 ghost use Rattle.differences.specs.Found.{Cornered};
-ghost use Rattle.compare_flags.specs.Flags.{SideTable, Partnered};
+ghost use Rattle.table_flags.specs.Flags.{SideTable, Partnered};
 use strip::triangle::Triangle;
 use triangle_table::has_triangle;
 

@@ -7,7 +7,7 @@ ghost use lib.ListN.{length};
 ghost use Rattle.searches.specs.Points.{samePoint};
 ghost use Rattle.differences.specs.Lacking.{lacks};
 ghost use Rattle.differences.specs.Meshes.{Single, Good, pointsIn};
-ghost use Rattle.compare_flags.specs.Flags.{SideTable, Partnered, Narrowed, missing, isFirst};
+ghost use Rattle.table_flags.specs.Flags.{SideTable, Partnered, Narrowed, missing, isFirst};
 use crate::face::has_face;
 use searches::triangle::triangle_at;
 use triangle_table::has_earlier;
@@ -27,7 +27,7 @@ fn point_flag(points: &[u32], k: usize, others: &[u32], partners: &[u16], flag: 
     1
 }
 
-pub(crate) fn flag_points(points: &[u32], others: &[u32], partners: &[u16], flags: &mut [u8])
+pub fn flag_points(points: &[u32], others: &[u32], partners: &[u16], flags: &mut [u8])
     requires { ⌜ Single (now points) ⌝ ∗ ⌜ Partnered (now points) (now others) (now partners) ⌝ ∗ ⌜ length (now points) / 3 ≤ length (now flags) ⌝ }
     ensures { λ r. ⌜ Narrowed (lacks samePoint (pointsIn (now (points .entry))) (pointsIn (now (others .entry)))) (length (now (points .entry)) / 3) (now (flags .entry)) (now (flags .exit)) ⌝ }
 {
@@ -72,7 +72,7 @@ fn missing_flag(
 }
 
 // With a table of the other mesh's sides.
-pub(crate) fn flag_missing(
+pub fn flag_missing(
     points: &[u32],
     indices: &[u16],
     others: &[u32],
@@ -125,13 +125,7 @@ fn first_flag(
 }
 
 // With a table of the mesh's own sides.
-pub(crate) fn flag_first(
-    points: &[u32],
-    indices: &[u16],
-    heads: &[u16],
-    links: &[u32],
-    flags: &mut [u8],
-)
+pub fn flag_first(points: &[u32], indices: &[u16], heads: &[u16], links: &[u32], flags: &mut [u8])
     requires { ⌜ SideTable (now points) (now indices) (now heads) (now links) ⌝ ∗ ⌜ length (now indices) / 3 ≤ length (now flags) ⌝ }
     ensures { λ r. ⌜ Narrowed (isFirst (now (points .entry)) (now (indices .entry))) (length (now (indices .entry)) / 3) (now (flags .entry)) (now (flags .exit)) ⌝ }
 {

@@ -5,7 +5,7 @@ ghost use Rattle.drawing.specs.Words.{readPoints};
 ghost use Rattle.point_table.specs.Trees.{PointTable};
 ghost use Rattle.differences.specs.Meshes.{Single};
 ghost use Rattle.differences.specs.Found.{Found};
-ghost use Rattle.compare_flags.specs.Flags.{Partnered};
+ghost use Rattle.table_flags.specs.Flags.{Partnered};
 use mesh::Point;
 use point_table::seek;
 use searches::point::point_at;
@@ -58,7 +58,7 @@ fn match_many(points: &[u32], others: &[u32], partners: &mut [u16])
 }
 
 // With a table as large as the other's points need.
-pub(crate) fn match_points(points: &[u32], others: &[u32], partners: &mut [u16])
+pub fn match_points(points: &[u32], others: &[u32], partners: &mut [u16])
     requires { ⌜ Single (now others) ⌝ ∗ ⌜ length (now others) / 3 ≤ 8192 ⌝ ∗ ⌜ length (now points) / 3 ≤ length (now partners) ⌝ }
     ensures { λ r. ⌜ Partnered (now (points .entry)) (now (others .entry)) (now (partners .exit)) ⌝ }
 {

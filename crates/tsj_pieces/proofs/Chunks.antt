@@ -13,7 +13,7 @@ use Rattle.streams.specs.Moved.{Filled, Taken}
 use Rattle.streams.proofs.Takes.{taken-all}
 use Rattle.job_fields.specs.declared.version.Version.{Version}
 use Rattle.job_text.specs.Jobs.{answersFrom}
-use Rattle.report.specs.Chunks.{chunkSize, AnsweredChunk}
+use Rattle.tsj_pieces.specs.Chunks.{chunkSize, AnsweredChunk}
 
 module _ {v : Version} {bs : List ℕ} {input : Input} {size : ℕ} (e : size ≡ chunkSize v) (f : Filled size bs input) where
   pub chunk-unread : input .failed ≡ true → AnsweredChunk v bs (record { input = input; output = record { count = 0; failed = false }; more = false })

@@ -15,7 +15,7 @@ use Rattle.job.specs.declared.header.Header.{Header}
 use Rattle.job_text.specs.declared.header.Rest.{Rest}
 use Rattle.job_text.specs.declared.header.Rest.the-variants.{Nothing}
 use Rattle.job_text.specs.Jobs.{startText, restOf}
-use Rattle.report.specs.Headers.{headerIn, headerText, AnsweredHeader}
+use Rattle.tsj_pieces.specs.Headers.{headerIn, headerText, AnsweredHeader}
 
 module _ {hs : List ℕ} {input : Input} (f : Filled 5 hs input) where
   -- reading failed

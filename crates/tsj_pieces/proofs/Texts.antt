@@ -10,8 +10,8 @@ use Rattle.streams.proofs.Takes.{taken-short, taken-all, taken-fewer, taken-who
 use Rattle.job_fields.specs.declared.version.Version.{Version}
 use Rattle.job_text.specs.Jobs.{answersFrom}
 use Rattle.job_text.proofs.Steps.{answers-end}
-use Rattle.report.specs.declared.chunk.Step.{Step}
-use Rattle.report.specs.Chunks.{AnsweredSome}
+use Rattle.tsj_pieces.specs.declared.chunk.Step.{Step}
+use Rattle.tsj_pieces.specs.Chunks.{AnsweredSome}
 
 -- count bytes of text were written, which answer the records up to `at`
 pub record Written (v : Version) (bs : List ℕ) (count at : ℕ) : Type 0 where

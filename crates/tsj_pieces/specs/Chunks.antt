@@ -11,8 +11,8 @@ use Rattle.job_fields.specs.declared.version.Version.{Version}
 use Rattle.job_fields.specs.Version.{recordSize}
 use Rattle.job_text.specs.Jobs.{answersFrom}
 use Rattle.job_text.specs.Reported.{Reported}
-use Rattle.report.specs.declared.chunk.Step.{Step}
-use Rattle.report.specs.declared.chunk.Chunk.{Chunk}
+use Rattle.tsj_pieces.specs.declared.chunk.Step.{Step}
+use Rattle.tsj_pieces.specs.declared.chunk.Chunk.{Chunk}
 
 -- the text of some records is at the front of out, and all of it was handed to writing
 pub record AnsweredSome (v : Version) (bs : List ℕ) (from : ℕ) (out : List ℕ) (r : Step) : Type 0 where

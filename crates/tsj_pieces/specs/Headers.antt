@@ -10,7 +10,7 @@ use Rattle.job.specs.declared.header.Header.{Header}
 use Rattle.job.specs.Header.{headerOf}
 use Rattle.job_text.specs.declared.header.Rest.the-variants.{Nothing}
 use Rattle.job_text.specs.Jobs.{startText, restOf}
-use Rattle.report.specs.declared.header.Start.{Start}
+use Rattle.tsj_pieces.specs.declared.header.Start.{Start}
 
 -- the header in the bytes that were read to the front of hs
 abbrev pub headerIn : List ℕ → Input → Header

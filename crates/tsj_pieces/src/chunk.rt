@@ -6,7 +6,7 @@ ghost use Rattle.job_fields.specs.Version.{recordSize};
 ghost use Rattle.job_text.specs.Jobs.{answersFrom};
 ghost use Rattle.patch_text.specs.Room.{room, FullSize};
 ghost use Rattle.streams.specs.Moved.{Taken};
-ghost use Rattle.report.specs.Chunks.{AnsweredSome, AnsweredChunk};
+ghost use Rattle.tsj_pieces.specs.Chunks.{AnsweredSome, AnsweredChunk};
 use crate::failures::read_or_tell;
 use crate::failures::write_or_tell;
 use job_fields::version::Version;
@@ -88,7 +88,7 @@ fn chunk_size(version: Version) -> usize
 
 // Reads a chunk to the front of `bytes` and answers it. Nothing is written where the read failed. Reading goes on after a full chunk
 // that was answered: fewer bytes are the last.
-pub(crate) fn answer_chunk(
+pub fn answer_chunk(
     bytes: &mut [u8],
     out: &mut [u8],
     version: Version,

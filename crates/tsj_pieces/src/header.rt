@@ -3,7 +3,7 @@ ghost use mathlib.Core.Path.{_≡_};
 ghost use Prim.Native.Nat.{_≤_};
 ghost use lib.ListN.{length, take};
 ghost use Rattle.patch_text.specs.Room.{room};
-ghost use Rattle.report.specs.Headers.{headerText, AnsweredHeader};
+ghost use Rattle.tsj_pieces.specs.Headers.{headerText, AnsweredHeader};
 use crate::failures::read_or_tell;
 use crate::failures::write_or_tell;
 use job::header::read_header;
@@ -21,7 +21,7 @@ pub struct Start {
 }
 
 // Reads the header to the front of `header`, and answers it from the front of `out`. Nothing is written where the read failed.
-pub(crate) fn answer_header(header: &mut [u8], out: &mut [u8]) -> Start
+pub fn answer_header(header: &mut [u8], out: &mut [u8]) -> Start
     requires { ⌜ 5 ≤ length (now header) ⌝ ∗ ⌜ room ≤ length (now out) ⌝ }
     ensures { λ r. ⌜ AnsweredHeader (now (header .exit)) r ⌝ }
     ensures { λ r. ⌜ take (length (headerText (now (header .exit)) (r .input))) (now (out .exit)) ≡ headerText (now (header .exit)) (r .input) ⌝ }

@@ -9,8 +9,8 @@ use Rattle.streams.specs.Moved.{Filled}
 use Rattle.replay.specs.declared.answer.Replay.{Replay}
 use Rattle.replay.specs.Replays.{startOf, goOn}
 use Rattle.replay.specs.Pieces.{isOpen}
-use Rattle.replay_report.specs.declared.piece.Start.{Start}
-use Rattle.replay_report.specs.declared.piece.Chunk.{Chunk}
+use Rattle.tsr_pieces.specs.declared.piece.Start.{Start}
+use Rattle.tsr_pieces.specs.declared.piece.Chunk.{Chunk}
 
 -- hs is what was lent for the header, after the call
 pub record ReplayedHeader (hs : List ℕ) (r : Start) : Type 0 where

@@ -4,7 +4,7 @@ ghost use lib.ListN.{length};
 ghost use Rattle.patch_text.specs.Room.{FullSize};
 ghost use Rattle.replay.specs.Replays.{Countable};
 ghost use Rattle.replay.specs.Pieces.{isOpen};
-ghost use Rattle.replay_report.specs.Pieces.{ReplayedHeader, ReplayedChunk};
+ghost use Rattle.tsr_pieces.specs.Pieces.{ReplayedHeader, ReplayedChunk};
 use replay::answer::Replay;
 use replay::recording::go_on;
 use replay::recording::read_start;
@@ -28,7 +28,7 @@ pub struct Chunk {
 }
 
 // Another piece can change what is said.
-pub(crate) fn is_open(so_far: Replay) -> bool
+pub fn is_open(so_far: Replay) -> bool
     ensures { λ r. ⌜ r ≡ isOpen «so_far» ⌝ }
 {
     match so_far {
@@ -45,7 +45,7 @@ pub(crate) fn is_open(so_far: Replay) -> bool
 }
 
 // Reads the header to `header`.
-pub(crate) fn replay_header(header: &mut [u8]) -> Start
+pub fn replay_header(header: &mut [u8]) -> Start
     requires { ⌜ length (now header) ≡ 5 ⌝ }
     ensures { λ r. ⌜ ReplayedHeader (now (header .exit)) r ⌝ }
 {
@@ -56,7 +56,7 @@ pub(crate) fn replay_header(header: &mut [u8]) -> Start
 }
 
 // Reads a chunk to `bytes` and replays it. Reading goes on after a full chunk whose entries agree: fewer bytes are the last.
-pub(crate) fn replay_chunk(
+pub fn replay_chunk(
     bytes: &mut [u8],
     so_far: Replay,
     vertices: &mut [u32],

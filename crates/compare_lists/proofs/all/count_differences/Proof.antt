@@ -1,15 +1,15 @@
 -- Meets its contract. Assumes nothing.
 use native.Mathlib.Omega.{arith}
 use Rattle.differences.specs.Meshes.{readMesh}
-use Rattle.compare.proofs.Passing.{Few, few}
-use Rattle.compare.proofs.Parts.{parts-count}
+use Rattle.compare_lists.proofs.Passing.{Few, few}
+use Rattle.compare_lists.proofs.Parts.{parts-count}
 use borrow.Author.Needs.{needs}
-use Rattle.compare.proofs.tool.count_differences.Statement.{statement}
-use Rattle.compare.proofs.tool.count_differences.Tie as tie
-use Rattle.compare.proofs.tool.count_differences.Reads as reads
-use Rattle.compare.proofs.tool.count_differences.Lts as lts
-use Rattle.compare.proofs.list.count_faces.Reads as count-faces-reads
-use Rattle.compare.proofs.list.count_points.Reads as count-points-reads
+use Rattle.compare_lists.proofs.all.count_differences.Statement.{statement}
+use Rattle.compare_lists.proofs.all.count_differences.Tie as tie
+use Rattle.compare_lists.proofs.all.count_differences.Reads as reads
+use Rattle.compare_lists.proofs.all.count_differences.Lts as lts
+use Rattle.compare_lists.proofs.list.count_faces.Reads as count-faces-reads
+use Rattle.compare_lists.proofs.list.count_points.Reads as count-points-reads
 
 -- after all four counts
 few-counted : (c : tie.After-count-faces2) → (let a = c .before .before .before .before .before .before .before .before .before .before .before .before .args in Few (a .left-points .now) (a .left-indices .now) (a .right-points .now) (a .right-indices .now))

@@ -6,8 +6,8 @@ use Rattle.buffer.proofs.Laws.{left-all, left-fits, left-step, wrote-then}
 use Rattle.differences.specs.Meshes.{pointsIn}
 use Rattle.differences.specs.Differences.{pointDifferences, words}
 use borrow.Author.Needs.{needs}
-use Rattle.compare.proofs.tool.write_all_points.Statement.{statement}
-use Rattle.compare.proofs.tool.write_all_points.Tie as tie
+use Rattle.compare_lists.proofs.all.write_all_points.Statement.{statement}
+use Rattle.compare_lists.proofs.all.write_all_points.Tie as tie
 
 write-points-requires : tie.Need-write-points-requires
 write-points-requires c κs =

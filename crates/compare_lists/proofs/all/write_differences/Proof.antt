@@ -5,9 +5,9 @@ use mathlib.Core.List.{[], append-nil}
 use Rattle.buffer.proofs.Laws.{left-fits, left-last}
 use Rattle.differences.specs.Meshes.{readMesh}
 use Rattle.differences.specs.Differences.{leftFaces, rightFaces, words}
-use Rattle.compare.proofs.Parts.{points-fit, after-points, after-faces}
-use Rattle.compare.proofs.tool.write_differences.Statement.{statement}
-use Rattle.compare.proofs.tool.write_differences.Tie as tie
+use Rattle.compare_lists.proofs.Parts.{points-fit, after-points, after-faces}
+use Rattle.compare_lists.proofs.all.write_differences.Statement.{statement}
+use Rattle.compare_lists.proofs.all.write_differences.Tie as tie
 
 write-all-points-requires : tie.Need-write-all-points-requires
 write-all-points-requires c κs =

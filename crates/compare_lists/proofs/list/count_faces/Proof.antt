@@ -7,9 +7,9 @@ use mathlib.Core.Bool.{Bool, cond}
 use Rattle.searches.proofs.Read.{triangles-count}
 use Rattle.differences.specs.Lacking.{lacks}
 use Rattle.differences.specs.Meshes.{facesIn, sameFace}
-use Rattle.compare.proofs.Passing.{cond-most, Tally, tally-start, tally-step, tally-done, flags-pass}
-use Rattle.compare.proofs.list.count_faces.Statement.{statement}
-use Rattle.compare.proofs.list.count_faces.Tie as tie
+use Rattle.compare_lists.proofs.Passing.{cond-most, Tally, tally-start, tally-step, tally-done, flags-pass}
+use Rattle.compare_lists.proofs.list.count_faces.Statement.{statement}
+use Rattle.compare_lists.proofs.list.count_faces.Tie as tie
 
 abbrev Inv-loop : tie.InvT-loop
 Inv-loop points indices other-points other-indices known flags count n₀ k₀ n k = Tally (lacks sameFace (facesIn points indices) (facesIn other-points other-indices)) k count n

@@ -8,9 +8,9 @@ use Rattle.searches.specs.Points.{samePoint}
 use Rattle.searches.proofs.Read.{points-count}
 use Rattle.differences.specs.Lacking.{lacks}
 use Rattle.differences.specs.Meshes.{pointsIn}
-use Rattle.compare.proofs.Passing.{cond-most, Tally, tally-start, tally-step, tally-done, flags-pass}
-use Rattle.compare.proofs.list.count_points.Statement.{statement}
-use Rattle.compare.proofs.list.count_points.Tie as tie
+use Rattle.compare_lists.proofs.Passing.{cond-most, Tally, tally-start, tally-step, tally-done, flags-pass}
+use Rattle.compare_lists.proofs.list.count_points.Statement.{statement}
+use Rattle.compare_lists.proofs.list.count_points.Tie as tie
 
 abbrev Inv-loop : tie.InvT-loop
 Inv-loop points others known flags count n₀ k₀ n k = Tally (lacks samePoint (pointsIn points) (pointsIn others)) k count n

@@ -4,10 +4,10 @@ use native.Mathlib.Omega.{arith}
 use Prim.Native.Nat.{_-_}
 use lib.Dec.{eqb}
 use lib.ListN.{getD}
-use Rattle.compare_flags.specs.Flags.{isSet}
-use Rattle.compare.proofs.Passing.{cond-most, Tally, tally-start, tally-step, tally-done}
-use Rattle.compare.proofs.list.count_set.Statement.{statement}
-use Rattle.compare.proofs.list.count_set.Tie as tie
+use Rattle.table_flags.specs.Flags.{isSet}
+use Rattle.compare_lists.proofs.Passing.{cond-most, Tally, tally-start, tally-step, tally-done}
+use Rattle.compare_lists.proofs.list.count_set.Statement.{statement}
+use Rattle.compare_lists.proofs.list.count_set.Tie as tie
 
 abbrev Inv-loop : tie.InvT-loop
 Inv-loop flags count n₀ k₀ n k = Tally (isSet flags) k count n

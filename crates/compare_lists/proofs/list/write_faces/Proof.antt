@@ -10,9 +10,9 @@ use Rattle.searches.proofs.Read.{triangles-count}
 use Rattle.differences.specs.Lacking.{lacks}
 use Rattle.differences.specs.Meshes.{facesIn, sameFace}
 use Rattle.differences.specs.Differences.{wordsIf}
-use Rattle.compare.proofs.Passing.{passing-words}
-use Rattle.compare.proofs.list.write_faces.Statement.{statement}
-use Rattle.compare.proofs.list.write_faces.Tie as tie
+use Rattle.compare_lists.proofs.Passing.{passing-words}
+use Rattle.compare_lists.proofs.list.write_faces.Statement.{statement}
+use Rattle.compare_lists.proofs.list.write_faces.Tie as tie
 
 abbrev Inv-loop : tie.InvT-loop
 Inv-loop out₀ at side points indices other-points other-indices known flags count to₀ k₀ out to k = Counting (λ i. wordsIf 1 side (lacks sameFace (facesIn points indices) (facesIn other-points other-indices) i) i) k count out to out₀ at

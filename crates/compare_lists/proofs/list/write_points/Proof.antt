@@ -11,9 +11,9 @@ use Rattle.searches.proofs.Read.{points-count}
 use Rattle.differences.specs.Lacking.{lacks}
 use Rattle.differences.specs.Meshes.{pointsIn}
 use Rattle.differences.specs.Differences.{wordsIf}
-use Rattle.compare.proofs.Passing.{passing-words}
-use Rattle.compare.proofs.list.write_points.Statement.{statement}
-use Rattle.compare.proofs.list.write_points.Tie as tie
+use Rattle.compare_lists.proofs.Passing.{passing-words}
+use Rattle.compare_lists.proofs.list.write_points.Statement.{statement}
+use Rattle.compare_lists.proofs.list.write_points.Tie as tie
 
 abbrev Inv-loop : tie.InvT-loop
 Inv-loop out₀ at side points others known flags count to₀ k₀ out to k = Counting (λ i. wordsIf 0 side (lacks samePoint (pointsIn points) (pointsIn others) i) i) k count out to out₀ at

@@ -3,8 +3,8 @@ use borrow.Author.Needs.{needs}
 use native.Mathlib.Nat.{zero-add, le-trans, mul-div-le}
 use native.Mathlib.Omega.{arith}
 use Rattle.buffer.proofs.Laws.{wrote-then}
-use Rattle.patch_text.proofs.mesh_text.put_mesh.Statement.{statement}
-use Rattle.patch_text.proofs.mesh_text.put_mesh.Tie as tie
+use Rattle.mesh_text.proofs.lists.put_mesh.Statement.{statement}
+use Rattle.mesh_text.proofs.lists.put_mesh.Tie as tie
 
 put-drawn-requires : tie.Need-put-drawn-requires
 put-drawn-requires c κs = search needs

@@ -1,12 +1,12 @@
 -- Meets its contract. Assumes nothing.
 use native.Mathlib.Omega.{arith}
 use mathlib.Core.Path.{_≡_, refl, _∙_, sym, ap}
-use Rattle.compare_flags.proofs.Tables.{corner-missing-a, corner-missing-b, corner-missing-c, corners-found}
+use Rattle.table_flags.proofs.Tables.{corner-missing-a, corner-missing-b, corner-missing-c, corners-found}
 use borrow.Author.Needs.{needs}
-use Rattle.compare_flags.proofs.face.has_face.Statement.{statement}
-use Rattle.compare_flags.proofs.face.has_face.Tie as tie
-use Rattle.compare_flags.proofs.face.has_face.Reads as reads
-use Rattle.compare_flags.proofs.face.has_face.Lts as lts
+use Rattle.table_flags.proofs.face.has_face.Statement.{statement}
+use Rattle.table_flags.proofs.face.has_face.Tie as tie
+use Rattle.table_flags.proofs.face.has_face.Reads as reads
+use Rattle.table_flags.proofs.face.has_face.Lts as lts
 use Rattle.triangle_table.proofs.has_triangle.Reads as has-triangle-reads
 
 cast-if1 : tie.Need-cast-if1

@@ -1,9 +1,9 @@
 -- Meets its contract. Assumes nothing.
 use native.Mathlib.Omega.{arith}
-use Rattle.compare_flags.proofs.Tables.{flag-gone, flag-falls, flag-stays, first-is}
+use Rattle.table_flags.proofs.Tables.{flag-gone, flag-falls, flag-stays, first-is}
 use borrow.Author.Needs.{needs}
-use Rattle.compare_flags.proofs.flag.first_flag.Statement.{statement}
-use Rattle.compare_flags.proofs.flag.first_flag.Tie as tie
+use Rattle.table_flags.proofs.flag.first_flag.Statement.{statement}
+use Rattle.table_flags.proofs.flag.first_flag.Tie as tie
 
 returns : tie.Need-returns
 returns c = flag-gone (c .before .before .before .before .before .args .flag) _ (omega arith)

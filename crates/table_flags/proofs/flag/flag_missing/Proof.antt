@@ -2,11 +2,11 @@
 use native.Mathlib.Omega.{arith}
 use Prim.Native.Nat.{_-_, _≤_, _/_}
 use lib.ListN.{length}
-use Rattle.compare_flags.specs.Flags.{Narrowed, missing}
-use Rattle.compare_flags.proofs.Tables.{narrowed-none, narrowed-more, narrowed-all}
+use Rattle.table_flags.specs.Flags.{Narrowed, missing}
+use Rattle.table_flags.proofs.Tables.{narrowed-none, narrowed-more, narrowed-all}
 use borrow.Author.Needs.{needs}
-use Rattle.compare_flags.proofs.flag.flag_missing.Statement.{statement}
-use Rattle.compare_flags.proofs.flag.flag_missing.Tie as tie
+use Rattle.table_flags.proofs.flag.flag_missing.Statement.{statement}
+use Rattle.table_flags.proofs.flag.flag_missing.Tie as tie
 
 abbrev Inv-loop : tie.InvT-loop
 Inv-loop points indices others other-indices partners heads links flags₀ count k₀ flags k = (k ≤ count) × Narrowed (missing points indices others other-indices) k flags₀ flags

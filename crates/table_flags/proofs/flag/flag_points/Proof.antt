@@ -5,11 +5,11 @@ use lib.ListN.{length}
 use Rattle.searches.specs.Points.{samePoint}
 use Rattle.differences.specs.Lacking.{lacks}
 use Rattle.differences.specs.Meshes.{pointsIn}
-use Rattle.compare_flags.specs.Flags.{Narrowed}
-use Rattle.compare_flags.proofs.Tables.{narrowed-none, narrowed-more, narrowed-all}
+use Rattle.table_flags.specs.Flags.{Narrowed}
+use Rattle.table_flags.proofs.Tables.{narrowed-none, narrowed-more, narrowed-all}
 use borrow.Author.Needs.{needs}
-use Rattle.compare_flags.proofs.flag.flag_points.Statement.{statement}
-use Rattle.compare_flags.proofs.flag.flag_points.Tie as tie
+use Rattle.table_flags.proofs.flag.flag_points.Statement.{statement}
+use Rattle.table_flags.proofs.flag.flag_points.Tie as tie
 
 abbrev Inv-loop : tie.InvT-loop
 Inv-loop points others partners flags₀ count k₀ flags k = (k ≤ count) × Narrowed (lacks samePoint (pointsIn points) (pointsIn others)) k flags₀ flags

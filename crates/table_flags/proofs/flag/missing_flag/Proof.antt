@@ -2,10 +2,10 @@
 use native.Mathlib.Omega.{arith}
 use Rattle.searches.proofs.Read.{points-count}
 use Rattle.differences.proofs.Numbers.{cornered}
-use Rattle.compare_flags.proofs.Tables.{flag-gone, flag-falls, flag-stays, missing-is}
+use Rattle.table_flags.proofs.Tables.{flag-gone, flag-falls, flag-stays, missing-is}
 use borrow.Author.Needs.{needs}
-use Rattle.compare_flags.proofs.flag.missing_flag.Statement.{statement}
-use Rattle.compare_flags.proofs.flag.missing_flag.Tie as tie
+use Rattle.table_flags.proofs.flag.missing_flag.Statement.{statement}
+use Rattle.table_flags.proofs.flag.missing_flag.Tie as tie
 
 returns : tie.Need-returns
 returns c = flag-gone (c .before .before .before .before .before .before .before .before .args .flag) _ (omega arith)

@@ -3,10 +3,10 @@ use native.Mathlib.Omega.{arith}
 use mathlib.Core.Path.{refl, sym}
 use mathlib.Core.Bool.{true, false}
 use Rattle.differences.proofs.Lacks.{point-found, point-missing}
-use Rattle.compare_flags.proofs.Tables.{flag-gone, flag-falls, flag-stays}
+use Rattle.table_flags.proofs.Tables.{flag-gone, flag-falls, flag-stays}
 use borrow.Author.Needs.{needs}
-use Rattle.compare_flags.proofs.flag.point_flag.Statement.{statement}
-use Rattle.compare_flags.proofs.flag.point_flag.Tie as tie
+use Rattle.table_flags.proofs.flag.point_flag.Statement.{statement}
+use Rattle.table_flags.proofs.flag.point_flag.Tie as tie
 
 returns : tie.Need-returns
 returns c = flag-gone (c .before .args .flag) _ (omega arith)

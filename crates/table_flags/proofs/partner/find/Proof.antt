@@ -3,8 +3,8 @@ use native.Mathlib.Omega.{arith}
 use mathlib.Core.Path.{_≡_}
 use Rattle.differences.proofs.Finds.{found-at}
 use borrow.Author.Needs.{needs}
-use Rattle.compare_flags.proofs.partner.find.Statement.{statement}
-use Rattle.compare_flags.proofs.partner.find.Tie as tie
+use Rattle.table_flags.proofs.partner.find.Statement.{statement}
+use Rattle.table_flags.proofs.partner.find.Tie as tie
 
 seek-requires : tie.Need-seek-requires
 seek-requires c κs = search needs

@@ -3,11 +3,11 @@ use native.Mathlib.Omega.{arith}
 use Prim.Native.Nat.{_-_, _≤_, _/_}
 use mathlib.Core.Path.{_≡_, refl, _∙_}
 use lib.ListN.{length, length-set}
-use Rattle.compare_flags.specs.Flags.{Partners}
-use Rattle.compare_flags.proofs.Tables.{partners-none, partners-more}
+use Rattle.table_flags.specs.Flags.{Partners}
+use Rattle.table_flags.proofs.Tables.{partners-none, partners-more}
 use borrow.Author.Needs.{needs}
-use Rattle.compare_flags.proofs.partner.match_by.Statement.{statement}
-use Rattle.compare_flags.proofs.partner.match_by.Tie as tie
+use Rattle.table_flags.proofs.partner.match_by.Statement.{statement}
+use Rattle.table_flags.proofs.partner.match_by.Tie as tie
 
 abbrev Inv-loop : tie.InvT-loop
 Inv-loop points others table slots partners₀ count k₀ partners k = (k ≤ count) × Partners points others k partners × (length partners ≡ length partners₀)

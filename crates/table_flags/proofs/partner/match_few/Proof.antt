@@ -1,10 +1,10 @@
 -- Meets its contract. Assumes nothing.
 use native.Mathlib.Omega.{arith}
 use Rattle.point_table.proofs.Trees.{table-none}
-use Rattle.compare_flags.proofs.Tables.{table-whole}
+use Rattle.table_flags.proofs.Tables.{table-whole}
 use borrow.Author.Needs.{needs}
-use Rattle.compare_flags.proofs.partner.match_few.Statement.{statement}
-use Rattle.compare_flags.proofs.partner.match_few.Tie as tie
+use Rattle.table_flags.proofs.partner.match_few.Statement.{statement}
+use Rattle.table_flags.proofs.partner.match_few.Tie as tie
 
 fill-requires : tie.Need-fill-requires
 fill-requires c κs = (table-none _ 251 379 (omega arith), (omega arith, (omega (arith, c .before .before .before .before .pre), omega (arith, c .before .before .before .before .pre))))

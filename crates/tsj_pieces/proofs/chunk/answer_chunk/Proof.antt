@@ -1,8 +1,8 @@
 -- Meets its contract. Assumes nothing.
 use borrow.Author.Needs.{needs}
-use Rattle.report.proofs.Chunks.{chunk-unread, chunk-read}
-use Rattle.report.proofs.chunk.answer_chunk.Statement.{statement}
-use Rattle.report.proofs.chunk.answer_chunk.Tie as tie
+use Rattle.tsj_pieces.proofs.Chunks.{chunk-unread, chunk-read}
+use Rattle.tsj_pieces.proofs.chunk.answer_chunk.Statement.{statement}
+use Rattle.tsj_pieces.proofs.chunk.answer_chunk.Tie as tie
 
 returns : tie.Need-returns
 returns c =

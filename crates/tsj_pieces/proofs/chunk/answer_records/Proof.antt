@@ -4,9 +4,9 @@ use Prim.Native.Nat.{_-_}
 use mathlib.Core.Path.{_≡_}
 use native.Mathlib.Omega.{arith}
 use lib.ListN.{length}
-use Rattle.report.proofs.Texts.{Written, written-start, written-end, written-short, written-most, written-step}
-use Rattle.report.proofs.chunk.answer_records.Statement.{statement}
-use Rattle.report.proofs.chunk.answer_records.Tie as tie
+use Rattle.tsj_pieces.proofs.Texts.{Written, written-start, written-end, written-short, written-most, written-step}
+use Rattle.tsj_pieces.proofs.chunk.answer_records.Statement.{statement}
+use Rattle.tsj_pieces.proofs.chunk.answer_records.Tie as tie
 
 abbrev Inv-loop : tie.InvT-loop
 Inv-loop out₀ bytes version vertices₀ indices₀ count₀ at₀ out vertices indices count at =

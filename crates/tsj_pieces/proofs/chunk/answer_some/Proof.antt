@@ -2,8 +2,8 @@
 use borrow.Author.Needs.{needs}
 use mathlib.Core.Path.{sym}
 use Rattle.io.proofs.Counting.{front}
-use Rattle.report.proofs.chunk.answer_some.Statement.{statement}
-use Rattle.report.proofs.chunk.answer_some.Tie as tie
+use Rattle.tsj_pieces.proofs.chunk.answer_some.Statement.{statement}
+use Rattle.tsj_pieces.proofs.chunk.answer_some.Tie as tie
 
 slice-aggregate-write-or-tell : tie.Need-slice-aggregate-write-or-tell
 slice-aggregate-write-or-tell c = front _ _ (c .before .before .before .before .before .before .before .put-records .ensures .fits)

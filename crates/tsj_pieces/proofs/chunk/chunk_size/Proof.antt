@@ -2,8 +2,8 @@
 use borrow.Author.Needs.{needs}
 use native.Mathlib.Omega.{arith}
 use Rattle.job_text.proofs.Sizes.{size-most}
-use Rattle.report.proofs.chunk.chunk_size.Statement.{statement}
-use Rattle.report.proofs.chunk.chunk_size.Tie as tie
+use Rattle.tsj_pieces.proofs.chunk.chunk_size.Statement.{statement}
+use Rattle.tsj_pieces.proofs.chunk.chunk_size.Tie as tie
 
 mul-result : tie.Need-mul-result
 mul-result c = omega (arith, size-most (c .before .args .version))

@@ -2,8 +2,8 @@
 use borrow.Author.Needs.{needs}
 use Rattle.io.proofs.Counting.{front}
 use Rattle.streams.proofs.Fills.{part-filled}
-use Rattle.report.proofs.failures.read_or_tell.Statement.{statement}
-use Rattle.report.proofs.failures.read_or_tell.Tie as tie
+use Rattle.tsj_pieces.proofs.failures.read_or_tell.Statement.{statement}
+use Rattle.tsj_pieces.proofs.failures.read_or_tell.Tie as tie
 
 slice-aggregate-read-front : tie.Need-slice-aggregate-read-front
 slice-aggregate-read-front c = front _ _ (c .before .before .pre)

@@ -3,9 +3,9 @@ use borrow.Author.Needs.{needs}
 use Prim.Native.Nat.{zero-le}
 use Rattle.io.proofs.Counting.{front}
 use Rattle.buffer.proofs.Laws.{wrote-within}
-use Rattle.report.proofs.Headers.{header-unread, unread-text, read-text, header-unwritten, header-written}
-use Rattle.report.proofs.header.answer_header.Statement.{statement}
-use Rattle.report.proofs.header.answer_header.Tie as tie
+use Rattle.tsj_pieces.proofs.Headers.{header-unread, unread-text, read-text, header-unwritten, header-written}
+use Rattle.tsj_pieces.proofs.header.answer_header.Statement.{statement}
+use Rattle.tsj_pieces.proofs.header.answer_header.Tie as tie
 
 returns : tie.Need-returns
 returns c =

@@ -2,10 +2,10 @@
 use borrow.Author.Needs.{needs}
 use native.Mathlib.Omega.{arith}
 use lib.ListN.{length-take}
-use Rattle.replay_report.proofs.Countings.{countable-less}
+use Rattle.tsr_pieces.proofs.Countings.{countable-less}
 use Rattle.streams.proofs.Fills.{filled-as}
-use Rattle.replay_report.proofs.piece.replay_chunk.Statement.{statement}
-use Rattle.replay_report.proofs.piece.replay_chunk.Tie as tie
+use Rattle.tsr_pieces.proofs.piece.replay_chunk.Statement.{statement}
+use Rattle.tsr_pieces.proofs.piece.replay_chunk.Tie as tie
 
 go-on-requires : tie.Need-go-on-requires
 go-on-requires c κs =

@@ -1,8 +1,8 @@
 -- Meets its contract. Assumes nothing.
 use borrow.Author.Needs.{needs}
 use Rattle.streams.proofs.Fills.{filled-as}
-use Rattle.replay_report.proofs.piece.replay_header.Statement.{statement}
-use Rattle.replay_report.proofs.piece.replay_header.Tie as tie
+use Rattle.tsr_pieces.proofs.piece.replay_header.Statement.{statement}
+use Rattle.tsr_pieces.proofs.piece.replay_header.Tie as tie
 
 returns : tie.Need-returns
 returns c = record { read = filled-as (search needs) (c .before .before .before .before .read-front .ensures); is = c .read-start .ensures }
