@@ -12,7 +12,7 @@ use Rattle.shared_lists.specs.declared.state.State.{State}
 use Rattle.shares.specs.declared.answer.DrawResult.{DrawResult}
 use Rattle.shared_lists.specs.SharedList.{grown, appended}
 use Rattle.shared_lists.specs.Operations.{unlessRefused}
-use Rattle.shares.specs.Answers.{toldDraw, pointsIn, drawVerdict}
+use Rattle.share_answers.specs.Answers.{toldDraw, pointsIn, drawVerdict}
 
 -- the words of a patch's indices, counted from the beginning of a part that holds n points
 abbrev pub shifted : ℕ → Settings → Patch → List ℕ

@@ -11,7 +11,7 @@ use Rattle.patch.specs.declared.kinds.Patch.{Patch}
 use Rattle.patch.specs.declared.settings.Settings.{Settings}
 use Rattle.patch.specs.Subdivide.{discards}
 use Rattle.tessellate.specs.Answers.{refused, pointsOf, indicesOf, drewBoth}
-use Rattle.shares.specs.Answers.{roomVerdict, partVerdict, verdict}
+use Rattle.share_answers.specs.Answers.{roomVerdict, partVerdict, verdict}
 
 -- no test stood against drawing
 pub record Passed (set : Settings) (p : Patch) (ok : Bool) (n v i : ℕ) : Type 0 where

@@ -10,8 +10,8 @@ use Rattle.patch.specs.Subdivide.{discards}
 use Rattle.tessellate.specs.Answers.{Told, refused, drewBoth, pointsOf, indicesOf}
 use Rattle.shared_lists.specs.declared.state.Designer.{Designer}
 use Rattle.shared_lists.specs.declared.state.State.{State}
-use Rattle.shares.specs.declared.answer.DrawAnswer.{DrawAnswer}
-use Rattle.shares.specs.declared.answer.DrawAnswer.the-variants as drawing
+use Rattle.share_answers.specs.declared.answer.DrawAnswer.{DrawAnswer}
+use Rattle.share_answers.specs.declared.answer.DrawAnswer.the-variants as drawing
 use Rattle.shared_lists.specs.SharedList.{share, left}
 use Rattle.shared_lists.specs.Answers.{accepted}
 

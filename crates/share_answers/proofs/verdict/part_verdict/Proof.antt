@@ -1,12 +1,12 @@
 -- Meets its contract. Assumes nothing.
 use mathlib.Core.Path.{sym, _∙_}
 use borrow.Author.Needs.{needs}
-use Rattle.shares.specs.Answers.{partVerdict}
+use Rattle.share_answers.specs.Answers.{partVerdict}
 use Rattle.tessellate.proofs.Measured.{is-measured}
 use Rattle.shared_lists.proofs.Sound.{state-facts, lies}
-use Rattle.shares.proofs.Measured.{not-bad, is-discarded, is-counted, part-says}
-use Rattle.shares.proofs.verdict.part_verdict.Statement.{statement}
-use Rattle.shares.proofs.verdict.part_verdict.Tie as tie
+use Rattle.share_answers.proofs.Measured.{not-bad, is-discarded, is-counted, part-says}
+use Rattle.share_answers.proofs.verdict.part_verdict.Statement.{statement}
+use Rattle.share_answers.proofs.verdict.part_verdict.Tie as tie
 
 measure-requires : tie.Need-measure-requires
 measure-requires c κs = search needs

@@ -5,7 +5,7 @@ ghost use mathlib.Core.Bool.{true};
 ghost use Rattle.level.specs.Top.{isTop};
 ghost use Rattle.shared_lists.specs.SharedList.{left};
 ghost use Rattle.shared_lists.specs.Answers.{soundState};
-ghost use Rattle.shares.specs.Answers.{toldDraw, pointsIn, roomVerdict, partVerdict, drawVerdict};
+ghost use Rattle.share_answers.specs.Answers.{toldDraw, pointsIn, roomVerdict, partVerdict, drawVerdict};
 use crate::answer::DrawAnswer;
 use patch::kinds::Patch;
 use patch::settings::Settings;
@@ -59,7 +59,7 @@ fn part_verdict(state: State, designer: Designer, patch: Patch, settings: Settin
     }
 }
 
-pub(crate) fn verdict_of(
+pub fn verdict_of(
     state: State,
     designer: Designer,
     patch: Patch,

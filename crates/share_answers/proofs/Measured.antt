@@ -15,7 +15,7 @@ use Rattle.tessellate.specs.declared.answer.Size.the-variants.{Counts, Discarde
 use Rattle.tessellate.specs.Answers.{Told, pointsOf, indicesOf}
 use Rattle.tessellate.proofs.Measured.{measured}
 use Rattle.shared_lists.specs.declared.state.Share.{Share}
-use Rattle.shares.specs.Answers.{roomVerdict, partVerdict}
+use Rattle.share_answers.specs.Answers.{roomVerdict, partVerdict}
 
 -- both counts, of a patch that is not discarded
 pub record Counted (set : Settings) (p : Patch) (m k : ℕ) : Type 0 where

@@ -2,10 +2,10 @@
 use borrow.Author.Needs.{needs}
 use Rattle.tessellate.proofs.Tops.{good, bad}
 use Rattle.shared_lists.specs.Answers.{lent, soundState}
-use Rattle.shares.specs.Answers.{verdict}
+use Rattle.share_answers.specs.Answers.{verdict}
 use Rattle.shared_lists.proofs.Sound.{both}
-use Rattle.shares.proofs.verdict.verdict_of.Statement.{statement}
-use Rattle.shares.proofs.verdict.verdict_of.Tie as tie
+use Rattle.share_answers.proofs.verdict.verdict_of.Statement.{statement}
+use Rattle.share_answers.proofs.verdict.verdict_of.Tie as tie
 
 is-top-requires : tie.Need-is-top-requires
 is-top-requires c κs = search needs
