@@ -1,23 +1,15 @@
 // The comparison of two meshes.
 ghost use mathlib.Core.Path.{_≡_};
-ghost use mathlib.Core.List.{_++_};
-ghost use Prim.Native.Nat.{_/_, _≤_};
-ghost use lib.ListN.{length};
-ghost use Rattle.buffer.specs.Over.{Wrote};
-ghost use Rattle.searches.specs.Points.{samePoint};
-ghost use Rattle.differences.specs.Lacking.{lacks};
-ghost use Rattle.differences.specs.Meshes.{Single, Good, pointsIn, readMesh};
-ghost use Rattle.differences.specs.Differences.{pointDifferences, differences, words};
-ghost use Rattle.compare_flags.specs.Flags.{KnownFlags, MeshFlags};
+ghost use Rattle.differences.specs.Meshes.{Good, readMesh};
+ghost use Rattle.differences.specs.Differences.{differences};
+ghost use Rattle.table_flags.specs.Flags.{MeshFlags};
 ghost use Rattle.compare.specs.Answers.{checked, Listed, Compared};
 use crate::answer::Checked;
 use crate::answer::Comparison;
 use crate::answer::Fault;
-use crate::list::count_faces;
-use crate::list::count_points;
-use crate::list::write_faces;
-use crate::list::write_points;
 use crate::same::same_mesh;
+use compare_lists::all::count_differences;
+use compare_lists::all::write_differences;
 
 // Whether a mesh can be compared.
 fn check_mesh(points: &[u32], indices: &[u16]) -> Checked
@@ -37,106 +29,6 @@ fn check_mesh(points: &[u32], indices: &[u16]) -> Checked
         return Checked::Refused(Fault::EqualPoints);
     }
     Checked::Sound
-}
-
-// How many differences there are.
-fn count_differences(
-    left_points: &[u32],
-    left_indices: &[u16],
-    right_points: &[u32],
-    right_indices: &[u16],
-    known: bool,
-    left_point_flags: &[u8],
-    left_face_flags: &[u8],
-    right_point_flags: &[u8],
-    right_face_flags: &[u8],
-) -> usize
-    requires { ⌜ Good (now «left_points») (now «left_indices») ⌝ ∗ ⌜ Good (now «right_points») (now «right_indices») ⌝ ∗ ⌜ MeshFlags known (now «left_points») (now «left_indices») (now «right_points») (now «right_indices») (now «left_point_flags») (now «left_face_flags») (now «right_point_flags») (now «right_face_flags») ⌝ }
-    ensures { λ n. ⌜ n ≡ length (differences (readMesh (now («left_points» .entry)) (now («left_indices» .entry))) (readMesh (now («right_points» .entry)) (now («right_indices» .entry)))) ⌝ }
-{
-    let n0 = count_points(left_points, right_points, known, left_point_flags);
-    let n1 = count_points(right_points, left_points, known, right_point_flags);
-    let n2 = count_faces(
-        left_points,
-        left_indices,
-        right_points,
-        right_indices,
-        known,
-        left_face_flags,
-    );
-    let n3 = count_faces(
-        right_points,
-        right_indices,
-        left_points,
-        left_indices,
-        known,
-        right_face_flags,
-    );
-    n0 + n1 + n2 + n3
-}
-
-// The words of the points: those of the left side first.
-fn write_all_points(
-    left_points: &[u32],
-    right_points: &[u32],
-    known: bool,
-    left_flags: &[u8],
-    right_flags: &[u8],
-    out: &mut [u64],
-) -> usize
-    requires { ⌜ Single (now «left_points») × Single (now «right_points») ⌝ ∗ ⌜ KnownFlags known (lacks samePoint (pointsIn (now «left_points»)) (pointsIn (now «right_points»))) (length (now «left_points») / 3) (now «left_flags») ⌝ ∗ ⌜ KnownFlags known (lacks samePoint (pointsIn (now «right_points»)) (pointsIn (now «left_points»))) (length (now «right_points») / 3) (now «right_flags») ⌝ ∗ ⌜ length (words (pointDifferences 0 (pointsIn (now «left_points»)) (pointsIn (now «right_points»))) ++ words (pointDifferences 1 (pointsIn (now «right_points»)) (pointsIn (now «left_points»)))) ≤ length (now out) ⌝ }
-    ensures { λ r. ⌜ Wrote (now (out .entry)) 0 (words (pointDifferences 0 (pointsIn (now («left_points» .entry))) (pointsIn (now («right_points» .entry)))) ++ words (pointDifferences 1 (pointsIn (now («right_points» .entry))) (pointsIn (now («left_points» .entry))))) (now (out .exit)) r ⌝ }
-{
-    let w = write_points(out, 0, 0, left_points, right_points, known, left_flags);
-    write_points(out, w, 1, right_points, left_points, known, right_flags)
-}
-
-// The words of all differences, at the front.
-fn write_differences(
-    left_points: &[u32],
-    left_indices: &[u16],
-    right_points: &[u32],
-    right_indices: &[u16],
-    known: bool,
-    left_point_flags: &[u8],
-    left_face_flags: &[u8],
-    right_point_flags: &[u8],
-    right_face_flags: &[u8],
-    out: &mut [u64],
-) -> usize
-    requires { ⌜ Good (now «left_points») (now «left_indices») ⌝ ∗ ⌜ Good (now «right_points») (now «right_indices») ⌝ ∗ ⌜ MeshFlags known (now «left_points») (now «left_indices») (now «right_points») (now «right_indices») (now «left_point_flags») (now «left_face_flags») (now «right_point_flags») (now «right_face_flags») ⌝ ∗ ⌜ length (words (differences (readMesh (now «left_points») (now «left_indices»)) (readMesh (now «right_points») (now «right_indices»)))) ≤ length (now out) ⌝ }
-    ensures { λ r. ⌜ Wrote (now (out .entry)) 0 (words (differences (readMesh (now («left_points» .entry)) (now («left_indices» .entry))) (readMesh (now («right_points» .entry)) (now («right_indices» .entry))))) (now (out .exit)) r ⌝ }
-{
-    let w = write_all_points(
-        left_points,
-        right_points,
-        known,
-        left_point_flags,
-        right_point_flags,
-        out,
-    );
-    let w = write_faces(
-        out,
-        w,
-        0,
-        left_points,
-        left_indices,
-        right_points,
-        right_indices,
-        known,
-        left_face_flags,
-    );
-    write_faces(
-        out,
-        w,
-        1,
-        right_points,
-        right_indices,
-        left_points,
-        left_indices,
-        known,
-        right_face_flags,
-    )
 }
 
 // The differences between two meshes, counted, and written to the list's front if there is room for them.

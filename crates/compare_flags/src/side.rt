@@ -7,11 +7,11 @@ ghost use lib.ListN.{length};
 ghost use Rattle.searches.specs.Points.{samePoint};
 ghost use Rattle.differences.specs.Lacking.{lacks};
 ghost use Rattle.differences.specs.Meshes.{Good, pointsIn};
-ghost use Rattle.compare_flags.specs.Flags.{FewSides, ManySides, Partnered, Narrowed, missing, isFirst};
-use crate::flag::flag_first;
-use crate::flag::flag_missing;
-use crate::flag::flag_points;
-use crate::partner::match_points;
+ghost use Rattle.table_flags.specs.Flags.{FewSides, ManySides, Partnered, Narrowed, missing, isFirst};
+use table_flags::flag::flag_first;
+use table_flags::flag::flag_missing;
+use table_flags::flag::flag_points;
+use table_flags::partner::match_points;
 
 // With a table for up to 64 points and 128 triangles.
 fn flag_by_few(

@@ -10,7 +10,7 @@ use Rattle.mesh.specs.declared.Point.{Point}
 use Rattle.mesh.specs.Words.{readPoints}
 use Rattle.requests.specs.Inputs.{patchIn, settingsIn}
 use Rattle.shared_lists.specs.SharedList.{firstFree}
-use Rattle.shares.specs.Answers.{pointsIn}
+use Rattle.share_answers.specs.Answers.{pointsIn}
 use Rattle.share_words.specs.Words.{stateIn, designerOf}
 use Rattle.exports.specs.Calls.{PointsCalled, IndicesCalled}
 use Rattle.float_exports.specs.Calls.{FloatsCalled}

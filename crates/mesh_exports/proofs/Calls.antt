@@ -16,8 +16,9 @@ use Rattle.requests.specs.declared.asked.Asked.{Asked}
 use Rattle.requests.specs.declared.asked.Asked.the-variants.{Refused, Known}
 use Rattle.requests.specs.Asked.{askedIn}
 use Rattle.requests.proofs.Reading.{refused-instead, known-granted, granted}
-use Rattle.mesh_exports.specs.declared.found.Found.{Found}
-use Rattle.mesh_exports.specs.Founds.{Finds, checkSays}
+use Rattle.mesh_words.specs.declared.found.Found.{Found}
+use Rattle.mesh_words.specs.Founds.{Finds}
+use Rattle.mesh_exports.specs.Founds.{checkSays}
 
 module _ {found : Found} {c′ : List ℕ} {r : ℕ} (s : (r ≡ found .number) × (c′ ≡ found .first ∷ found .second ∷ [])) where
   -- how an answer is reported

@@ -1,21 +1,12 @@
 -- The answer of a call that checks a mesh. Assumes nothing.
 use Prim.Native.Nat.{ℕ}
-use mathlib.Core.Path.{_≡_}
 use mathlib.Core.List.{List}
 use lib.Ieee.{Float}
-use lib.ListN.{getD}
 use Rattle.answer_codes.specs.Told.{Told}
 use Rattle.verdict_meaning.specs.Answers.{checkVerdict}
 use Rattle.replies.specs.Replies.{unknownSetting, badTop}
 use Rattle.requests.specs.Inputs.{patchIn, settingsIn}
 use Rattle.requests.specs.Asked.{known}
-use Rattle.mesh_exports.specs.declared.found.Found.{Found}
-
--- r has the number of the answer t and its two places, 0 for a place that it lacks
-pub record Finds (t : Told) (r : Found) : Type 0 where
-  pub number : r .number ≡ t .number
-  pub first : r .first ≡ getD (t .values) 0 0
-  pub second : r .second ≡ getD (t .values) 1 0
 
 -- the answer for the setting bytes bs, the levels xs, the point words pw and the index words iw: a bad top level first, then an unknown setting
 abbrev pub checkSays : List ℕ → List Float → List ℕ → List ℕ → Told

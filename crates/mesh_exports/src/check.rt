@@ -1,9 +1,9 @@
 // The check of any mesh for a patch, as a call.
 ghost use Rattle.replies.specs.Replies.{Says, twoWords};
 ghost use Rattle.mesh_exports.specs.Founds.{checkSays};
-use crate::found::of_reply;
-use crate::found::of_verdict;
-use crate::found::say;
+use mesh_words::found::of_reply;
+use mesh_words::found::of_verdict;
+use mesh_words::found::say;
 use requests::asked::Asked;
 use requests::asked::read_call;
 

@@ -3,4 +3,3 @@
 //   places    two words, always written: the places of the answer, or 0
 // The answer is a number: 0 accepted, 8 unknown setting, 11 bad top, and 20 to 30 the faults in the order of finding.
 pub mod check;
-pub mod found;

@@ -24,9 +24,10 @@ use Rattle.tessellate.specs.Draws.{DrewPoints, DrewIndices, pointWords, connect
 use Rattle.tessellate.proofs.Together.{drawn-means}
 use Rattle.level.proofs.Top.{top-as}
 use Rattle.text.specs.Heads.{discardedLine, refusedLine}
-use Rattle.patch_text.specs.Widths.{widthOf}
+use Rattle.mesh_text.specs.Widths.{widthOf}
+use Rattle.mesh_text.specs.Lists.{Mesh, listText}
 use Rattle.patch_text.specs.Room.{room, FullSize}
-use Rattle.patch_text.specs.Answers.{Mesh, Placed, listText, drawnText, recordText}
+use Rattle.patch_text.specs.Answers.{Placed, drawnText, recordText}
 use Rattle.patch_text.proofs.Rows.{rows-front}
 use Rattle.patch_text.proofs.Sizes.{width-range, points-fit, indices-fit, text-fits}
 

@@ -15,7 +15,7 @@ use Rattle.drawing.proofs.Counts.{point-count, index-count}
 use Rattle.drawing.proofs.Sizes.{sizes-at-most, points-at-most, indices-at-most}
 use Rattle.drawing.proofs.Valid.{cut-valid}
 use Rattle.tessellate.specs.Answers.{pointsOf, indicesOf}
-use Rattle.patch_text.specs.Widths.{widthOf}
+use Rattle.mesh_text.specs.Widths.{widthOf}
 use Rattle.patch_text.specs.Room.{room}
 
 pub width-range : (mode : Bool) (p : Patch) → (1 ≤ widthOf mode p) × (widthOf mode p ≤ 3)

@@ -1,32 +1,18 @@
 -- The text of the answer to one patch. Assumes nothing.
-use Prim.Native.Nat.{ℕ, _+_, _*_, _/_, _≤_}
+use Prim.Native.Nat.{ℕ}
 use mathlib.Core.Path.{_≡_}
 use mathlib.Core.Bool.{cond}
-use mathlib.Core.List.{List, _++_}
+use mathlib.Core.List.{List}
 use Rattle.level.specs.Top.{isTop}
 use Rattle.patch.specs.declared.kinds.Patch.{Patch}
 use Rattle.patch.specs.declared.settings.Settings.{Settings}
 use Rattle.patch.specs.Subdivide.{discards}
 use Rattle.tessellate.specs.Answers.{pointsOf, indicesOf}
 use Rattle.tessellate.specs.Draws.{pointWords, connectionWords}
-use Rattle.text.specs.Heads.{drawnLine, discardedLine, refusedLine}
+use Rattle.text.specs.Heads.{discardedLine, refusedLine}
 use Rattle.text.specs.Lines.{rows}
-use Rattle.patch_text.specs.Widths.{widthOf}
-
--- ---- the text of lists
-
--- the text of a mesh of P points and I indices: the counts, a line per point, a line per primitive of `width` indices
-abbrev pub listText : ℕ → List ℕ → List ℕ → ℕ → ℕ → List ℕ
-listText width vertices indices P I = drawnLine P I ++ rows 3 vertices 0 P ++ rows width indices 0 (I / width)
-
--- lists of v and i words have room for P points and I indices
-pub record Mesh (width v i P I : ℕ) : Type 0 where
-  pub some : 1 ≤ width
-  pub most : width ≤ 3
-  pub vertices : 3 * P ≤ v
-  pub indices : I ≤ i
-
--- ---- the text of patches
+use Rattle.mesh_text.specs.Widths.{widthOf}
+use Rattle.mesh_text.specs.Lists.{listText}
 
 -- the P points of a patch are at the front of a list
 pub record Placed (set : Settings) (p : Patch) (P : ℕ) (vertices : List ℕ) : Type 0 where

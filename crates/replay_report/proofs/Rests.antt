@@ -10,11 +10,11 @@ use Rattle.replay.specs.declared.answer.Replay.{Replay}
 use Rattle.replay.specs.Replays.{goOn, Countable}
 use Rattle.replay.specs.Pieces.{joined, Whole, last, more, said, isOpen}
 use Rattle.replay.proofs.Pieces.{go-on-none, go-on-in-pieces}
-use Rattle.replay_report.specs.declared.piece.Chunk.{Chunk}
+use Rattle.tsr_pieces.specs.declared.piece.Chunk.{Chunk}
 use Rattle.replay_report.specs.declared.rest.Replayed.{Replayed}
-use Rattle.replay_report.specs.Pieces.{chunkSize, ReplayedChunk}
+use Rattle.tsr_pieces.specs.Pieces.{chunkSize, ReplayedChunk}
 use Rattle.replay_report.specs.Rests.{stoppedAt, ReplayedChunks, ReplayedRest}
-use Rattle.replay_report.proofs.Countings.{countable-less, said-countable}
+use Rattle.tsr_pieces.proofs.Countings.{countable-less, said-countable}
 
 -- full chunks and a piece after them
 pub two-pieces : {earlier : List ℕ} (chunks : ℕ) (piece : List ℕ) → length earlier ≡ chunkSize * chunks → Whole (earlier ∷ piece ∷ [])

@@ -12,10 +12,10 @@ use Rattle.replay.specs.Replays.{startOf, goOn, replayOf}
 use Rattle.replay.specs.Pieces.{said, isOpen}
 use Rattle.replay.proofs.Headers.{start-open}
 use Rattle.replay.proofs.Pieces.{go-on-none, replay-header, recording-in-pieces}
-use Rattle.replay_report.specs.declared.piece.Start.{Start}
+use Rattle.tsr_pieces.specs.declared.piece.Start.{Start}
 use Rattle.replay_report.specs.declared.rest.Replayed.{Replayed}
-use Rattle.replay_report.specs.Sentences.{replayLine}
-use Rattle.replay_report.specs.Pieces.{chunkSize, ReplayedHeader}
+use Rattle.tsr_line.specs.Sentences.{replayLine}
+use Rattle.tsr_pieces.specs.Pieces.{chunkSize, ReplayedHeader}
 use Rattle.replay_report.specs.Rests.{ReplayedRest}
 use Rattle.replay_report.specs.Runs.{Ran}
 use Rattle.replay_report.proofs.Rests.{two-pieces, two-joined}

@@ -8,7 +8,7 @@ use Rattle.streams.specs.Moved.{Filled}
 use Rattle.replay.specs.declared.answer.Replay.{Replay}
 use Rattle.replay.specs.Pieces.{said, isOpen}
 use Rattle.replay_report.specs.declared.rest.Replayed.{Replayed}
-use Rattle.replay_report.specs.Pieces.{chunkSize}
+use Rattle.tsr_pieces.specs.Pieces.{chunkSize}
 
 -- nothing was read after the bytes that are counted
 abbrev pub stoppedAt : ℕ → Replay → Replayed

@@ -8,8 +8,8 @@ use Rattle.streams.specs.Moved.{Filled, Taken}
 use Rattle.replay.specs.Replays.{replayOf}
 use Rattle.replay.specs.Pieces.{isOpen}
 use Rattle.replay_report.specs.declared.run.Outcome.{Outcome}
-use Rattle.replay_report.specs.Sentences.{replayLine}
-use Rattle.replay_report.specs.Pieces.{chunkSize}
+use Rattle.tsr_line.specs.Sentences.{replayLine}
+use Rattle.tsr_pieces.specs.Pieces.{chunkSize}
 
 -- hs and bs are what was lent for the header and for the entries, after the call
 pub record Ran (hs bs : List ℕ) (r : Outcome) : Type 0 where

@@ -4,10 +4,10 @@ ghost use lib.ListN.{length};
 ghost use Rattle.patch_text.specs.Room.{FullSize};
 ghost use Rattle.replay.specs.Replays.{Countable};
 ghost use Rattle.replay_report.specs.Rests.{stoppedAt, ReplayedChunks, ReplayedRest};
-use crate::piece::is_open;
-use crate::piece::replay_chunk;
 use replay::answer::Replay;
 use streams::Input;
+use tsr_pieces::piece::is_open;
+use tsr_pieces::piece::replay_chunk;
 
 // A proved loop has to end, and nothing says that the input does: no chunk is read after so many bytes. All their entries can be
 // counted.

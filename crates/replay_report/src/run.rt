@@ -4,14 +4,14 @@ ghost use mathlib.Core.Bool.{cond};
 ghost use mathlib.Core.List.{[]};
 ghost use lib.ListN.{length};
 ghost use Rattle.streams.specs.Moved.{Taken};
-ghost use Rattle.replay_report.specs.Sentences.{replayLine};
+ghost use Rattle.tsr_line.specs.Sentences.{replayLine};
 ghost use Rattle.replay_report.specs.Runs.{Ran};
-use crate::piece::replay_header;
 use crate::rest::replay_rest;
-use crate::sentence::put_replay;
 use replay::answer::Replay;
 use streams::Input;
 use streams::Output;
+use tsr_line::sentence::put_replay;
+use tsr_pieces::piece::replay_header;
 
 // What was read of the header, how many bytes were read after it, what was read last, what is said of them, and how much of the line
 // was written.

@@ -19,9 +19,9 @@ use Rattle.job_text.specs.Pieces.{said}
 use Rattle.job_text.proofs.Sizes.{settings-least}
 use Rattle.job_text.proofs.Steps.{answers-end}
 use Rattle.job_text.proofs.Pieces.{answers-both}
-use Rattle.report.specs.declared.chunk.Chunk.{Chunk}
+use Rattle.tsj_pieces.specs.declared.chunk.Chunk.{Chunk}
 use Rattle.report.specs.declared.records.Answered.{Answered}
-use Rattle.report.specs.Chunks.{chunkSize, chunkText, AnsweredChunk}
+use Rattle.tsj_pieces.specs.Chunks.{chunkSize, chunkText, AnsweredChunk}
 use Rattle.report.specs.Rests.{pieces, stoppedAt, AnsweredRest}
 
 -- full chunks were read and answered

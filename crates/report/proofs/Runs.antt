@@ -17,9 +17,9 @@ use Rattle.job_text.specs.declared.header.Rest.the-variants.{Records, Nothing}
 use Rattle.job_text.specs.Jobs.{startText, restText, jobText, restOf}
 use Rattle.job_text.specs.Pieces.{joined, Whole, last, more, WholeAfter, saidAfter}
 use Rattle.job_text.proofs.Pieces.{job-in-pieces, job-of-few-bytes}
-use Rattle.report.specs.declared.header.Start.{Start}
+use Rattle.tsj_pieces.specs.declared.header.Start.{Start}
 use Rattle.report.specs.declared.records.Answered.{Answered}
-use Rattle.report.specs.Headers.{AnsweredHeader}
+use Rattle.tsj_pieces.specs.Headers.{AnsweredHeader}
 use Rattle.report.specs.Rests.{restSize, pieces, AnsweredRest}
 use Rattle.report.specs.Runs.{Ran}
 

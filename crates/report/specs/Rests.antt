@@ -9,7 +9,7 @@ use Rattle.job_text.specs.declared.header.Rest.{Rest}
 use Rattle.job_text.specs.declared.header.Rest.the-variants.{Records, Nothing}
 use Rattle.job_text.specs.Pieces.{saidAfter}
 use Rattle.report.specs.declared.records.Answered.{Answered}
-use Rattle.report.specs.Chunks.{chunkSize}
+use Rattle.tsj_pieces.specs.Chunks.{chunkSize}
 
 -- the bytes of a full chunk of what follows a header
 abbrev pub restSize : Rest → ℕ

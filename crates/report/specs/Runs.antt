@@ -8,7 +8,7 @@ use Rattle.streams.specs.Moved.{Taken}
 use Rattle.job_text.specs.Jobs.{jobText}
 use Rattle.job_text.specs.Pieces.{joined}
 use Rattle.report.specs.declared.run.Outcome.{Outcome}
-use Rattle.report.specs.Headers.{AnsweredHeader}
+use Rattle.tsj_pieces.specs.Headers.{AnsweredHeader}
 use Rattle.report.specs.Rests.{pieces, AnsweredRest}
 
 -- all that was written

@@ -1,6 +1,3 @@
 // The run that reads a job from standard input and writes the text that answers it to standard output.
-mod chunk;
-mod failures;
-mod header;
 mod records;
 pub mod run;

@@ -4,11 +4,11 @@ ghost use Prim.Native.Nat.{_≤_};
 ghost use lib.ListN.{length};
 ghost use Rattle.patch_text.specs.Room.{room, FullSize};
 ghost use Rattle.report.specs.Rests.{stoppedAt, AnsweredRest};
-use crate::chunk::answer_chunk;
 use job_fields::version::Version;
 use job_text::header::Rest;
 use streams::Input;
 use streams::Output;
+use tsj_pieces::chunk::answer_chunk;
 
 // A proved loop has to end, and nothing says that the input does: no chunk is read after so many bytes were read or written.
 const MOST: usize = 9223372036854775808;

@@ -1,12 +1,10 @@
 // From standard input to standard output, chunk by chunk. A read that fails is no end of the job: nothing of its chunk is answered, and
 // after it, or after a write that fails, nothing more is read or written.
-ghost use mathlib.Core.Path.{_≡_};
-ghost use lib.ListN.{length};
 ghost use Rattle.report.specs.Runs.{Ran};
-use crate::header::Start;
-use crate::header::answer_header;
 use crate::records::Answered;
 use crate::records::answer_rest;
+use tsj_pieces::header::Start;
+use tsj_pieces::header::answer_header;
 
 // What was read and written: of the header, and of the records after it.
 pub struct Outcome {
@@ -15,9 +13,7 @@ pub struct Outcome {
 }
 
 // Room for the text of a record, and of many small ones.
-fn output_buffer() -> [u8; 524288]
-    ensures { λ r. ⌜ 524288 ≡ length r ⌝ }
-{
+fn output_buffer() -> [u8; 524288] {
     [0; 524288]
 }
 

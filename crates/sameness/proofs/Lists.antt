@@ -11,7 +11,7 @@ use Rattle.buffer.specs.Over.{flat}
 use Rattle.searches.proofs.First.{Below, some-which, some-here}
 use Rattle.differences.specs.Lacking.{Row, passing, among, lacks, lacking}
 use Rattle.sameness.specs.Same.{In, Within}
-use Rattle.compare.proofs.Passing.{one, passing-none}
+use Rattle.compare_lists.proofs.Passing.{one, passing-none}
 use Rattle.differences.proofs.Tests.{lacks-found}
 
 -- ---- no number passes the test

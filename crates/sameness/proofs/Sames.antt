@@ -13,7 +13,7 @@ use Rattle.differences.specs.Lacking.{lacking}
 use Rattle.differences.specs.Meshes.{Mesh, sameFace}
 use Rattle.differences.specs.Differences.{each, leftPoints, rightPoints, leftFaces, rightFaces, differences}
 use Rattle.sameness.specs.Same.{SameMesh, exchanged}
-use Rattle.compare.proofs.Parts.{parts-count}
+use Rattle.compare_lists.proofs.Parts.{parts-count}
 use Rattle.sameness.proofs.Lists.{none-within, within-none}
 use Rattle.sameness.proofs.Rotations.{face-is, is-face, rotation-joins}
 

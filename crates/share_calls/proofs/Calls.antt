@@ -19,7 +19,7 @@ use Rattle.shared_lists.specs.declared.state.State.{State}
 use Rattle.shared_lists.specs.Answers.{done, accepted, lent, soundState, clearVerdict}
 use Rattle.shared_lists.specs.Operations.{unlessRefused, clearedState}
 use Rattle.shared_lists.proofs.Sound.{and-true, state-test}
-use Rattle.shares.specs.Answers.{drawVerdict}
+use Rattle.share_answers.specs.Answers.{drawVerdict}
 use Rattle.shares.specs.Operations.{drawnState}
 use Rattle.share_words.specs.Words.{stateIn, stateWords, designerOf}
 use Rattle.share_exports.specs.Calls.{unknownDesigner, asked, drawSays, clearSays}

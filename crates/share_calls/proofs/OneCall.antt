@@ -31,10 +31,10 @@ use Rattle.shared_lists.specs.declared.state.State.{State}
 use Rattle.shared_lists.specs.SharedList.{firstFree, left}
 use Rattle.shared_lists.specs.Answers.{done, accepted}
 use Rattle.shares.specs.declared.answer.DrawResult.{DrawResult}
-use Rattle.shares.specs.declared.answer.DrawAnswer.the-variants.{Drawn}
-use Rattle.shares.specs.Answers.{toldDraw, roomVerdict, partVerdict, verdict, drawVerdict, pointsIn}
+use Rattle.share_answers.specs.declared.answer.DrawAnswer.the-variants.{Drawn}
+use Rattle.share_answers.specs.Answers.{toldDraw, roomVerdict, partVerdict, verdict, drawVerdict, pointsIn}
 use Rattle.shares.specs.Operations.{newIndices, drawnState, DidDraw}
-use Rattle.shares.proofs.Passed.{passed}
+use Rattle.share_answers.proofs.Passed.{passed}
 use Rattle.shares.proofs.Counts.{point-words, index-words}
 use Rattle.shares.proofs.Drawn.{Ready, ready}
 use Rattle.share_words.specs.Words.{stateIn, designerOf}

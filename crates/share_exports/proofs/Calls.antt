@@ -26,7 +26,7 @@ use Rattle.shared_lists.specs.declared.answer.StartAnswer.the-variants.{QuotasT
 use Rattle.shares.specs.declared.answer.DrawResult.{DrawResult}
 use Rattle.shared_lists.specs.declared.answer.ClearResult.{ClearResult}
 use Rattle.shared_lists.specs.Answers.{done, toldStart, toldClear, quotasFit, accepted, clearVerdict}
-use Rattle.shares.specs.Answers.{toldDraw, drawVerdict}
+use Rattle.share_answers.specs.Answers.{toldDraw, drawVerdict}
 use Rattle.shared_lists.specs.Operations.{unlessRefused, startState, clearedState, DidStart, DidClear}
 use Rattle.shares.specs.Operations.{drawnState, DidDraw}
 use Rattle.share_words.specs.Words.{stateIn, stateWords, quotaIn, designerOf}

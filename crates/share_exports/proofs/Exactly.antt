@@ -25,8 +25,8 @@ use Rattle.answer_codes.proofs.Exactly.{answered-exactly}
 use Rattle.shared_lists.specs.declared.state.Quota.{Quota}
 use Rattle.shared_lists.specs.SharedList.{left}
 use Rattle.shared_lists.specs.Answers.{done, quotasFit, accepted}
-use Rattle.shares.specs.declared.answer.DrawAnswer.the-variants as drawing
-use Rattle.shares.specs.Answers.{roomVerdict, partVerdict, verdict, pointsIn}
+use Rattle.share_answers.specs.declared.answer.DrawAnswer.the-variants as drawing
+use Rattle.share_answers.specs.Answers.{roomVerdict, partVerdict, verdict, pointsIn}
 use Rattle.share_words.specs.Words.{stateIn, quotaIn, designerOf}
 use Rattle.share_exports.specs.Calls.{unknownDesigner, asked, DrawCalled, StartCalled, clearSays, ClearCalled}
 use Rattle.share_exports.specs.Exactly.{Fit, StartExactly, ClearExactly, ShareAnswer, no-designer, unknown, found, toldShare, ShareMeans, DrawExactly}

@@ -20,7 +20,7 @@ use Rattle.shared_lists.specs.declared.state.Quota.{Quota}
 use Rattle.shared_lists.specs.declared.state.State.{State}
 use Rattle.shared_lists.specs.SharedList.{appended}
 use Rattle.shared_lists.specs.Answers.{done, accepted, startVerdict}
-use Rattle.shares.specs.Answers.{drawVerdict}
+use Rattle.share_answers.specs.Answers.{drawVerdict}
 use Rattle.shared_lists.specs.Operations.{unlessRefused, startState, clearedState}
 use Rattle.shares.specs.Operations.{newIndices, drawnState}
 use Rattle.share_words.specs.Words.{stateIn, stateWords, quotaIn, designerOf}

@@ -17,9 +17,9 @@ use Rattle.answer_codes.specs.Reports.{AnsweredExactly}
 use Rattle.shared_lists.specs.declared.state.Quota.{Quota}
 use Rattle.shared_lists.specs.SharedList.{left}
 use Rattle.shared_lists.specs.Answers.{accepted}
-use Rattle.shares.specs.declared.answer.DrawAnswer.{DrawAnswer}
-use Rattle.shares.specs.declared.answer.DrawAnswer.the-variants as drawing
-use Rattle.shares.specs.Answers.{toldDraw, pointsIn}
+use Rattle.share_answers.specs.declared.answer.DrawAnswer.{DrawAnswer}
+use Rattle.share_answers.specs.declared.answer.DrawAnswer.the-variants as drawing
+use Rattle.share_answers.specs.Answers.{toldDraw, pointsIn}
 use Rattle.share_words.specs.Words.{stateIn, quotaIn, designerOf}
 use Rattle.share_exports.specs.Calls.{unknownDesigner}
 

@@ -2,7 +2,7 @@
 ghost use lib.ListN.{length};
 ghost use Rattle.replies.specs.Replies.{Tells};
 ghost use Rattle.shared_lists.specs.Answers.{done, accepted};
-ghost use Rattle.shares.specs.Answers.{drawVerdict};
+ghost use Rattle.share_answers.specs.Answers.{drawVerdict};
 ghost use Rattle.share_exports.specs.Calls.{asked, DrawCalled, Called};
 use patch::kinds::Patch;
 use patch::settings::Settings;

@@ -9,7 +9,7 @@ use Rattle.answer_codes.specs.Told.{Told}
 use Rattle.shared_lists.specs.declared.state.Designer.{Designer}
 use Rattle.shared_lists.specs.declared.state.State.{State}
 use Rattle.shares.specs.declared.answer.DrawResult.{DrawResult}
-use Rattle.shares.specs.Answers.{toldDraw, drawVerdict}
+use Rattle.share_answers.specs.Answers.{toldDraw, drawVerdict}
 use Rattle.shared_lists.specs.Operations.{unlessRefused}
 use Rattle.shares.specs.Operations.{drawnState, DidDraw}
 

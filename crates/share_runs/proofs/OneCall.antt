@@ -22,7 +22,7 @@ use Rattle.shared_lists.specs.declared.state.Designer.{Designer}
 use Rattle.shared_lists.specs.declared.state.State.{State}
 use Rattle.shares.specs.declared.answer.DrawResult.{DrawResult}
 use Rattle.shared_lists.specs.SharedList.{firstFree}
-use Rattle.shares.specs.Answers.{toldDraw, pointsIn}
+use Rattle.share_answers.specs.Answers.{toldDraw, pointsIn}
 use Rattle.shares.specs.Operations.{newIndices, DidDraw}
 use Rattle.shares.proofs.Parts.{lent-words}
 use Rattle.shares.proofs.Counts.{point-words, index-words}

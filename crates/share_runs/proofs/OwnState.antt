@@ -9,7 +9,7 @@ use Rattle.answer_codes.specs.Told.{Told}
 use Rattle.tessellate.specs.Draws.{pointWords}
 use Rattle.shared_lists.specs.SharedList.{usedTo}
 use Rattle.shared_lists.specs.Answers.{lent, clearVerdict}
-use Rattle.shares.specs.Answers.{verdict}
+use Rattle.share_answers.specs.Answers.{verdict}
 use Rattle.shared_lists.specs.Operations.{unlessRefused}
 use Rattle.shares.specs.Operations.{shifted}
 use Rattle.share_runs.specs.Steps.{after, replies}

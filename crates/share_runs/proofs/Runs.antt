@@ -13,7 +13,7 @@ use Rattle.shared_lists.specs.declared.state.Quota.{Quota}
 use Rattle.shared_lists.specs.SharedList.{appended}
 use Rattle.shared_lists.specs.declared.answer.StartAnswer.the-variants.{Started, QuotasTooLarge}
 use Rattle.shared_lists.specs.Answers.{done, toldClear, quotasFit}
-use Rattle.shares.specs.Answers.{toldDraw}
+use Rattle.share_answers.specs.Answers.{toldDraw}
 use Rattle.shared_lists.specs.Operations.{unlessRefused, startState, clearedState}
 use Rattle.shares.specs.Operations.{newIndices, drawnState}
 use Rattle.share_runs.specs.Session.{draw, clear, Call, Session, Answered, answerTo, served, reply, next, callsOf, answersOf, view, quotaOf, begun}

@@ -14,12 +14,12 @@ use Rattle.shared_lists.specs.declared.state.Share.{Share}
 use Rattle.shared_lists.specs.declared.state.State.{State}
 use Rattle.shared_lists.specs.SharedList.{share, left}
 use Rattle.shared_lists.specs.Answers.{lent, accepted}
-use Rattle.shares.specs.Answers.{pointsIn}
+use Rattle.share_answers.specs.Answers.{pointsIn}
 use Rattle.shared_lists.specs.Operations.{unlessRefused}
 use Rattle.shares.specs.Operations.{newIndices}
 use Rattle.share_runs.specs.Session.{Request, draw, clear, Call, Session, answerTo, served, next, answer, same, ownState, View, view}
 use Rattle.shared_lists.proofs.Sound.{and-true, SoundState, state-test, lies, still-sound, still-whole, whole-points}
-use Rattle.shares.proofs.Passed.{passed}
+use Rattle.share_answers.proofs.Passed.{passed}
 use Rattle.shares.proofs.Counts.{point-words, index-words}
 use Rattle.share_runs.proofs.Seen.{own-share, other-share, same-length, same-part, append-length, append-own, append-other}
 use Rattle.share_runs.proofs.OwnState.{answerOf, ownStateServed, viewServed, ownStateNext, viewNext, callAnswer}

@@ -13,7 +13,7 @@ use Rattle.shared_lists.specs.declared.answer.StartAnswer.the-variants.{Started
 use Rattle.shares.specs.declared.answer.DrawResult.{DrawResult}
 use Rattle.shared_lists.specs.declared.answer.ClearResult.{ClearResult}
 use Rattle.shared_lists.specs.Answers.{toldClear}
-use Rattle.shares.specs.Answers.{toldDraw}
+use Rattle.share_answers.specs.Answers.{toldDraw}
 use Rattle.shared_lists.specs.Operations.{unlessRefused, DidStart, DidClear}
 use Rattle.shares.specs.Operations.{DidDraw}
 use Rattle.share_runs.specs.Steps as steps

@@ -14,7 +14,7 @@ use Rattle.shared_lists.specs.declared.state.Quota.{Quota}
 use Rattle.shared_lists.specs.declared.state.State.{State}
 use Rattle.shared_lists.specs.SharedList.{share, part, appended}
 use Rattle.shared_lists.specs.Answers.{accepted, clearVerdict}
-use Rattle.shares.specs.Answers.{drawVerdict}
+use Rattle.share_answers.specs.Answers.{drawVerdict}
 use Rattle.shared_lists.specs.Operations.{unlessRefused, startState, clearedState}
 use Rattle.shares.specs.Operations.{newIndices, drawnState}
 use Rattle.share_runs.specs.Steps.{those, after, replies}

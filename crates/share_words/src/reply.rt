@@ -1,11 +1,11 @@
 // Answers as numbers.
 ghost use Rattle.replies.specs.Replies.{Tells};
-ghost use Rattle.shares.specs.Answers.{toldDraw};
+ghost use Rattle.share_answers.specs.Answers.{toldDraw};
 use replies::reply::Reply;
 use replies::reply::bad_top;
 use replies::reply::refusal;
 use replies::reply::success;
-use shares::answer::DrawAnswer;
+use share_answers::answer::DrawAnswer;
 
 pub fn of_draw(answer: DrawAnswer) -> Reply
     ensures { λ r. ⌜ Tells (toldDraw answer) r ⌝ }

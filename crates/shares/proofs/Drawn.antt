@@ -16,15 +16,15 @@ use Rattle.shared_lists.specs.declared.state.Designer.{Designer}
 use Rattle.shared_lists.specs.declared.state.Share.{Share}
 use Rattle.shared_lists.specs.declared.state.SharedList.{SharedList}
 use Rattle.shared_lists.specs.declared.state.State.{State}
-use Rattle.shares.specs.declared.answer.DrawAnswer.{DrawAnswer}
-use Rattle.shares.specs.declared.answer.DrawAnswer.the-variants.{Drawn}
+use Rattle.share_answers.specs.declared.answer.DrawAnswer.{DrawAnswer}
+use Rattle.share_answers.specs.declared.answer.DrawAnswer.the-variants.{Drawn}
 use Rattle.shared_lists.specs.SharedList.{share, left, grown, appended}
 use Rattle.shared_lists.specs.Answers.{accepted, lent, soundState}
-use Rattle.shares.specs.Answers.{toldDraw, roomVerdict, partVerdict, verdict, drawVerdict, pointsIn}
+use Rattle.share_answers.specs.Answers.{toldDraw, roomVerdict, partVerdict, verdict, drawVerdict, pointsIn}
 use Rattle.shares.specs.Operations.{shifted, DidDraw}
 use Rattle.shares.specs.Room.{RoomFor, Appended}
 use Rattle.shared_lists.proofs.Sound.{both, state-facts, lies}
-use Rattle.shares.proofs.Passed.{Passed, passed}
+use Rattle.share_answers.proofs.Passed.{Passed, passed}
 
 -- a state by its two shared lists
 both-lists : {a a′ b b′ : SharedList} → a ≡ a′ → b ≡ b′ → _≡_ {A = State} (record { vertices = a; indices = b }) (record { vertices = a′; indices = b′ })

@@ -1,9 +1,7 @@
 -- The laws of `shares`.
 pub mod Parts
-pub mod Passed
 pub mod Counts
 mod Raised
 mod Lent
 pub mod Drawn
 mod Refused
-mod Measured

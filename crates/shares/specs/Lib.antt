@@ -1,4 +1,3 @@
 -- The definitions of `shares`.
-pub mod Answers
 pub mod Room
 pub mod Operations

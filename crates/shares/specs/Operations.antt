@@ -11,7 +11,7 @@ use Rattle.shared_lists.specs.declared.state.State.{State}
 use Rattle.shares.specs.declared.answer.DrawResult.{DrawResult}
 use Rattle.shared_lists.specs.SharedList.{grown, appended}
 use Rattle.shared_lists.specs.Operations.{unlessRefused}
-use Rattle.shares.specs.Answers.{toldDraw, pointsIn, drawVerdict}
+use Rattle.share_answers.specs.Answers.{toldDraw, pointsIn, drawVerdict}
 
 -- the index words of a patch, each plus the n points that the part holds already
 abbrev pub shifted : ℕ → Settings → Patch → List ℕ

@@ -1,12 +1,12 @@
 // Drawing into a designer's part: both points and indices are appended, or neither.
 ghost use Rattle.shares.specs.Operations.{DidDraw};
-use crate::answer::DrawAnswer;
 use crate::answer::DrawResult;
 use crate::append::append_indices;
 use crate::append::append_points;
-use crate::verdict::verdict_of;
 use patch::kinds::Patch;
 use patch::settings::Settings;
+use share_answers::answer::DrawAnswer;
+use share_answers::verdict::verdict_of;
 use shared_lists::shared_list::share_of;
 use shared_lists::state::Designer;
 use shared_lists::state::State;

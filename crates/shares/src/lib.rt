@@ -2,4 +2,3 @@
 pub mod answer;
 mod append;
 pub mod draw;
-mod verdict;

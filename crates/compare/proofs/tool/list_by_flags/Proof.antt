@@ -3,7 +3,7 @@ use borrow.Author.Needs.{needs}
 use native.Mathlib.Omega.{arith}
 use Rattle.differences.specs.Meshes.{readMesh}
 use Rattle.differences.specs.Differences.{differences}
-use Rattle.compare.proofs.Passing.{words-length}
+use Rattle.compare_lists.proofs.Passing.{words-length}
 use Rattle.compare.proofs.Verdicts.{counted-short, counted-fits, listed-none}
 use mathlib.Core.Path.{refl}
 use Rattle.compare.proofs.tool.list_by_flags.Statement.{statement}

@@ -1,8 +1,8 @@
 -- Meets its contract. Assumes nothing.
 use native.Mathlib.Omega.{arith}
 use mathlib.Core.Path.{refl}
-use Rattle.compare_flags.proofs.Tables.{all-set}
-use Rattle.compare.proofs.Passing.{same-none}
+use Rattle.table_flags.proofs.Tables.{all-set}
+use Rattle.compare_lists.proofs.Passing.{same-none}
 use Rattle.compare.proofs.Verdicts.{listed-none}
 use borrow.Author.Needs.{needs}
 use Rattle.compare.proofs.tool.list_differences.Statement.{statement}

@@ -1,0 +1,3 @@
+-- The laws of counting and writing differences, lowest first.
+pub mod Passing
+pub mod Parts

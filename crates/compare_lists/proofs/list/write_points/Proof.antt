@@ -1,0 +1,70 @@
+-- Meets its contract. Assumes nothing.
+use borrow.Author.Needs.{needs}
+use native.Mathlib.Omega.{arith}
+use Prim.Native.Nat.{_-_}
+use mathlib.Core.Path.{sym, ap}
+use mathlib.Core.Bool.{Bool}
+use lib.ListN.{length}
+use Rattle.searches.specs.Points.{samePoint}
+use Rattle.buffer.proofs.Laws.{Counting, count-start, count-fits, count-step, count-done, wrote-as}
+use Rattle.searches.proofs.Read.{points-count}
+use Rattle.differences.specs.Lacking.{lacks}
+use Rattle.differences.specs.Meshes.{pointsIn}
+use Rattle.differences.specs.Differences.{wordsIf}
+use Rattle.compare_lists.proofs.Passing.{passing-words}
+use Rattle.compare_lists.proofs.list.write_points.Statement.{statement}
+use Rattle.compare_lists.proofs.list.write_points.Tie as tie
+
+abbrev Inv-loop : tie.InvT-loop
+Inv-loop out₀ at side points others known flags count to₀ k₀ out to k = Counting (λ i. wordsIf 0 side (lacks samePoint (pointsIn points) (pointsIn others) i) i) k count out to out₀ at
+
+abbrev μ-loop : tie.MeasureT-loop
+μ-loop out₀ at side points others known flags count to₀ k₀ out to k = count - k
+
+loop-holds : tie.Need-loop-holds Inv-loop μ-loop
+loop-holds c =
+    let a = c .before .before .before .before .args in
+    let e = passing-words 0 (a .side) (lacks samePoint (pointsIn (a .points .now)) (pointsIn (a .others .now))) _ _ (points-count (a .points .now)) in
+    count-start (omega (arith, ap length e, c .before .before .before .before .pre .1 .1))
+
+lacks-point-requires : tie.Need-lacks-point-requires Inv-loop μ-loop
+lacks-point-requires c κs = search needs
+
+put-if-requires : tie.Need-put-if-requires Inv-loop μ-loop
+put-if-requires c κs = rw (c .lacks-point .ensures) (count-fits (omega arith) (c .before .before .before .loop .inv))
+
+add-k : tie.Need-add-k Inv-loop μ-loop
+add-k c = search needs
+
+loop-less : tie.Need-loop-less Inv-loop μ-loop
+loop-less c = search needs
+
+loop-again : tie.Need-loop-again Inv-loop μ-loop
+loop-again c =
+    let l = c .before .before .before .before .before .before .loop in
+    let side = c .before .before .before .before .before .before .before .before .before .before .before .args .side in
+    count-step (omega arith) (wrote-as (λ (b : Bool). wordsIf 0 side b (l .k)) (sym (c .before .before .before .lacks-point .ensures)) (c .before .before .put-if .ensures)) (l .inv)
+
+same-length : tie.Need-same-length Inv-loop μ-loop
+same-length c = search needs
+
+returns : tie.Need-returns Inv-loop μ-loop
+returns c =
+    let a = c .before .before .before .before .before .before .args in
+    let e = passing-words 0 (a .side) (lacks samePoint (pointsIn (a .points .now)) (pointsIn (a .others .now))) _ _ (points-count (a .points .now)) in
+    rw e (count-done (c .loop-test .left) (c .before .loop .inv))
+
+pub write-points-spec : {M : Type 1} → statement M
+write-points-spec =
+    tie.close
+    (tie.spec
+    Inv-loop
+    μ-loop
+    loop-holds
+    lacks-point-requires
+    put-if-requires
+    add-k
+    loop-less
+    loop-again
+    same-length
+    returns)

@@ -1,0 +1,42 @@
+// Whether a point or a triangle is a difference: its flag, where flags are known, else it is searched for.
+ghost use mathlib.Core.Path.{_≡_};
+ghost use Prim.Native.Nat.{_/_, _<_};
+ghost use lib.ListN.{length};
+ghost use Rattle.searches.specs.Points.{samePoint};
+ghost use Rattle.differences.specs.Lacking.{lacks};
+ghost use Rattle.differences.specs.Meshes.{Single, Good, pointsIn, facesIn, sameFace};
+ghost use Rattle.table_flags.specs.Flags.{KnownFlags};
+
+pub(crate) fn lacks_point(
+    points: &[u32],
+    k: usize,
+    others: &[u32],
+    known: bool,
+    flags: &[u8],
+) -> bool
+    requires { ⌜ k < length (now points) / 3 ⌝ ∗ ⌜ Single (now points) ⌝ ∗ ⌜ KnownFlags known (lacks samePoint (pointsIn (now points)) (pointsIn (now others))) (length (now points) / 3) (now flags) ⌝ }
+    ensures { λ r. ⌜ r ≡ lacks samePoint (pointsIn (now (points .entry))) (pointsIn (now (others .entry))) k ⌝ }
+{
+    if known {
+        return flags[k] == 1;
+    }
+    differences::side::lacks_point(points, k, others)
+}
+
+pub(crate) fn lacks_face(
+    points: &[u32],
+    indices: &[u16],
+    k: usize,
+    other_points: &[u32],
+    other_indices: &[u16],
+    known: bool,
+    flags: &[u8],
+) -> bool
+    requires { ⌜ k < length (now indices) / 3 ⌝ ∗ ⌜ Good (now points) (now indices) ⌝ ∗ ⌜ Good (now «other_points») (now «other_indices») ⌝ ∗ ⌜ KnownFlags known (lacks sameFace (facesIn (now points) (now indices)) (facesIn (now «other_points») (now «other_indices»))) (length (now indices) / 3) (now flags) ⌝ }
+    ensures { λ r. ⌜ r ≡ lacks sameFace (facesIn (now (points .entry)) (now (indices .entry))) (facesIn (now («other_points» .entry)) (now («other_indices» .entry))) k ⌝ }
+{
+    if known {
+        return flags[k] == 1;
+    }
+    differences::side::lacks_face(points, indices, k, other_points, other_indices)
+}

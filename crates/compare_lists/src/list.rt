@@ -1,0 +1,169 @@
+// The differences of one kind on one side: how many there are, and their words.
+ghost use mathlib.Core.Path.{_≡_};
+ghost use mathlib.Core.Bool.{cond};
+ghost use mathlib.Core.List.{[], _∷_};
+ghost use Prim.Native.Nat.{_+_, _/_, _≤_};
+ghost use lib.ListN.{length};
+ghost use Rattle.buffer.specs.Over.{Wrote};
+ghost use Rattle.searches.specs.Points.{samePoint};
+ghost use Rattle.differences.specs.Lacking.{passing, lacks, lacking};
+ghost use Rattle.differences.specs.Meshes.{Single, Good, pointsIn, facesIn, sameFace};
+ghost use Rattle.table_flags.specs.Flags.{isSet, KnownFlags};
+ghost use Rattle.differences.specs.Differences.{wordsIf, pointDifferences, faceDifferences, words};
+use crate::ask::lacks_face;
+use crate::ask::lacks_point;
+
+// 1 for true.
+fn one_if(is: bool) -> usize
+    ensures { λ n. ⌜ n ≡ cond is 1 0 ⌝ }
+{
+    if is { 1 } else { 0 }
+}
+
+// How many of the first flags are set.
+fn count_set(flags: &[u8], count: usize) -> usize
+    requires { ⌜ count ≤ length (now flags) ⌝ }
+    ensures { λ n. ⌜ n ≡ length (passing (isSet (now (flags .entry))) count) ⌝ }
+{
+    let mut n = 0;
+    let mut k = 0;
+    while k < count {
+        n += one_if(flags[k] == 1);
+        k += 1;
+    }
+    n
+}
+
+pub(crate) fn count_points(points: &[u32], others: &[u32], known: bool, flags: &[u8]) -> usize
+    requires { ⌜ Single (now points) ⌝ ∗ ⌜ KnownFlags known (lacks samePoint (pointsIn (now points)) (pointsIn (now others))) (length (now points) / 3) (now flags) ⌝ }
+    ensures { λ n. ⌜ n ≡ length (lacking samePoint (pointsIn (now (points .entry))) (pointsIn (now (others .entry)))) ⌝ }
+{
+    let count = points.len() / 3;
+    if known {
+        return count_set(flags, count);
+    }
+    let mut n = 0;
+    let mut k = 0;
+    while k < count {
+        n += one_if(lacks_point(points, k, others, known, flags));
+        k += 1;
+    }
+    n
+}
+
+pub(crate) fn count_faces(
+    points: &[u32],
+    indices: &[u16],
+    other_points: &[u32],
+    other_indices: &[u16],
+    known: bool,
+    flags: &[u8],
+) -> usize
+    requires { ⌜ Good (now points) (now indices) ⌝ ∗ ⌜ Good (now «other_points») (now «other_indices») ⌝ ∗ ⌜ KnownFlags known (lacks sameFace (facesIn (now points) (now indices)) (facesIn (now «other_points») (now «other_indices»))) (length (now indices) / 3) (now flags) ⌝ }
+    ensures { λ n. ⌜ n ≡ length (lacking sameFace (facesIn (now (points .entry)) (now (indices .entry))) (facesIn (now («other_points» .entry)) (now («other_indices» .entry)))) ⌝ }
+{
+    let count = indices.len() / 3;
+    if known {
+        return count_set(flags, count);
+    }
+    let mut n = 0;
+    let mut k = 0;
+    while k < count {
+        n += one_if(lacks_face(
+            points,
+            indices,
+            k,
+            other_points,
+            other_indices,
+            known,
+            flags,
+        ));
+        k += 1;
+    }
+    n
+}
+
+// Three words.
+fn put3(out: &mut [u64], at: usize, x: u64, y: u64, z: u64) -> usize
+    requires { ⌜ at + 3 ≤ length (now out) ⌝ }
+    ensures { λ r. ⌜ Wrote (now (out .entry)) at (x ∷ y ∷ z ∷ []) (now (out .exit)) r ⌝ }
+{
+    out[at] = x;
+    out[at + 1] = y;
+    out[at + 2] = z;
+    at + 3
+}
+
+// The difference's three words where there is one, else none.
+fn put_if(out: &mut [u64], at: usize, is: bool, kind: u64, side: u64, number: usize) -> usize
+    requires { ⌜ at + length (wordsIf kind side is number) ≤ length (now out) ⌝ }
+    ensures { λ r. ⌜ Wrote (now (out .entry)) at (wordsIf kind side is number) (now (out .exit)) r ⌝ }
+{
+    if is {
+        put3(out, at, kind, side, number as u64)
+    } else {
+        at
+    }
+}
+
+pub(crate) fn write_points(
+    out: &mut [u64],
+    at: usize,
+    side: u64,
+    points: &[u32],
+    others: &[u32],
+    known: bool,
+    flags: &[u8],
+) -> usize
+    requires { ⌜ Single (now points) ⌝ ∗ ⌜ KnownFlags known (lacks samePoint (pointsIn (now points)) (pointsIn (now others))) (length (now points) / 3) (now flags) ⌝ ∗ ⌜ at + length (words (pointDifferences side (pointsIn (now points)) (pointsIn (now others)))) ≤ length (now out) ⌝ }
+    ensures { λ r. ⌜ Wrote (now (out .entry)) at (words (pointDifferences side (pointsIn (now (points .entry))) (pointsIn (now (others .entry))))) (now (out .exit)) r ⌝ }
+{
+    let count = points.len() / 3;
+    let mut to = at;
+    let mut k = 0;
+    while k < count {
+        to = put_if(
+            out,
+            to,
+            lacks_point(points, k, others, known, flags),
+            0,
+            side,
+            k,
+        );
+        k += 1;
+    }
+    to
+}
+
+pub(crate) fn write_faces(
+    out: &mut [u64],
+    at: usize,
+    side: u64,
+    points: &[u32],
+    indices: &[u16],
+    other_points: &[u32],
+    other_indices: &[u16],
+    known: bool,
+    flags: &[u8],
+) -> usize
+    requires { ⌜ Good (now points) (now indices) ⌝ ∗ ⌜ Good (now «other_points») (now «other_indices») ⌝ ∗ ⌜ KnownFlags known (lacks sameFace (facesIn (now points) (now indices)) (facesIn (now «other_points») (now «other_indices»))) (length (now indices) / 3) (now flags) ⌝ ∗ ⌜ at + length (words (faceDifferences side (facesIn (now points) (now indices)) (facesIn (now «other_points») (now «other_indices»)))) ≤ length (now out) ⌝ }
+    ensures { λ r. ⌜ Wrote (now (out .entry)) at (words (faceDifferences side (facesIn (now (points .entry)) (now (indices .entry))) (facesIn (now («other_points» .entry)) (now («other_indices» .entry))))) (now (out .exit)) r ⌝ }
+{
+    let count = indices.len() / 3;
+    let mut to = at;
+    let mut k = 0;
+    while k < count {
+        let is = lacks_face(
+            points,
+            indices,
+            k,
+            other_points,
+            other_indices,
+            known,
+            flags,
+        );
+        to = put_if(out, to, is, 1, side, k);
+        k += 1;
+    }
+    to
+}

@@ -1,0 +1,3 @@
+-- The definitions of `mesh_text`.
+pub mod Widths
+pub mod Lists

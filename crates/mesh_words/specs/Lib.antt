@@ -1,0 +1,2 @@
+-- The definitions of `mesh_words`.
+pub mod Founds

@@ -1,0 +1,3 @@
+-- The laws of `share_answers`.
+pub mod Passed
+mod Measured

@@ -1,0 +1,66 @@
+-- Meets its contract. Assumes nothing.
+use mathlib.Core.Path.{sym, _∙_}
+use borrow.Author.Needs.{needs}
+use Rattle.share_answers.specs.Answers.{partVerdict}
+use Rattle.tessellate.proofs.Measured.{is-measured}
+use Rattle.shared_lists.proofs.Sound.{state-facts, lies}
+use Rattle.share_answers.proofs.Measured.{not-bad, is-discarded, is-counted, part-says}
+use Rattle.share_answers.proofs.verdict.part_verdict.Statement.{statement}
+use Rattle.share_answers.proofs.verdict.part_verdict.Tie as tie
+
+measure-requires : tie.Need-measure-requires
+measure-requires c κs = search needs
+
+enum-told : tie.Need-enum-told
+enum-told c = search needs
+
+enum-told-2 : tie.Need-enum-told-2
+enum-told-2 c = search needs
+
+enum-known-points : tie.Need-enum-known-points
+enum-known-points c = search needs
+
+share-of-requires : tie.Need-share-of-requires
+share-of-requires c κs = search needs
+
+share-of-requires-2 : tie.Need-share-of-requires-2
+share-of-requires-2 c κs = search needs
+
+room-requires : tie.Need-room-requires
+room-requires c κs =
+    let start = c .before .before .before .before .before .before .before .before in
+    let d = start .args .designer in
+    let f = state-facts (start .args .state) (start .pre .1) in
+    rw (c .before .share-of .ensures, c .share-of2 .ensures) (lies d (f .vertices) .used, lies d (f .indices) .used)
+
+returns : tie.Need-returns
+returns c =
+    let start = c .before .before .before .before .before in
+    absurd (not-bad (start .args .settings) (start .args .patch) (start .pre .0) (sym (c .enum-told .given .1) ∙ is-measured (start .args .settings) (start .args .patch) (c .before .before .measure .ensures)))
+
+returns-2 : tie.Need-returns-2
+unfolding partVerdict
+returns-2 c =
+    let start = c .before .before .before .before .before in
+    rw (is-discarded (start .args .settings) (start .args .patch) (start .pre .0) (sym (c .enum-told2 .given .1) ∙ is-measured (start .args .settings) (start .args .patch) (c .before .before .measure .ensures)))
+
+returns-3 : tie.Need-returns-3
+returns-3 c =
+    let start = c .before .before .before .before .before .before .before .before .before in
+    let k = is-counted (start .args .settings) (start .args .patch) (start .pre .0) (sym (c .before .before .before .before .points .given .1) ∙ is-measured (start .args .settings) (start .args .patch) (c .before .before .before .before .before .before .measure .ensures)) in
+    part-says (start .args .settings) (start .args .patch) (c .before .before .share-of .ensures) (c .before .share-of2 .ensures) k (c .room .ensures)
+
+pub part-verdict-spec : {M : Type 1} → statement M
+part-verdict-spec =
+    tie.close
+    (tie.spec
+    measure-requires
+    enum-told
+    enum-told-2
+    enum-known-points
+    share-of-requires
+    share-of-requires-2
+    room-requires
+    returns
+    returns-2
+    returns-3)

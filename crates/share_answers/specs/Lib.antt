@@ -1,0 +1,2 @@
+-- The definitions of `share_answers`.
+pub mod Answers

@@ -1,0 +1,3 @@
+-- The definitions of `tsj_pieces`.
+pub mod Headers
+pub mod Chunks

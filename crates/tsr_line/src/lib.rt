@@ -1,0 +1,2 @@
+// The line that says what a replay found.
+pub mod sentence;

@@ -1,0 +1,2 @@
+-- The laws of `tsr_pieces`.
+pub mod Countings

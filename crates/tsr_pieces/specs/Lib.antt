@@ -1,0 +1,2 @@
+-- The definitions of `tsr_pieces`.
+pub mod Pieces
