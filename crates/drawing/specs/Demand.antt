@@ -13,14 +13,13 @@ use Rattle.patch.specs.declared.settings.Settings.{Settings}
 use Rattle.patch.specs.Turn.{positive}
 use Rattle.patch.specs.Subdivide.{outers}
 use Rattle.mesh.specs.declared.Point.{Point}
-use Rattle.mesh.specs.Cover.{Face, Cover}
+use Rattle.mesh.specs.Cover.{Cover}
 use Rattle.mesh.specs.Seam.{OuterEdge, triangleEdge, quadEdge}
 use Rattle.mesh.specs.Edge.{Run, ring, Placed}
-use Rattle.mesh.specs.Faces.{at, faceOf}
+use Rattle.mesh.specs.Faces.{facesIn}
 use Rattle.mesh.specs.TrianglePoints.{trianglePlace, triangleArea}
 use Rattle.mesh.specs.QuadPoints.{quadPlace, quadArea}
 use Rattle.drawing.specs.Points.{run}
-use Rattle.mesh.specs.Words.{readTriangles}
 
 -- a triangle or a quad patch
 abbrev pub Surface : Patch → Type 0
