@@ -6,13 +6,13 @@ use mathlib.Core.List.{List, [], _∷_}
 use mathlib.Core.Logic.{_↔_}
 use lib.Dec.{eqb}
 use lib.ListN.{length, getD}
-use Rattle.compare.specs.declared.answer.Fault.the-variants.{NotThrees, UnknownIndex, EqualPoints}
-use Rattle.compare.specs.declared.answer.Comparison.{Comparison}
-use Rattle.compare.specs.declared.answer.Comparison.the-variants.{Differences, NoRoom, LeftRefused, RightRefused}
-use Rattle.compare.specs.Answers.{told, verdict}
-use Rattle.replies.specs.Replies.{oneWord}
-use Rattle.sameness.specs.Refusals.{AnswerMeans}
-use Rattle.sameness.proofs.Exactly.{answer-means, means-answer, same-told, told-same}
+use Rattle.compare_meshes.specs.declared.answer.Fault.the-variants.{NotThrees, UnknownIndex, EqualPoints}
+use Rattle.compare_meshes.specs.declared.answer.Comparison.{Comparison}
+use Rattle.compare_meshes.specs.declared.answer.Comparison.the-variants.{Differences, NoRoom, LeftRefused, RightRefused}
+use Rattle.compare_meshes.specs.Answers.{told, verdict}
+use Rattle.call_answers.specs.Replies.{oneWord}
+use Rattle.compare_sameness.specs.Refusals.{AnswerMeans}
+use Rattle.compare_sameness.proofs.Exactly.{answer-means, means-answer, same-told, told-same}
 use Rattle.answer_codes.specs.Reports.{Reports}
 use Rattle.answer_codes.proofs.Exactly.{told-back, number-exactly, answered-exactly}
 use Rattle.compare_exports.specs.Calls.{CompareCalled, CompareExactly}

@@ -4,12 +4,12 @@ use mathlib.Core.Path.{_≡_, refl, sym, ap, _∙_}
 use mathlib.Core.List.{List, [], _∷_}
 use native.Mathlib.Nat.{add-zero}
 use native.Mathlib.Omega.{arith}
-use Rattle.compare.specs.declared.answer.Fault.{Fault}
-use Rattle.compare.specs.declared.answer.Fault.the-variants.{NotThrees, UnknownIndex, EqualPoints}
-use Rattle.compare.specs.declared.answer.Comparison.{Comparison}
-use Rattle.compare.specs.Answers.{toldFault, told, Answered}
+use Rattle.compare_meshes.specs.declared.answer.Fault.{Fault}
+use Rattle.compare_meshes.specs.declared.answer.Fault.the-variants.{NotThrees, UnknownIndex, EqualPoints}
+use Rattle.compare_meshes.specs.declared.answer.Comparison.{Comparison}
+use Rattle.compare_meshes.specs.Answers.{toldFault, told, Answered}
 use Rattle.answer_codes.specs.Drew.{after}
-use Rattle.exports.specs.Calls.{Called}
+use Rattle.draw_exports.specs.Calls.{Called}
 use Rattle.compare_exports.specs.declared.reply.Reply.{Reply}
 use Rattle.compare_exports.specs.Calls.{replyOf, shiftOf}
 

@@ -6,18 +6,18 @@ use mathlib.Core.List.{List, [], _∷_}
 use mathlib.Core.Logic.{_↔_}
 use lib.ListN.{length, getD}
 use Rattle.answer_codes.specs.Told.{Told}
-use Rattle.exports.specs.Calls.{Called}
-use Rattle.replies.specs.Replies.{oneWord}
+use Rattle.draw_exports.specs.Calls.{Called}
+use Rattle.call_answers.specs.Replies.{oneWord}
 use Rattle.answer_codes.specs.Reports.{AnsweredExactly}
-use Rattle.differences.specs.Meshes.{readMesh}
-use Rattle.differences.specs.Differences.{differences, words}
-use Rattle.compare.specs.Answers.{verdict, told}
-use Rattle.compare.specs.declared.answer.Fault.{Fault}
-use Rattle.compare.specs.declared.answer.Fault.the-variants.{NotThrees, UnknownIndex, EqualPoints}
-use Rattle.compare.specs.declared.answer.Comparison.{Comparison}
-use Rattle.compare.specs.declared.answer.Comparison.the-variants.{Differences, NoRoom, LeftRefused, RightRefused}
-use Rattle.sameness.specs.Same.{SameMesh}
-use Rattle.sameness.specs.Refusals.{Comparable, AnswerMeans}
+use Rattle.compare_differences.specs.Meshes.{readMesh}
+use Rattle.compare_differences.specs.Differences.{differences, words}
+use Rattle.compare_meshes.specs.Answers.{verdict, told}
+use Rattle.compare_meshes.specs.declared.answer.Fault.{Fault}
+use Rattle.compare_meshes.specs.declared.answer.Fault.the-variants.{NotThrees, UnknownIndex, EqualPoints}
+use Rattle.compare_meshes.specs.declared.answer.Comparison.{Comparison}
+use Rattle.compare_meshes.specs.declared.answer.Comparison.the-variants.{Differences, NoRoom, LeftRefused, RightRefused}
+use Rattle.compare_sameness.specs.Same.{SameMesh}
+use Rattle.compare_sameness.specs.Refusals.{Comparable, AnswerMeans}
 use Rattle.compare_exports.specs.declared.reply.Reply.{Reply}
 
 -- the position of a fault among the three numbers of its side

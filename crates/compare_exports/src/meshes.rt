@@ -13,7 +13,7 @@ pub extern "C" fn yoktvarim_compare_meshes(
 ) -> u32
     ensures { λ r. ⌜ CompareCalled (now («left_points» .entry)) (now («left_indices» .entry)) (now («right_points» .entry)) (now («right_indices» .entry)) (now (differences .entry)) (now (differences .exit)) (now (count .exit)) r ⌝ }
 {
-    let answer = compare::tool::compare(
+    let answer = compare_meshes::tool::compare(
         left_points,
         left_indices,
         right_points,

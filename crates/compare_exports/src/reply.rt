@@ -1,10 +1,10 @@
 // The answers of comparing as numbers, each with the number of differences, or 0.
 ghost use mathlib.Core.Path.{_≡_};
-ghost use Rattle.compare.specs.Answers.{told};
+ghost use Rattle.compare_meshes.specs.Answers.{told};
 ghost use Rattle.compare_exports.specs.Calls.{replyOf, shiftOf};
 ghost use Prim.Native.Nat.{_+_};
-use compare::answer::Comparison;
-use compare::answer::Fault;
+use compare_meshes::answer::Comparison;
+use compare_meshes::answer::Fault;
 
 pub struct Reply {
     pub number: u32,

@@ -1,8 +1,8 @@
 // The flags of two meshes.
 ghost use mathlib.Core.Path.{_≡_};
 ghost use mathlib.Core.Bool.{true};
-ghost use Rattle.differences.specs.Meshes.{Good};
-ghost use Rattle.table_flags.specs.Flags.{ManySides, AllSet, MeshFlags};
+ghost use Rattle.compare_differences.specs.Meshes.{Good};
+ghost use Rattle.compare_table_flags.specs.Flags.{ManySides, AllSet, MeshFlags};
 use crate::side::flag_side;
 
 // Whether the tables have room for a mesh: 8192 points and 8448 triangles; the largest patch is cut into 4225 and 8192.

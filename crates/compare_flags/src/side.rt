@@ -4,14 +4,14 @@ ghost use mathlib.Core.Path.{_≡_};
 ghost use mathlib.Core.Bool.{true};
 ghost use Prim.Native.Nat.{_/_, _≤_};
 ghost use lib.ListN.{length};
-ghost use Rattle.searches.specs.Points.{samePoint};
-ghost use Rattle.differences.specs.Lacking.{lacks};
-ghost use Rattle.differences.specs.Meshes.{Good, pointsIn};
-ghost use Rattle.table_flags.specs.Flags.{FewSides, ManySides, Partnered, Narrowed, missing, isFirst};
-use table_flags::flag::flag_first;
-use table_flags::flag::flag_missing;
-use table_flags::flag::flag_points;
-use table_flags::partner::match_points;
+ghost use Rattle.check_searches.specs.Points.{samePoint};
+ghost use Rattle.compare_differences.specs.Lacking.{lacks};
+ghost use Rattle.compare_differences.specs.Meshes.{Good, pointsIn};
+ghost use Rattle.compare_table_flags.specs.Flags.{FewSides, ManySides, Partnered, Narrowed, missing, isFirst};
+use compare_table_flags::flag::flag_first;
+use compare_table_flags::flag::flag_missing;
+use compare_table_flags::flag::flag_points;
+use compare_table_flags::partner::match_points;
 
 // With a table for up to 64 points and 128 triangles.
 fn flag_by_few(

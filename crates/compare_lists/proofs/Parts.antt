@@ -7,10 +7,10 @@ use native.Mathlib.Omega.{arith}
 use lib.ListN.{length, length-append, length-map}
 use Rattle.buffer.specs.Over.{Wrote}
 use Rattle.buffer.proofs.Laws.{Left, left-all, left-step}
-use Rattle.searches.specs.Points.{samePoint}
-use Rattle.differences.specs.Lacking.{lacking}
-use Rattle.differences.specs.Meshes.{Mesh, sameFace}
-use Rattle.differences.specs.Differences.{leftPoints, rightPoints, leftFaces, rightFaces, differences, words}
+use Rattle.check_searches.specs.Points.{samePoint}
+use Rattle.compare_differences.specs.Lacking.{lacking}
+use Rattle.compare_differences.specs.Meshes.{Mesh, sameFace}
+use Rattle.compare_differences.specs.Differences.{leftPoints, rightPoints, leftFaces, rightFaces, differences, words}
 use Rattle.compare_lists.proofs.Passing.{words-append}
 
 module _ (l r : Mesh) where

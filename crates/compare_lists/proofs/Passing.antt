@@ -9,19 +9,19 @@ use native.Mathlib.Omega.{arith}
 use lib.ListN.{length, length-append}
 use Rattle.buffer.specs.Over.{flat}
 use Rattle.buffer.proofs.Laws.{flat-step, flat-all, flat-done}
-use Rattle.copies.proofs.Shifts.{flat-below}
-use Rattle.mesh.specs.Cover.{Face}
-use Rattle.mesh.specs.Words.{readPoints, readTriangles}
-use Rattle.searches.specs.Points.{samePoint}
-use Rattle.searches.proofs.First.{Below, some-here}
-use Rattle.searches.proofs.Equal.{is-same}
-use Rattle.searches.proofs.Read.{points-count, triangles-count}
-use Rattle.differences.specs.Lacking.{Row, passing, lacks, lacking}
-use Rattle.differences.specs.Meshes.{Mesh, readMesh, pointsIn, facesIn, sameFace}
-use Rattle.differences.proofs.Tests.{lacks-found, in-order}
-use Rattle.table_flags.specs.Flags.{isSet, Flagged}
-use Rattle.table_flags.proofs.Tables.{flag-tells}
-use Rattle.differences.specs.Differences.{Difference, each, differences, words, wordsIf}
+use Rattle.shifted_copies.proofs.Shifts.{flat-below}
+use Rattle.mesh_geometry.specs.Cover.{Face}
+use Rattle.mesh_geometry.specs.Words.{readPoints, readTriangles}
+use Rattle.check_searches.specs.Points.{samePoint}
+use Rattle.check_searches.proofs.First.{Below, some-here}
+use Rattle.check_searches.proofs.Equal.{is-same}
+use Rattle.check_searches.proofs.Read.{points-count, triangles-count}
+use Rattle.compare_differences.specs.Lacking.{Row, passing, lacks, lacking}
+use Rattle.compare_differences.specs.Meshes.{Mesh, readMesh, pointsIn, facesIn, sameFace}
+use Rattle.compare_differences.proofs.Tests.{lacks-found, in-order}
+use Rattle.compare_table_flags.specs.Flags.{isSet, Flagged}
+use Rattle.compare_table_flags.proofs.Tables.{flag-tells}
+use Rattle.compare_differences.specs.Differences.{Difference, each, differences, words, wordsIf}
 
 -- the number k, if it passes
 abbrev pub one : (ℕ → Bool) → ℕ → List ℕ

@@ -2,10 +2,10 @@
 ghost use mathlib.Core.Path.{_≡_};
 ghost use Prim.Native.Nat.{_/_, _<_};
 ghost use lib.ListN.{length};
-ghost use Rattle.searches.specs.Points.{samePoint};
-ghost use Rattle.differences.specs.Lacking.{lacks};
-ghost use Rattle.differences.specs.Meshes.{Single, Good, pointsIn, facesIn, sameFace};
-ghost use Rattle.table_flags.specs.Flags.{KnownFlags};
+ghost use Rattle.check_searches.specs.Points.{samePoint};
+ghost use Rattle.compare_differences.specs.Lacking.{lacks};
+ghost use Rattle.compare_differences.specs.Meshes.{Single, Good, pointsIn, facesIn, sameFace};
+ghost use Rattle.compare_table_flags.specs.Flags.{KnownFlags};
 
 pub(crate) fn lacks_point(
     points: &[u32],
@@ -20,7 +20,7 @@ pub(crate) fn lacks_point(
     if known {
         return flags[k] == 1;
     }
-    differences::side::lacks_point(points, k, others)
+    compare_differences::side::lacks_point(points, k, others)
 }
 
 pub(crate) fn lacks_face(
@@ -38,5 +38,5 @@ pub(crate) fn lacks_face(
     if known {
         return flags[k] == 1;
     }
-    differences::side::lacks_face(points, indices, k, other_points, other_indices)
+    compare_differences::side::lacks_face(points, indices, k, other_points, other_indices)
 }

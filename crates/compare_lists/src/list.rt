@@ -5,11 +5,11 @@ ghost use mathlib.Core.List.{[], _∷_};
 ghost use Prim.Native.Nat.{_+_, _/_, _≤_};
 ghost use lib.ListN.{length};
 ghost use Rattle.buffer.specs.Over.{Wrote};
-ghost use Rattle.searches.specs.Points.{samePoint};
-ghost use Rattle.differences.specs.Lacking.{passing, lacks, lacking};
-ghost use Rattle.differences.specs.Meshes.{Single, Good, pointsIn, facesIn, sameFace};
-ghost use Rattle.table_flags.specs.Flags.{isSet, KnownFlags};
-ghost use Rattle.differences.specs.Differences.{wordsIf, pointDifferences, faceDifferences, words};
+ghost use Rattle.check_searches.specs.Points.{samePoint};
+ghost use Rattle.compare_differences.specs.Lacking.{passing, lacks, lacking};
+ghost use Rattle.compare_differences.specs.Meshes.{Single, Good, pointsIn, facesIn, sameFace};
+ghost use Rattle.compare_table_flags.specs.Flags.{isSet, KnownFlags};
+ghost use Rattle.compare_differences.specs.Differences.{wordsIf, pointDifferences, faceDifferences, words};
 use crate::ask::lacks_face;
 use crate::ask::lacks_point;
 

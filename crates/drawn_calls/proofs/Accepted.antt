@@ -10,15 +10,15 @@ use Rattle.level.specs.Top.{Top}
 use Rattle.patch.specs.declared.kinds.Patch.{Patch}
 use Rattle.patch.specs.declared.settings.Settings.{Settings}
 use Rattle.patch.specs.Subdivide.{discards}
-use Rattle.drawing.specs.Demand.{Surface}
+use Rattle.patch_mesh.specs.Demand.{Surface}
 use Rattle.job_fields.specs.Settings.{choices, AllBelow}
 use Rattle.tessellate.specs.Draws.{pointWords, connectionWords}
-use Rattle.sound.proofs.Patches.{drawn-words-sound}
-use Rattle.replies.specs.Replies.{twoWords, Says}
-use Rattle.requests.specs.Inputs.{patchIn, settingsIn}
-use Rattle.exports.specs.Calls.{PointsCalled}
-use Rattle.mesh_exports.specs.Founds.{checkSays}
-use Rattle.mesh_exports.proofs.Exactly.{check-call-exactly}
+use Rattle.check_soundness.proofs.Patches.{drawn-words-sound}
+use Rattle.call_answers.specs.Replies.{twoWords, Says}
+use Rattle.call_inputs.specs.Inputs.{patchIn, settingsIn}
+use Rattle.draw_exports.specs.Calls.{PointsCalled}
+use Rattle.check_exports.specs.Founds.{checkSays}
+use Rattle.check_exports.proofs.Exactly.{check-call-exactly}
 use Rattle.vulkan_chapter.proofs.Discard.{discards-exactly}
 use Rattle.drawn_calls.specs.Written.{CallDrew, CallConnected}
 use Rattle.drawn_calls.specs.Edges.{TrianglesIn}

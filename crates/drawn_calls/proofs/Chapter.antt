@@ -12,16 +12,16 @@ use Rattle.level.specs.Top.{Top, isTop}
 use Rattle.patch.specs.declared.kinds.Patch.{Patch}
 use Rattle.patch.specs.declared.settings.Settings.{Settings}
 use Rattle.patch.specs.Subdivide.{discards}
-use Rattle.mesh.specs.Words.{readPoints}
+use Rattle.mesh_geometry.specs.Words.{readPoints}
 use Rattle.job_fields.specs.Settings.{choices, AllBelow}
 use Rattle.tessellate.specs.Answers.{pointsOf, indicesOf, verdict}
 use Rattle.answer_codes.specs.Told.{Told, refused, drew}
 use Rattle.level.proofs.Top.{top-as, is-top}
-use Rattle.replies.specs.Replies.{unknownSetting, badTop}
-use Rattle.requests.specs.Inputs.{patchIn, settingsIn}
-use Rattle.requests.specs.Asked.{known}
-use Rattle.requests.proofs.Known.{known-cases, not-all}
-use Rattle.exports.specs.Calls.{Called, PointsCalled, IndicesCalled}
+use Rattle.call_answers.specs.Replies.{unknownSetting, badTop}
+use Rattle.call_inputs.specs.Inputs.{patchIn, settingsIn}
+use Rattle.call_inputs.specs.Asked.{known}
+use Rattle.call_inputs.proofs.Known.{known-cases, not-all}
+use Rattle.draw_exports.specs.Calls.{Called, PointsCalled, IndicesCalled}
 use Rattle.vulkan_chapter.specs.Chapter.{Chapter}
 use Rattle.vulkan_chapter.proofs.Spacing.{ourEdges}
 use Rattle.vulkan_chapter.proofs.Discard.{discards-exactly}

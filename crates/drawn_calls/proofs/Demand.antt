@@ -6,14 +6,14 @@ use mathlib.Core.List.{List}
 use lib.Ieee.{Float}
 use Rattle.patch.specs.declared.kinds.Patch.{Patch}
 use Rattle.patch.specs.declared.settings.Settings.{Settings}
-use Rattle.mesh.specs.declared.Point.{Point}
-use Rattle.mesh.specs.Words.{readPoints}
-use Rattle.drawing.specs.Demand.{Surface, Demand}
-use Rattle.drawing.specs.Inside.{SpotsOnce}
-use Rattle.drawing.specs.Kept.{Alike}
-use Rattle.drawing.proofs.Once.{demand-once}
-use Rattle.drawing.proofs.Kept.{kept-connections}
-use Rattle.requests.specs.Inputs.{patchIn, settingsIn}
+use Rattle.mesh_geometry.specs.declared.Point.{Point}
+use Rattle.mesh_geometry.specs.Words.{readPoints}
+use Rattle.patch_mesh.specs.Demand.{Surface, Demand}
+use Rattle.patch_mesh.specs.Inside.{SpotsOnce}
+use Rattle.patch_mesh.specs.Kept.{Alike}
+use Rattle.patch_mesh.proofs.Once.{demand-once}
+use Rattle.patch_mesh.proofs.Kept.{kept-connections}
+use Rattle.call_inputs.specs.Inputs.{patchIn, settingsIn}
 use Rattle.third_demand.specs.Seams.{Seam}
 use Rattle.third_demand.specs.ThirdDemand.{ThirdDemand}
 use Rattle.third_demand.proofs.AllPoints.{AllPoints, all-demand, seam-between, demand-of}

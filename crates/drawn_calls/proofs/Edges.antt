@@ -9,12 +9,12 @@ use lib.Ieee.{Float}
 use lib.ListN.{length, getD}
 use Rattle.patch.specs.declared.kinds.Patch.{Patch}
 use Rattle.patch.specs.Subdivide.{outers}
-use Rattle.drawing.specs.Demand.{Surface, outerLevel}
+use Rattle.patch_mesh.specs.Demand.{Surface, outerLevel}
 use Rattle.job.specs.Patches.{patchWith}
 use Rattle.job_fields.specs.Bytes.{byteAt}
 use Rattle.job_fields.specs.Settings.{kindOf, spacingOf, pointModeOf}
 use Rattle.job_fields.specs.declared.setting.Kind.{Kind}
-use Rattle.requests.specs.Inputs.{levelAt, levelsIn, patchIn, settingsIn}
+use Rattle.call_inputs.specs.Inputs.{levelAt, levelsIn, patchIn, settingsIn}
 use Rattle.third_demand.specs.Seams.{IsEdge, EdgesAlike}
 use Rattle.drawn_calls.specs.Edges.{EdgeIn, EdgesAlikeIn}
 

@@ -8,22 +8,22 @@ use lib.Ieee.{Float}
 use lib.ListN.{getD, take}
 use Rattle.level.specs.Top.{Top}
 use Rattle.patch.specs.Subdivide.{discards, subdivision}
-use Rattle.drawing.specs.Points.{points}
-use Rattle.mesh.specs.Words.{readPoints}
-use Rattle.mesh.proofs.ReadBack.{read-points}
+use Rattle.patch_mesh.specs.Points.{points}
+use Rattle.mesh_geometry.specs.Words.{readPoints}
+use Rattle.mesh_geometry.proofs.ReadBack.{read-points}
 use Rattle.job_fields.specs.Settings.{choices, AllBelow}
 use Rattle.tessellate.specs.declared.answer.PointsAnswer.the-variants as point-answers
 use Rattle.tessellate.specs.declared.answer.IndicesAnswer.the-variants as index-answers
 use Rattle.answer_codes.specs.Told.{Told}
 use Rattle.tessellate.specs.Draws.{DrewPoints, DrewIndices, pointWords, connectionWords}
 use Rattle.tessellate.proofs.Together.{points-drawn, point-words-drawn, indices-drawn}
-use Rattle.float_drawing.specs.declared.answer.FloatsAnswer.the-variants as floats
-use Rattle.float_drawing.proofs.Together.{as-points, as-indices}
-use Rattle.replies.specs.Replies.{unknownSetting, badTop}
-use Rattle.requests.specs.Inputs.{patchIn, settingsIn}
-use Rattle.requests.specs.Asked.{known}
-use Rattle.requests.proofs.Known.{known-cases}
-use Rattle.exports.proofs.Together.{points-call, indices-call}
+use Rattle.draw_floats.specs.declared.answer.FloatsAnswer.the-variants as floats
+use Rattle.draw_floats.proofs.Together.{as-points, as-indices}
+use Rattle.call_answers.specs.Replies.{unknownSetting, badTop}
+use Rattle.call_inputs.specs.Inputs.{patchIn, settingsIn}
+use Rattle.call_inputs.specs.Asked.{known}
+use Rattle.call_inputs.proofs.Known.{known-cases}
+use Rattle.draw_exports.proofs.Together.{points-call, indices-call}
 use Rattle.float_exports.proofs.Together.{called-drew}
 use Rattle.share_calls.proofs.OneCall.{called-all, called-point-words, called-index-words, called-known}
 use Rattle.third_demand.proofs.AllPoints.{AllPoints}

@@ -7,7 +7,7 @@ use mathlib.Core.Logic.{_↔_}
 use lib.Ieee.{Float}
 use Rattle.level.specs.Top.{Top}
 use Rattle.job_fields.specs.Settings.{choices, AllBelow}
-use Rattle.requests.specs.Inputs.{patchIn, settingsIn}
+use Rattle.call_inputs.specs.Inputs.{patchIn, settingsIn}
 use Rattle.vulkan_chapter.specs.Discard.{PatchDiscarded}
 
 -- every setting byte is in range, the top is allowed, and the chapter discards the patch

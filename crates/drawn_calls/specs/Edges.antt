@@ -6,7 +6,7 @@ use mathlib.Core.List.{List}
 use mathlib.Core.Logic.{_⊎_}
 use lib.Ieee.{Float}
 use Rattle.job_fields.specs.Bytes.{byteAt}
-use Rattle.requests.specs.Inputs.{levelAt}
+use Rattle.call_inputs.specs.Inputs.{levelAt}
 
 -- edge k of what is asked for: one of three for triangles, one of four for quads
 abbrev pub EdgeIn : List ℕ → ℕ → Type 0

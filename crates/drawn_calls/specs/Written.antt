@@ -6,13 +6,13 @@ use lib.Ieee.{Float}
 use lib.ListN.{getD, take, drop}
 use Rattle.patch.specs.declared.kinds.Patch.{Patch}
 use Rattle.patch.specs.declared.settings.Settings.{Settings}
-use Rattle.mesh.specs.declared.Point.{Point}
-use Rattle.mesh.specs.Words.{readPoints}
-use Rattle.requests.specs.Inputs.{patchIn, settingsIn}
-use Rattle.shared_lists.specs.SharedList.{firstFree}
+use Rattle.mesh_geometry.specs.declared.Point.{Point}
+use Rattle.mesh_geometry.specs.Words.{readPoints}
+use Rattle.call_inputs.specs.Inputs.{patchIn, settingsIn}
+use Rattle.share_state.specs.SharedList.{firstFree}
 use Rattle.share_answers.specs.Answers.{pointsIn}
 use Rattle.share_words.specs.Words.{stateIn, designerOf}
-use Rattle.exports.specs.Calls.{PointsCalled, IndicesCalled}
+use Rattle.draw_exports.specs.Calls.{PointsCalled, IndicesCalled}
 use Rattle.float_exports.specs.Calls.{FloatsCalled}
 use Rattle.share_exports.specs.Calls.{DrawCalled}
 

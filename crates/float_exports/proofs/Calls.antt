@@ -5,16 +5,16 @@ use mathlib.Core.List.{List, [], _∷_}
 use lib.Ieee.{Float}
 use Rattle.patch.specs.declared.kinds.Patch.{Patch}
 use Rattle.patch.specs.declared.settings.Settings.{Settings}
-use Rattle.float_drawing.specs.declared.answer.FloatsAnswer.{FloatsAnswer}
-use Rattle.float_drawing.specs.Answers.{toldFloats}
-use Rattle.float_drawing.specs.Draws.{DrewWithFloats}
-use Rattle.replies.specs.declared.reply.Reply.{Reply}
-use Rattle.replies.specs.Replies.{Tells, unknownSetting, badTop}
-use Rattle.replies.proofs.Replies.{said-two, says-as}
-use Rattle.requests.specs.declared.asked.Asked.{Asked}
-use Rattle.requests.specs.declared.asked.Asked.the-variants.{Refused, Known}
-use Rattle.requests.specs.Asked.{askedIn}
-use Rattle.requests.proofs.Reading.{refused-instead, known-granted, granted}
+use Rattle.draw_floats.specs.declared.answer.FloatsAnswer.{FloatsAnswer}
+use Rattle.draw_floats.specs.Answers.{toldFloats}
+use Rattle.draw_floats.specs.Draws.{DrewWithFloats}
+use Rattle.call_answers.specs.declared.reply.Reply.{Reply}
+use Rattle.call_answers.specs.Replies.{Tells, unknownSetting, badTop}
+use Rattle.call_answers.proofs.Replies.{said-two, says-as}
+use Rattle.call_inputs.specs.declared.asked.Asked.{Asked}
+use Rattle.call_inputs.specs.declared.asked.Asked.the-variants.{Refused, Known}
+use Rattle.call_inputs.specs.Asked.{askedIn}
+use Rattle.call_inputs.proofs.Reading.{refused-instead, known-granted, granted}
 use Rattle.float_exports.specs.Calls.{FloatsCalled}
 
 module _ (bs : List ℕ) (xs : List Float) {a : Asked} (is : a ≡ askedIn bs xs) {v i : List ℕ} {f : List Float} {c′ : List ℕ} {r : ℕ} {reply : Reply}

@@ -15,15 +15,15 @@ use Rattle.patch.specs.Subdivide.{discards}
 use Rattle.tessellate.specs.Answers.{pointsOf, indicesOf}
 use Rattle.answer_codes.specs.Told.{refused, drewBoth}
 use Rattle.level.proofs.Top.{top-as, is-top, no-top, top-no}
-use Rattle.float_drawing.specs.declared.answer.FloatsAnswer.{FloatsAnswer}
-use Rattle.float_drawing.specs.declared.answer.FloatsAnswer.the-variants as floats
-use Rattle.float_drawing.specs.Answers.{toldFloats, floatsVerdict}
-use Rattle.replies.specs.Replies.{unknownSetting, badTop, twoWords}
-use Rattle.replies.proofs.Replies.{says-as}
-use Rattle.requests.specs.Inputs.{patchIn, settingsIn}
-use Rattle.requests.specs.Asked.{known}
-use Rattle.requests.proofs.Exactly.{Answers, Readable, called-exactly}
-use Rattle.exports.proofs.Exactly.{both}
+use Rattle.draw_floats.specs.declared.answer.FloatsAnswer.{FloatsAnswer}
+use Rattle.draw_floats.specs.declared.answer.FloatsAnswer.the-variants as floats
+use Rattle.draw_floats.specs.Answers.{toldFloats, floatsVerdict}
+use Rattle.call_answers.specs.Replies.{unknownSetting, badTop, twoWords}
+use Rattle.call_answers.proofs.Replies.{says-as}
+use Rattle.call_inputs.specs.Inputs.{patchIn, settingsIn}
+use Rattle.call_inputs.specs.Asked.{known}
+use Rattle.call_inputs.proofs.Exactly.{Answers, Readable, called-exactly}
+use Rattle.draw_exports.proofs.Exactly.{both}
 use Rattle.float_exports.specs.Calls.{FloatsCalled}
 use Rattle.float_exports.specs.Exactly.{FloatsMeans, FloatsExactly}
 

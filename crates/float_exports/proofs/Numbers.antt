@@ -11,10 +11,10 @@ use Rattle.patch.specs.Subdivide.{discards}
 use Rattle.job_fields.specs.Settings.{firstUnknown}
 use Rattle.tessellate.specs.Answers.{pointsOf, indicesOf}
 use Rattle.answer_codes.specs.Told.{refused, drewBoth}
-use Rattle.replies.specs.Replies.{unknownSetting, badTop, OneOf}
-use Rattle.requests.specs.Inputs.{topIn, patchIn, settingsIn}
-use Rattle.requests.specs.Asked.{known}
-use Rattle.float_drawing.specs.Answers.{floatsVerdict}
+use Rattle.call_answers.specs.Replies.{unknownSetting, badTop, OneOf}
+use Rattle.call_inputs.specs.Inputs.{topIn, patchIn, settingsIn}
+use Rattle.call_inputs.specs.Asked.{known}
+use Rattle.draw_floats.specs.Answers.{floatsVerdict}
 use Rattle.float_exports.specs.Calls.{floatsSay}
 
 module _ (bs : List ℕ) (xs : List Float) where

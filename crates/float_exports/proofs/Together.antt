@@ -9,17 +9,17 @@ use lib.Ieee.{Float}
 use lib.ListN.{length, take, getD}
 use Rattle.level.specs.Top.{isTop}
 use Rattle.patch.specs.Subdivide.{discards}
-use Rattle.mesh.specs.Words.{readPoints}
-use Rattle.drawing.specs.Demand.{Demand}
+use Rattle.mesh_geometry.specs.Words.{readPoints}
+use Rattle.patch_mesh.specs.Demand.{Demand}
 use Rattle.tessellate.specs.Answers.{pointsOf, indicesOf}
 use Rattle.answer_codes.specs.Told.{Told, refused, drewBoth}
-use Rattle.replies.specs.Replies.{twoWords}
-use Rattle.requests.specs.Inputs.{patchIn, settingsIn}
-use Rattle.requests.proofs.Known.{known-zero}
-use Rattle.float_drawing.specs.declared.answer.FloatsAnswer.the-variants.{Drawn}
-use Rattle.float_drawing.specs.Answers.{floatsVerdict}
-use Rattle.float_drawing.specs.Draws.{DrewWithFloats}
-use Rattle.float_drawing.proofs.Together.{together-with-floats}
+use Rattle.call_answers.specs.Replies.{twoWords}
+use Rattle.call_inputs.specs.Inputs.{patchIn, settingsIn}
+use Rattle.call_inputs.proofs.Known.{known-zero}
+use Rattle.draw_floats.specs.declared.answer.FloatsAnswer.the-variants.{Drawn}
+use Rattle.draw_floats.specs.Answers.{floatsVerdict}
+use Rattle.draw_floats.specs.Draws.{DrewWithFloats}
+use Rattle.draw_floats.proofs.Together.{together-with-floats}
 use Rattle.float_exports.specs.Calls.{FloatsCalled}
 
 module _ (bs : List ℕ) (xs : List Float) where

@@ -8,11 +8,11 @@ use lib.ListN.{length}
 use Rattle.answer_codes.specs.Told.{Told}
 use Rattle.tessellate.specs.Draws.{pointWords, connectionWords}
 use Rattle.answer_codes.specs.Drew.{after}
-use Rattle.replies.specs.Replies.{unknownSetting, badTop, twoWords, Says}
-use Rattle.requests.specs.Inputs.{patchIn, settingsIn}
-use Rattle.requests.specs.Asked.{known}
-use Rattle.float_drawing.specs.Answers.{floatsVerdict}
-use Rattle.float_drawing.specs.Draws.{floatWords}
+use Rattle.call_answers.specs.Replies.{unknownSetting, badTop, twoWords, Says}
+use Rattle.call_inputs.specs.Inputs.{patchIn, settingsIn}
+use Rattle.call_inputs.specs.Asked.{known}
+use Rattle.draw_floats.specs.Answers.{floatsVerdict}
+use Rattle.draw_floats.specs.Draws.{floatWords}
 
 -- the answer to drawing with floats into lists of v, i and f words
 abbrev pub floatsSay : List ℕ → List Float → ℕ → ℕ → ℕ → Told

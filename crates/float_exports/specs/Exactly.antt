@@ -7,13 +7,13 @@ use Rattle.level.specs.Top.{Top}
 use Rattle.patch.specs.declared.kinds.Patch.{Patch}
 use Rattle.patch.specs.declared.settings.Settings.{Settings}
 use Rattle.tessellate.specs.Answers.{pointsOf, indicesOf}
-use Rattle.float_drawing.specs.declared.answer.FloatsAnswer.{FloatsAnswer}
-use Rattle.float_drawing.specs.declared.answer.FloatsAnswer.the-variants as floats
-use Rattle.float_drawing.specs.Answers.{toldFloats}
-use Rattle.replies.specs.Replies.{twoWords}
-use Rattle.requests.specs.Inputs.{patchIn, settingsIn}
-use Rattle.requests.specs.Exactly.{CalledExactly}
-use Rattle.exports.specs.Exactly.{Discarded, Drawable}
+use Rattle.draw_floats.specs.declared.answer.FloatsAnswer.{FloatsAnswer}
+use Rattle.draw_floats.specs.declared.answer.FloatsAnswer.the-variants as floats
+use Rattle.draw_floats.specs.Answers.{toldFloats}
+use Rattle.call_answers.specs.Replies.{twoWords}
+use Rattle.call_inputs.specs.Inputs.{patchIn, settingsIn}
+use Rattle.call_inputs.specs.Exactly.{CalledExactly}
+use Rattle.draw_exports.specs.Exactly.{Discarded, Drawable}
 
 -- when each answer is right, for lists of v, i and f words; each refusal for room presumes that the lists before it have room
 abbrev pub FloatsMeans : Settings → Patch → ℕ → ℕ → ℕ → FloatsAnswer → Type 0

@@ -1,19 +1,19 @@
 // Drawing with floats for programs in C and Rust: include/yoktvarim.h declares it, and the crate in rust/ wraps it. Settings,
-// levels and lists are passed as in `exports`. Counts are two words, always written: points and indices for answer 0, the place
+// levels and lists are passed as in `draw_exports`. Counts are two words, always written: points and indices for answer 0, the place
 // of the setting and 0 for answer 8, else 0 and 0. The answers are 0 drawn, 1 discarded, 3 no room for vertices, 4 no room for
 // indices, 8 unknown setting, 9 no room for floats, 11 bad top; every answer but 0 leaves all three lists unchanged.
-ghost use Rattle.float_drawing.specs.Answers.{toldFloats};
-ghost use Rattle.replies.specs.Replies.{Tells};
+ghost use Rattle.draw_floats.specs.Answers.{toldFloats};
+ghost use Rattle.call_answers.specs.Replies.{Tells};
 ghost use Rattle.float_exports.specs.Calls.{FloatsCalled};
-use float_drawing::answer::FloatsAnswer;
-use float_drawing::draw::draw_with_floats;
-use replies::reply::Reply;
-use replies::reply::bad_top;
-use replies::reply::refusal;
-use replies::reply::say_two;
-use replies::reply::success;
-use requests::asked::Asked;
-use requests::asked::read_call;
+use call_answers::reply::Reply;
+use call_answers::reply::bad_top;
+use call_answers::reply::refusal;
+use call_answers::reply::say_two;
+use call_answers::reply::success;
+use call_inputs::asked::Asked;
+use call_inputs::asked::read_call;
+use draw_floats::answer::FloatsAnswer;
+use draw_floats::draw::draw_with_floats;
 
 fn of_floats(answer: FloatsAnswer) -> Reply
     ensures { λ r. ⌜ Tells (toldFloats answer) r ⌝ }

@@ -13,11 +13,11 @@ use Rattle.strip.specs.Lines.{Follows}
 use Rattle.strip.specs.Triangles.{indices}
 use Rattle.strip.proofs.Lines.{follows-line}
 use Rattle.strip.proofs.Strips.{indices-length, indices-append}
-use Rattle.cover.specs.Quad.{gridAt, cell, joined, cells}
+use Rattle.mesh_topology.specs.Quad.{gridAt, cell, joined, cells}
 use Rattle.grid_indices.specs.declared.grid.Grid.{Grid}
 use Rattle.grid_indices.specs.Grids.{GridFits, cellWords, rowWords}
-use Rattle.copies.specs.Copies.{shifted}
-use Rattle.copies.proofs.Shifts.{flat-shifted, flat-below}
+use Rattle.shifted_copies.specs.Copies.{shifted}
+use Rattle.shifted_copies.proofs.Shifts.{flat-shifted, flat-below}
 
 module _ (g : Grid) (fits : GridFits g) where
   -- the first column downwards: the step counts down modulo 65536

@@ -3,7 +3,7 @@ ghost use Prim.Native.Nat.{_+_, _*_, _≤_, _<_};
 ghost use lib.ListN.{length};
 ghost use Rattle.buffer.specs.Over.{Wrote};
 ghost use Rattle.strip.specs.Triangles.{indices};
-ghost use Rattle.cover.specs.Quad.{gridAt, cells};
+ghost use Rattle.mesh_topology.specs.Quad.{gridAt, cells};
 ghost use Rattle.grid_indices.specs.Grids.{GridFits, cellWords, rowWords};
 use crate::grid::Grid;
 use strip::triangle::Triangle;
@@ -75,5 +75,5 @@ pub fn write_cells(out: &mut [u16], at: usize, grid: Grid, positive: bool) -> us
     }
     write_row(out, at, start, width, b, positive);
     let n = 6 * (b as usize);
-    copies::write_copies(out, at, n, a as usize, width as usize)
+    shifted_copies::write_copies(out, at, n, a as usize, width as usize)
 }

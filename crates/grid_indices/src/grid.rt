@@ -1,7 +1,7 @@
 // A grid of vertices, and the lines along its border.
 ghost use Prim.Native.Nat.{_-_};
 ghost use Rattle.strip.specs.Lines.{Follows};
-ghost use Rattle.cover.specs.Quad.{gridAt};
+ghost use Rattle.mesh_topology.specs.Quad.{gridAt};
 ghost use Rattle.grid_indices.specs.Grids.{GridFits};
 use strip::line::Line;
 

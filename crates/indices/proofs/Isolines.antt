@@ -8,10 +8,10 @@ use native.Mathlib.Omega.{arith}
 use lib.ListN.{length}
 use Rattle.buffer.specs.Over.{flat}
 use Rattle.buffer.proofs.Laws.{flat-length}
-use Rattle.cover.specs.Lines.{isolines}
-use Rattle.copies.specs.Copies.{shifted, copy}
+use Rattle.mesh_topology.specs.Lines.{isolines}
+use Rattle.shifted_copies.specs.Copies.{shifted, copy}
 use Rattle.indices.specs.Isolines.{lineWords}
-use Rattle.copies.proofs.Shifts.{flat-shifted, flat-below}
+use Rattle.shifted_copies.proofs.Shifts.{flat-shifted, flat-below}
 
 pub line-length : (first n : ℕ) → length (lineWords first n) ≡ 2 * n
 unfolding lineWords

@@ -8,9 +8,9 @@ use native.Mathlib.Omega.{arith}
 use lib.ListN.{length, length-append}
 use Rattle.strip.specs.Triangles.{indices}
 use Rattle.strip.proofs.Strips.{strip-length, indices-length, indices-append}
-use Rattle.cover.specs.Ring.{ringAt}
-use Rattle.cover.specs.Band.{bandFrom, band}
-use Rattle.cover.specs.Quad.{gridAt, cells, gridEdges, quad}
+use Rattle.mesh_topology.specs.Ring.{ringAt}
+use Rattle.mesh_topology.specs.Band.{bandFrom, band}
+use Rattle.mesh_topology.specs.Quad.{gridAt, cells, gridEdges, quad}
 use Rattle.grid_indices.specs.declared.grid.Grid.{Grid}
 use Rattle.grid_indices.specs.Grids.{GridFits}
 

@@ -2,7 +2,7 @@
 ghost use Prim.Native.Nat.{_+_, _≤_, _<_};
 ghost use lib.ListN.{length};
 ghost use Rattle.buffer.specs.Over.{Wrote};
-ghost use Rattle.cover.specs.Lines.{dots};
+ghost use Rattle.mesh_topology.specs.Lines.{dots};
 
 pub fn write_dots(out: &mut [u16], at: usize, p: u32) -> usize
     requires { ⌜ p < 65536 ⌝ ∗ ⌜ at + p ≤ length (now out) ⌝ }

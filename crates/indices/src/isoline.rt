@@ -2,7 +2,7 @@
 ghost use Prim.Native.Nat.{_+_, _*_, _≤_, _<_};
 ghost use lib.ListN.{length};
 ghost use Rattle.buffer.specs.Over.{Wrote};
-ghost use Rattle.cover.specs.Lines.{isolines};
+ghost use Rattle.mesh_topology.specs.Lines.{isolines};
 ghost use Rattle.indices.specs.Isolines.{lineWords};
 
 // Writes one isoline of n segments, from vertex `first` on.
@@ -30,5 +30,5 @@ pub fn write_isolines(out: &mut [u16], at: usize, m: u32, n: u32) -> usize
     }
     write_line(out, at, 0, n);
     let words = 2 * (n as usize);
-    copies::write_copies(out, at, words, m as usize, (n + 1) as usize)
+    shifted_copies::write_copies(out, at, words, m as usize, (n + 1) as usize)
 }

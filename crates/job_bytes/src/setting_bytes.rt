@@ -4,12 +4,12 @@ ghost use Prim.Native.Nat.{_+_, _≤_};
 ghost use lib.ListN.{length};
 ghost use Rattle.buffer.specs.Over.{Wrote};
 ghost use Rattle.job_bytes.specs.Written.{kindByte, spacingByte, orderByte, originByte, fiveBytes};
+use decimal_text::put_bytes;
 use job_fields::setting::Kind;
 use level::Spacing;
 use patch::settings::DomainOrigin;
 use patch::settings::Settings;
 use patch::settings::VertexOrder;
-use text::put_bytes;
 
 pub fn kind_byte(kind: Kind) -> u8
     ensures { λ r. ⌜ r ≡ kindByte kind ⌝ }

@@ -5,9 +5,9 @@ ghost use Prim.Native.Nat.{_+_, _≤_};
 ghost use lib.ListN.{length};
 ghost use Rattle.buffer.specs.Over.{Wrote};
 ghost use Rattle.job_bytes.specs.Written.{takesTop, topBytes};
+use decimal_text::put_bytes;
 use job_fields::version::Version;
 use level::is_top;
-use text::put_bytes;
 
 // Whether the version can hold the top level; version 1 has no byte for it and means 64.
 pub fn takes_top(version: Version, top: u32) -> bool

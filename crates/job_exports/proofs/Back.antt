@@ -9,8 +9,8 @@ use lib.Dec.{ltb, eqb}
 use lib.ListN.{length, take, drop, getD, length-take, length-drop}
 use Rattle.buffer.proofs.Laws.{over-front}
 use Rattle.answer_codes.specs.Told.{Told, refused, drew}
-use Rattle.replies.specs.Replies.{unknownSetting, badTop, oneWord}
-use Rattle.requests.specs.Inputs.{topIn}
+use Rattle.call_answers.specs.Replies.{unknownSetting, badTop, oneWord}
+use Rattle.call_inputs.specs.Inputs.{topIn}
 use Rattle.job.specs.declared.header.Header.{Header}
 use Rattle.job.specs.declared.header.Header.the-variants.{Read, NotAJob, UnknownVersion}
 use Rattle.job.specs.declared.next.NextRecord.the-variants as next-record

@@ -6,10 +6,10 @@ use mathlib.Core.List.{List}
 use borrow.Author.Tests.{lt-ltb, le-ltb}
 use Rattle.answer_codes.specs.Told.{Told, refused}
 use Rattle.answer_codes.specs.Drew.{Drew}
-use Rattle.exports.specs.Calls.{Called}
-use Rattle.replies.specs.Replies.{unknownSetting, badTop, oneWord, Says}
-use Rattle.replies.proofs.Replies.{says-as}
-use Rattle.requests.specs.Inputs.{topIn}
+use Rattle.draw_exports.specs.Calls.{Called}
+use Rattle.call_answers.specs.Replies.{unknownSetting, badTop, oneWord, Says}
+use Rattle.call_answers.proofs.Replies.{says-as}
+use Rattle.call_inputs.specs.Inputs.{topIn}
 use Rattle.job_fields.specs.Settings.{firstUnknown}
 use Rattle.job_fields.specs.Version.{recordSize}
 use Rattle.job_bytes.specs.Written.{takesTop}

@@ -9,7 +9,7 @@ use native.Mathlib.Omega.{arith}
 use lib.Dec.{eqb}
 use lib.ListN.{length, getD}
 use Rattle.answer_codes.specs.Told.{Told}
-use Rattle.replies.specs.Replies.{oneWord}
+use Rattle.call_answers.specs.Replies.{oneWord}
 use Rattle.job.specs.declared.header.Header.{Header}
 use Rattle.job.specs.declared.header.Header.the-variants.{Read, NotAJob, UnknownVersion}
 use Rattle.job.specs.declared.cursor.Cursor.{Cursor}

@@ -7,9 +7,9 @@ use mathlib.Core.List.{List, [], _∷_}
 use lib.Dec.{ltb}
 use lib.ListN.{length}
 use Rattle.answer_codes.specs.Told.{Told, refused, drew}
-use Rattle.exports.specs.Calls.{Called}
-use Rattle.replies.specs.Replies.{unknownSetting, badTop, oneWord, Says}
-use Rattle.requests.specs.Inputs.{topIn}
+use Rattle.draw_exports.specs.Calls.{Called}
+use Rattle.call_answers.specs.Replies.{unknownSetting, badTop, oneWord, Says}
+use Rattle.call_inputs.specs.Inputs.{topIn}
 use Rattle.job.specs.declared.header.Header.{Header}
 use Rattle.job.specs.declared.header.Header.the-variants.{Read, NotAJob, UnknownVersion}
 use Rattle.job_fields.specs.Settings.{firstUnknown}

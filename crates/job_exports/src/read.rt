@@ -1,9 +1,9 @@
 // Reading a job file: its header, and the record at a place.
 ghost use Rattle.job_exports.specs.Calls.{HeaderAsked, RecordAsked};
 use crate::reply::of_header;
+use call_answers::reply::say_one;
 use job::header::read_header;
 use job_words::found::found_at;
-use replies::reply::say_one;
 
 #[no_mangle]
 pub extern "C" fn yoktvarim_read_header(bytes: &[u8], version: &mut [u32; 1]) -> u32

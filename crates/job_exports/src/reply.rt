@@ -1,15 +1,15 @@
 // The answers to writing, and to reading a header, as numbers with a value.
 ghost use Rattle.job_writer.specs.Answers.{toldHeader, toldRecord};
-ghost use Rattle.replies.specs.Replies.{Tells};
+ghost use Rattle.call_answers.specs.Replies.{Tells};
 ghost use Rattle.job_exports.specs.Calls.{toldRead};
+use call_answers::reply::Reply;
+use call_answers::reply::bad_top;
+use call_answers::reply::refusal;
+use call_answers::reply::success;
 use job::header::Header;
 use job_fields::version::version_number;
 use job_writer::answer::HeaderWritten;
 use job_writer::answer::RecordWritten;
-use replies::reply::Reply;
-use replies::reply::bad_top;
-use replies::reply::refusal;
-use replies::reply::success;
 
 pub fn of_written_header(answer: HeaderWritten) -> Reply
     ensures { λ r. ⌜ Tells (toldHeader answer) r ⌝ }

@@ -2,6 +2,11 @@
 ghost use Rattle.job_exports.specs.Calls.{HeaderCalled, RecordCalled};
 use crate::reply::of_written_header;
 use crate::reply::of_written_record;
+use call_answers::reply::bad_top;
+use call_answers::reply::refusal;
+use call_answers::reply::say_one;
+use call_answers::reply::unknown_setting;
+use call_inputs::input::top_in;
 use job_bytes::top_byte::takes_top;
 use job_fields::setting::first_unknown;
 use job_words::input::record_in;
@@ -9,11 +14,6 @@ use job_words::version::is_version;
 use job_words::version::version_in;
 use job_writer::header::write_header;
 use job_writer::record::write_record;
-use replies::reply::bad_top;
-use replies::reply::refusal;
-use replies::reply::say_one;
-use replies::reply::unknown_setting;
-use requests::input::top_in;
 
 #[no_mangle]
 pub extern "C" fn yoktvarim_write_header(

@@ -8,7 +8,7 @@ use Rattle.buffer.specs.Over.{Wrote}
 use Rattle.job_fields.specs.declared.version.Version.{Version}
 use Rattle.job.specs.declared.next.NextRecord.{NextRecord}
 use Rattle.job.specs.Records.{recordAt}
-use Rattle.record_text.specs.Replies.{reply, goesOn}
+use Rattle.job_record_text.specs.Replies.{reply, goesOn}
 use Rattle.job_text.specs.Jobs.{answersFrom}
 use Rattle.job_text.proofs.Steps.{goes-on, answers-step}
 use Rattle.buffer.proofs.Laws.{wrote-within, wrote-front}

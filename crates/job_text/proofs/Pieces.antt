@@ -17,7 +17,7 @@ use Rattle.job_fields.specs.Version.{recordSize}
 use Rattle.job.specs.Header.{mark, startsWith, headerOf, HeaderMeans}
 use Rattle.job.specs.Records.{recordAt}
 use Rattle.job.proofs.Headers.{header-exactly}
-use Rattle.record_text.specs.Replies.{reply, goesOn}
+use Rattle.job_record_text.specs.Replies.{reply, goesOn}
 use Rattle.job_text.specs.Jobs.{answers, answersFrom, startText, restText, jobText, restOf}
 use Rattle.job_text.specs.Pieces.{joined, Whole, none, last, more, said, WholeAfter, saidAfter, saidOf}
 use Rattle.job_text.proofs.Steps.{goes-on, answers-end, answers-same, answers-step}

@@ -12,7 +12,7 @@ use Rattle.job.specs.declared.next.NextRecord.the-variants.{Read, CutRecord, Un
 use Rattle.job_fields.specs.Version.{recordSize}
 use Rattle.job_fields.specs.Tops.{unknownPlace}
 use Rattle.job.specs.Records.{recordOf, after, cut, unknown, recordAt}
-use Rattle.record_text.specs.Replies.{reply, goesOn}
+use Rattle.job_record_text.specs.Replies.{reply, goesOn}
 use Rattle.job_text.specs.Jobs.{answers, answersFrom}
 
 module _ (v : Version) (bs : List ℕ) where

@@ -8,10 +8,10 @@ use Rattle.job.specs.declared.header.Header.the-variants.{Read, NotAJob, Unknow
 use Rattle.job_fields.specs.Version.{versionNumber}
 use Rattle.job.specs.Header.{headerOf}
 use Rattle.job.specs.Records.{recordAt}
-use Rattle.text.specs.Heads.{titleLine, refusedLine}
+use Rattle.decimal_text.specs.Heads.{titleLine, refusedLine}
 use Rattle.job_text.specs.declared.header.Rest.{Rest}
 use Rattle.job_text.specs.declared.header.Rest.the-variants.{Records, Nothing}
-use Rattle.record_text.specs.Replies.{reply, goesOn}
+use Rattle.job_record_text.specs.Replies.{reply, goesOn}
 
 -- the text for the first k records from place `at` on
 unfoldable pub answers : Version → ℕ → List ℕ → ℕ → List ℕ

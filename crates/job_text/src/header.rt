@@ -20,9 +20,13 @@ pub fn put_header(out: &mut [u8], header: Header) -> usize
     ensures { λ r. ⌜ Wrote (now (out .entry)) 0 (startText header) (now (out .exit)) r ⌝ }
 {
     match header {
-        Header::Read { version, next: _ } => text::put_title(out, 0, version_number(version)),
-        Header::NotAJob => text::put_refused(out, 0, 5),
-        Header::UnknownVersion => text::put_refused(out, 0, 6),
+        Header::Read { version, next: _ } => decimal_text::put_title(
+            out,
+            0,
+            version_number(version),
+        ),
+        Header::NotAJob => decimal_text::put_refused(out, 0, 5),
+        Header::UnknownVersion => decimal_text::put_refused(out, 0, 6),
     }
 }
 

@@ -6,8 +6,8 @@ ghost use Rattle.patch_text.specs.Room.{room, FullSize};
 use job::cursor::Cursor;
 use job::next::read_record;
 use job_fields::version::Version;
-use record_text::reply::next_place;
-use record_text::reply::put_reply;
+use job_record_text::reply::next_place;
+use job_record_text::reply::put_reply;
 
 // The most bytes of one record's text.
 const ROOM: usize = 286909;

@@ -11,7 +11,7 @@ use Rattle.job_fields.specs.declared.version.Version.the-variants.{One, Two}
 use Rattle.job_fields.specs.declared.levels.LevelBits.{LevelBits}
 use Rattle.job.specs.declared.record.Record.{Record}
 use Rattle.job_bytes.specs.Patterns.{recordOfBits}
-use Rattle.requests.specs.Inputs.{settingsIn}
+use Rattle.call_inputs.specs.Inputs.{settingsIn}
 
 -- whether n is the number of a version; answer 6 if not
 unfoldable pub isVersion : ℕ → Bool

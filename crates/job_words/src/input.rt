@@ -1,12 +1,12 @@
 // The record of a caller's setting bytes and bit patterns.
 ghost use mathlib.Core.Path.{_≡_};
 ghost use Rattle.job_words.specs.Inputs.{bitsIn, recordIn};
+use call_inputs::input::top_in;
 use job::record::Record;
 use job_bytes::level_bits::record_of_bits;
 use job_fields::levels::LevelBits;
 use job_fields::setting::kind_of;
 use job_fields::setting::read_settings;
-use requests::input::top_in;
 
 fn bits_in(patterns: &[u32; 6]) -> LevelBits
     ensures { λ r. ⌜ r ≡ bitsIn (now (patterns .entry)) ⌝ }

@@ -1,11 +1,11 @@
 // Writes the header of a job file.
 ghost use Rattle.job_writer.specs.Answers.{WroteHeader};
 use crate::answer::HeaderWritten;
+use decimal_text::put_bytes;
 use job::header::MARK;
 use job_bytes::put::put_u16;
 use job_fields::version::Version;
 use job_fields::version::version_number;
-use text::put_bytes;
 
 // Writes the mark that reading looks for, and the version's number.
 pub fn write_header(out: &mut [u8], version: Version) -> HeaderWritten

@@ -1,8 +1,8 @@
 -- The text of points and indices in two lists. Assumes nothing.
 use Prim.Native.Nat.{ℕ, _*_, _/_, _≤_}
 use mathlib.Core.List.{List, _++_}
-use Rattle.text.specs.Heads.{drawnLine}
-use Rattle.text.specs.Lines.{rows}
+use Rattle.decimal_text.specs.Heads.{drawnLine}
+use Rattle.decimal_text.specs.Lines.{rows}
 
 -- the lines of P points and I indices: the counts, a line a point, a line a primitive of `width` indices
 abbrev pub listText : ℕ → List ℕ → List ℕ → ℕ → ℕ → List ℕ

@@ -18,7 +18,7 @@ pub fn put_mesh(
     requires { ⌜ at + (28 + 33 * points + 18 * (words / width)) ≤ length (now out) ⌝ }
     ensures { λ r. ⌜ Wrote (now (out .entry)) at (listText width (now (vertices .entry)) (now (indices .entry)) points words) (now (out .exit)) r ⌝ }
 {
-    let a = text::put_drawn(out, at, points, words);
-    let b = list_text::put_points(out, a, vertices, 0, points as usize);
-    list_text::put_primitives(out, b, indices, width, 0, words as usize / width)
+    let a = decimal_text::put_drawn(out, at, points, words);
+    let b = mesh_lines::put_points(out, a, vertices, 0, points as usize);
+    mesh_lines::put_primitives(out, b, indices, width, 0, words as usize / width)
 }

@@ -12,8 +12,8 @@ use Rattle.level.specs.Top.{Top, isTop}
 use Rattle.patch.specs.declared.kinds.Patch.{Patch}
 use Rattle.patch.specs.declared.settings.Settings.{Settings}
 use Rattle.patch.specs.Subdivide.{discards, subdivision}
-use Rattle.mesh.proofs.Words.{words-length}
-use Rattle.drawing.specs.Points.{points}
+use Rattle.mesh_geometry.proofs.Words.{words-length}
+use Rattle.patch_mesh.specs.Points.{points}
 use Rattle.tessellate.specs.declared.answer.PointsAnswer.{PointsAnswer}
 use Rattle.tessellate.specs.declared.answer.PointsAnswer.the-variants as points
 use Rattle.tessellate.specs.declared.answer.IndicesAnswer.{IndicesAnswer}
@@ -23,7 +23,7 @@ use Rattle.answer_codes.specs.Told.{Told, refused, drew}
 use Rattle.tessellate.specs.Draws.{DrewPoints, DrewIndices, pointWords, connectionWords}
 use Rattle.tessellate.proofs.Together.{drawn-means}
 use Rattle.level.proofs.Top.{top-as}
-use Rattle.text.specs.Heads.{discardedLine, refusedLine}
+use Rattle.decimal_text.specs.Heads.{discardedLine, refusedLine}
 use Rattle.mesh_text.specs.Widths.{widthOf}
 use Rattle.mesh_text.specs.Lists.{Mesh, listText}
 use Rattle.patch_text.specs.Room.{room, FullSize}

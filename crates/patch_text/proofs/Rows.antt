@@ -7,8 +7,8 @@ use native.Mathlib.Omega.{arith}
 use lib.ListN.{length, drop}
 use lib.Seq.{take-append-le}
 use Rattle.buffer.specs.Over.{over, flat}
-use Rattle.text.specs.Lines.{line, row, rows}
-use Rattle.text.proofs.Rows.{row-within}
+use Rattle.decimal_text.specs.Lines.{line, row, rows}
+use Rattle.decimal_text.proofs.Rows.{row-within}
 
 -- pieces that agree up to the last
 flat-agree : (f g : ℕ → List ℕ) (i k : ℕ) → ((j : ℕ) → j < i + k → f j ≡ g j) → flat f i k ≡ flat g i k

@@ -9,11 +9,11 @@ use Rattle.patch.specs.declared.kinds.Patch.{Patch}
 use Rattle.patch.specs.declared.kinds.Patch.the-variants.{Triangles, Quads, Isolines}
 use Rattle.patch.specs.declared.settings.Settings.{Settings}
 use Rattle.patch.specs.Subdivide.{subdivision}
-use Rattle.drawing.specs.Counts.{primitiveCount, countIn}
-use Rattle.drawing.proofs.Cases.{Cases, all-cases}
-use Rattle.drawing.proofs.Counts.{point-count, index-count}
-use Rattle.drawing.proofs.Sizes.{sizes-at-most, points-at-most, indices-at-most}
-use Rattle.drawing.proofs.Valid.{cut-valid}
+use Rattle.patch_mesh.specs.Counts.{primitiveCount, countIn}
+use Rattle.patch_mesh.proofs.Cases.{Cases, all-cases}
+use Rattle.patch_mesh.proofs.Counts.{point-count, index-count}
+use Rattle.patch_mesh.proofs.Sizes.{sizes-at-most, points-at-most, indices-at-most}
+use Rattle.patch_mesh.proofs.Valid.{cut-valid}
 use Rattle.tessellate.specs.Answers.{pointsOf, indicesOf}
 use Rattle.mesh_text.specs.Widths.{widthOf}
 use Rattle.patch_text.specs.Room.{room}

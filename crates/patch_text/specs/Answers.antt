@@ -9,8 +9,8 @@ use Rattle.patch.specs.declared.settings.Settings.{Settings}
 use Rattle.patch.specs.Subdivide.{discards}
 use Rattle.tessellate.specs.Answers.{pointsOf, indicesOf}
 use Rattle.tessellate.specs.Draws.{pointWords, connectionWords}
-use Rattle.text.specs.Heads.{discardedLine, refusedLine}
-use Rattle.text.specs.Lines.{rows}
+use Rattle.decimal_text.specs.Heads.{discardedLine, refusedLine}
+use Rattle.decimal_text.specs.Lines.{rows}
 use Rattle.mesh_text.specs.Widths.{widthOf}
 use Rattle.mesh_text.specs.Lists.{listText}
 

@@ -36,9 +36,9 @@ fn put_indexed(
             points,
             words,
         ),
-        IndicesAnswer::Discarded => text::put_discarded(out, at),
-        IndicesAnswer::NoRoomForIndices => text::put_refused(out, at, 4),
-        IndicesAnswer::BadTop => text::put_refused(out, at, 11),
+        IndicesAnswer::Discarded => decimal_text::put_discarded(out, at),
+        IndicesAnswer::NoRoomForIndices => decimal_text::put_refused(out, at, 4),
+        IndicesAnswer::BadTop => decimal_text::put_refused(out, at, 11),
     }
 }
 
@@ -65,8 +65,8 @@ pub fn put_patch(
             points,
             indices,
         ),
-        PointsAnswer::Discarded => text::put_discarded(out, at),
-        PointsAnswer::NoRoomForVertices => text::put_refused(out, at, 3),
-        PointsAnswer::BadTop => text::put_refused(out, at, 11),
+        PointsAnswer::Discarded => decimal_text::put_discarded(out, at),
+        PointsAnswer::NoRoomForVertices => decimal_text::put_refused(out, at, 3),
+        PointsAnswer::BadTop => decimal_text::put_refused(out, at, 11),
     }
 }

@@ -8,11 +8,11 @@ use native.Mathlib.Decide.{decLe}
 use native.Mathlib.Nat.{mod-lt}
 use lib.ListN.{length, getD, set, length-set, replicate}
 use lib.Seq.{getD-set-same, getD-set-other}
-use Rattle.mesh.specs.declared.Point.{Point}
-use Rattle.mesh.specs.Faces.{at}
-use Rattle.searches.specs.Points.{samePoint, repeats}
-use Rattle.searches.proofs.First.{some-none, some-here}
-use Rattle.searches.proofs.Equal.{same-is}
+use Rattle.mesh_geometry.specs.declared.Point.{Point}
+use Rattle.mesh_geometry.specs.Faces.{at}
+use Rattle.check_searches.specs.Points.{samePoint, repeats}
+use Rattle.check_searches.proofs.First.{some-none, some-here}
+use Rattle.check_searches.proofs.Equal.{same-is}
 use Rattle.point_table.specs.Trees.{slotOf, turned, restAfter, nextPlace, placeAt, Way, Held, PointTable, Sought}
 use Rattle.point_table.specs.Trees.Way.{steps}
 use Rattle.point_table.specs.Trees.Held.{held}

@@ -4,9 +4,9 @@ use mathlib.Core.Path.{_≡_}
 use mathlib.Core.Bool.{true, false}
 use mathlib.Core.List.{List}
 use lib.ListN.{length, getD}
-use Rattle.mesh.specs.declared.Point.{Point}
-use Rattle.mesh.specs.Faces.{at}
-use Rattle.searches.specs.Points.{samePoint}
+use Rattle.mesh_geometry.specs.declared.Point.{Point}
+use Rattle.mesh_geometry.specs.Faces.{at}
+use Rattle.check_searches.specs.Points.{samePoint}
 
 -- the slot of a point in a table of n slots; few points of a tessellated patch have the same slot
 unfoldable pub slotOf : ℕ → Point → ℕ

@@ -5,12 +5,12 @@
 ghost use mathlib.Core.Path.{_≡_};
 ghost use Prim.Native.Nat.{_+_, _*_, _/_, _%_, _≤_, _<_};
 ghost use lib.ListN.{length};
-ghost use Rattle.mesh.specs.Words.{readPoints};
-ghost use Rattle.searches.specs.Points.{firstRepeated};
+ghost use Rattle.mesh_geometry.specs.Words.{readPoints};
+ghost use Rattle.check_searches.specs.Points.{firstRepeated};
 ghost use Rattle.point_table.specs.Trees.{slotOf, turned, PointTable, Sought};
-use mesh::Point;
-use searches::point::lies_at;
-use searches::point::point_at;
+use check_searches::point::lies_at;
+use check_searches::point::point_at;
+use mesh_geometry::Point;
 
 // Returns the slot of a point, of `slots` slots.
 pub fn slot_of(p: Point, slots: usize) -> usize

@@ -14,10 +14,10 @@ use Rattle.strip.specs.Rule.{outerNext}
 use Rattle.strip.specs.Lines.{vertex, Follows}
 use Rattle.strip.specs.Strips.{strip}
 use Rattle.strip.proofs.Strips.{strip-follows, strip-same, words-length, indices-append}
-use Rattle.copies.proofs.Again.{wrote-again}
-use Rattle.cover.specs.Ring.{ringAt}
-use Rattle.cover.specs.Band.{from, Edge, bandFrom}
-use Rattle.cover.proofs.Ring.{ring-before}
+use Rattle.shifted_copies.proofs.Again.{wrote-again}
+use Rattle.mesh_topology.specs.Ring.{ringAt}
+use Rattle.mesh_topology.specs.Band.{from, Edge, bandFrom}
+use Rattle.mesh_topology.proofs.Ring.{ring-before}
 use Rattle.strip_blocks.specs.Blocks.{on}
 
 -- a strip between two lines, where the outer line follows F

@@ -7,10 +7,10 @@ use native.Mathlib.Omega.{arith}
 use lib.ListN.{length, length-append}
 use Rattle.strip.specs.Triangles.{corners, turned, indices}
 use Rattle.strip.proofs.Strips.{strip-length, indices-length, indices-append}
-use Rattle.cover.specs.Ring.{ringAt}
-use Rattle.cover.specs.Band.{bandFrom, band}
-use Rattle.cover.specs.Nest.{ringEdges, nest, count}
-use Rattle.cover.proofs.Length.{nest-length}
+use Rattle.mesh_topology.specs.Ring.{ringAt}
+use Rattle.mesh_topology.specs.Band.{bandFrom, band}
+use Rattle.mesh_topology.specs.Nest.{ringEdges, nest, count}
+use Rattle.mesh_topology.proofs.Length.{nest-length}
 
 -- the index words of one band
 abbrev pub bandWords : Bool → ℕ → ℕ → ℕ → ℕ → ℕ → List ℕ

@@ -6,9 +6,9 @@ use native.Mathlib.Omega.{arith}
 use Rattle.strip.specs.declared.line.Line.{Line}
 use Rattle.strip.specs.Lines.{Follows}
 use Rattle.strip.proofs.Lines.{follows-line}
-use Rattle.cover.specs.Ring.{ringAt}
-use Rattle.cover.specs.Band.{from}
-use Rattle.cover.proofs.Ring.{ring-point, ring-last}
+use Rattle.mesh_topology.specs.Ring.{ringAt}
+use Rattle.mesh_topology.specs.Band.{from}
+use Rattle.mesh_topology.proofs.Ring.{ring-point, ring-last}
 use Rattle.strip_blocks.specs.Blocks.{lineOf}
 
 -- a line along a ring has consecutive vertices, and ends at the ring's vertex there

@@ -3,11 +3,11 @@ ghost use Prim.Native.Nat.{_+_, _*_, _≤_, _<_};
 ghost use lib.ListN.{length};
 ghost use Rattle.buffer.specs.Over.{Wrote};
 ghost use Rattle.strip.specs.Triangles.{indices};
-ghost use Rattle.cover.specs.Ring.{ringAt};
-ghost use Rattle.cover.specs.Band.{band};
+ghost use Rattle.mesh_topology.specs.Ring.{ringAt};
+ghost use Rattle.mesh_topology.specs.Band.{band};
 ghost use mathlib.Core.Path.{_≡_};
 ghost use Rattle.strip_blocks.specs.Blocks.{patternOf};
-ghost use Rattle.cover.specs.Nest.{ringEdges, nest, count};
+ghost use Rattle.mesh_topology.specs.Nest.{ringEdges, nest, count};
 use crate::ring::Ring;
 use strip::triangle::Triangle;
 

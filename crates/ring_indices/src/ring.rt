@@ -6,8 +6,8 @@ ghost use Rattle.buffer.specs.Over.{Wrote};
 ghost use Rattle.strip.specs.Triangles.{indices};
 ghost use Rattle.strip.specs.Lines.{vertex, Follows};
 ghost use Rattle.strip.specs.Strips.{strip};
-ghost use Rattle.cover.specs.Band.{from};
-ghost use Rattle.cover.specs.Ring.{ringAt};
+ghost use Rattle.mesh_topology.specs.Band.{from};
+ghost use Rattle.mesh_topology.specs.Ring.{ringAt};
 use strip::line::Line;
 
 // `total` vertices, numbered from `base`; a ring with a total of 0 is the single vertex at the centre.

@@ -14,7 +14,7 @@ use Rattle.tessellate.specs.declared.answer.Size.the-variants.{Counts, Discarde
 use Rattle.tessellate.specs.Answers.{pointsOf, indicesOf}
 use Rattle.answer_codes.specs.Told.{Told}
 use Rattle.tessellate.proofs.Measured.{measured}
-use Rattle.shared_lists.specs.declared.state.Share.{Share}
+use Rattle.share_state.specs.declared.state.Share.{Share}
 use Rattle.share_answers.specs.Answers.{roomVerdict, partVerdict}
 
 -- both counts of a patch that is not discarded

@@ -8,12 +8,12 @@ use Rattle.patch.specs.declared.settings.Settings.{Settings}
 use Rattle.patch.specs.Subdivide.{discards}
 use Rattle.tessellate.specs.Answers.{pointsOf, indicesOf}
 use Rattle.answer_codes.specs.Told.{Told, refused, drewBoth}
-use Rattle.shared_lists.specs.declared.state.Designer.{Designer}
-use Rattle.shared_lists.specs.declared.state.State.{State}
+use Rattle.share_state.specs.declared.state.Designer.{Designer}
+use Rattle.share_state.specs.declared.state.State.{State}
 use Rattle.share_answers.specs.declared.answer.DrawAnswer.{DrawAnswer}
 use Rattle.share_answers.specs.declared.answer.DrawAnswer.the-variants as drawing
-use Rattle.shared_lists.specs.SharedList.{share, left}
-use Rattle.shared_lists.specs.Answers.{accepted}
+use Rattle.share_state.specs.SharedList.{share, left}
+use Rattle.share_state.specs.Answers.{accepted}
 
 -- the numbers of the answers
 abbrev pub toldDraw : DrawAnswer → Told

@@ -3,17 +3,17 @@ ghost use mathlib.Core.Path.{_≡_};
 ghost use Prim.Native.Nat.{_-_, _/_, _≤_};
 ghost use mathlib.Core.Bool.{true};
 ghost use Rattle.level.specs.Top.{isTop};
-ghost use Rattle.shared_lists.specs.SharedList.{left};
-ghost use Rattle.shared_lists.specs.Answers.{soundState};
+ghost use Rattle.share_state.specs.SharedList.{left};
+ghost use Rattle.share_state.specs.Answers.{soundState};
 ghost use Rattle.share_answers.specs.Answers.{toldDraw, pointsIn, roomVerdict, partVerdict, drawVerdict};
 use crate::answer::DrawAnswer;
 use patch::kinds::Patch;
 use patch::settings::Settings;
-use shared_lists::shared_list::accepts;
-use shared_lists::shared_list::share_of;
-use shared_lists::state::Designer;
-use shared_lists::state::Share;
-use shared_lists::state::State;
+use share_state::shared_list::accepts;
+use share_state::shared_list::share_of;
+use share_state::state::Designer;
+use share_state::state::Share;
+use share_state::state::State;
 use tessellate::answer::Size;
 
 // The answer for this many further points and indices, by the room in a part.

@@ -12,23 +12,23 @@ use lib.ListN.{length}
 use Rattle.level.specs.Top.{isTop}
 use Rattle.job_fields.specs.Settings.{firstUnknown}
 use Rattle.answer_codes.specs.Told.{Told, refused}
-use Rattle.replies.specs.Replies.{unknownSetting, badTop, twoWords}
-use Rattle.requests.specs.Inputs.{topIn, patchIn, settingsIn}
-use Rattle.shared_lists.specs.declared.state.Designer.{Designer}
-use Rattle.shared_lists.specs.declared.state.State.{State}
-use Rattle.shared_lists.specs.Answers.{done, accepted, lent, soundState, clearVerdict}
-use Rattle.shared_lists.specs.Operations.{unlessRefused, clearedState}
-use Rattle.shared_lists.proofs.Sound.{and-true, state-test}
+use Rattle.call_answers.specs.Replies.{unknownSetting, badTop, twoWords}
+use Rattle.call_inputs.specs.Inputs.{topIn, patchIn, settingsIn}
+use Rattle.share_state.specs.declared.state.Designer.{Designer}
+use Rattle.share_state.specs.declared.state.State.{State}
+use Rattle.share_state.specs.Answers.{done, accepted, lent, soundState, clearVerdict}
+use Rattle.share_state.specs.Operations.{unlessRefused, clearedState}
+use Rattle.share_state.proofs.Sound.{and-true, state-test}
 use Rattle.share_answers.specs.Answers.{drawVerdict}
-use Rattle.shares.specs.Operations.{drawnState}
+use Rattle.share_draw.specs.Operations.{drawnState}
 use Rattle.share_words.specs.Words.{stateIn, stateWords, designerOf}
 use Rattle.share_exports.specs.Calls.{unknownDesigner, asked, drawSays, clearSays}
 use Rattle.share_exports.proofs.Calls.{asked-none, asked-some}
-use Rattle.share_runs.specs.Session.{Session, OwnState, View, same, ownState, answerTo, served}
-use Rattle.share_runs.specs.Session as runs
-use Rattle.share_runs.proofs.OwnState.{callAnswer, ownStateNext, viewNext}
-use Rattle.share_runs.proofs.Step.{Good, good-next, length-next, other-next, own-answer, own-next, own-state-next}
-use Rattle.share_runs.proofs.Runs.{session-of}
+use Rattle.share_isolation.specs.Session.{Session, OwnState, View, same, ownState, answerTo, served}
+use Rattle.share_isolation.specs.Session as runs
+use Rattle.share_isolation.proofs.OwnState.{callAnswer, ownStateNext, viewNext}
+use Rattle.share_isolation.proofs.Step.{Good, good-next, length-next, other-next, own-answer, own-next, own-state-next}
+use Rattle.share_isolation.proofs.Runs.{session-of}
 use Rattle.share_calls.specs.Run.{Request, draw, clear, Call, Memory, Answered, SameLists, Made, drew, cleared, sessionIn}
 
 -- the operation's call

@@ -5,10 +5,10 @@ use mathlib.Core.List.{List}
 use lib.Ieee.{Float}
 use lib.ListN.{length}
 use Rattle.answer_codes.specs.Told.{Told}
-use Rattle.replies.specs.Replies.{twoWords}
-use Rattle.requests.specs.Inputs.{patchIn, settingsIn}
-use Rattle.shared_lists.specs.Operations.{unlessRefused}
-use Rattle.shares.specs.Operations.{drawnState}
+use Rattle.call_answers.specs.Replies.{twoWords}
+use Rattle.call_inputs.specs.Inputs.{patchIn, settingsIn}
+use Rattle.share_state.specs.Operations.{unlessRefused}
+use Rattle.share_draw.specs.Operations.{drawnState}
 use Rattle.share_words.specs.Words.{stateIn, stateWords, designerOf}
 use Rattle.share_exports.specs.Calls.{drawSays, DrawCalled}
 

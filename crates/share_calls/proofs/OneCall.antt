@@ -15,32 +15,32 @@ use Rattle.patch.specs.Subdivide.{subdivision}
 use Rattle.level.specs.Top.{isTop}
 use Rattle.job_fields.specs.Settings.{choices, firstUnknown, AllBelow}
 use Rattle.job_fields.proofs.Limits.{first-none}
-use Rattle.drawing.specs.Points.{points}
-use Rattle.mesh.specs.Words.{readPoints}
-use Rattle.drawing.specs.Demand.{Demand}
-use Rattle.drawing.specs.Inside.{SpotsOnce}
-use Rattle.mesh.proofs.ReadBack.{read-points}
+use Rattle.patch_mesh.specs.Points.{points}
+use Rattle.mesh_geometry.specs.Words.{readPoints}
+use Rattle.patch_mesh.specs.Demand.{Demand}
+use Rattle.patch_mesh.specs.Inside.{SpotsOnce}
+use Rattle.mesh_geometry.proofs.ReadBack.{read-points}
 use Rattle.tessellate.specs.Answers.{pointsOf, indicesOf}
 use Rattle.answer_codes.specs.Told.{Told, refused, drewBoth}
 use Rattle.tessellate.specs.Draws.{pointWords, connectionWords}
 use Rattle.level.proofs.Top.{top-as}
-use Rattle.replies.specs.Replies.{unknownSetting, badTop, twoWords}
-use Rattle.requests.specs.Inputs.{topIn, patchIn, settingsIn}
-use Rattle.shared_lists.specs.declared.state.Designer.{Designer}
-use Rattle.shared_lists.specs.declared.state.State.{State}
-use Rattle.shared_lists.specs.SharedList.{firstFree, left}
-use Rattle.shared_lists.specs.Answers.{done, accepted}
-use Rattle.shares.specs.declared.answer.DrawResult.{DrawResult}
+use Rattle.call_answers.specs.Replies.{unknownSetting, badTop, twoWords}
+use Rattle.call_inputs.specs.Inputs.{topIn, patchIn, settingsIn}
+use Rattle.share_state.specs.declared.state.Designer.{Designer}
+use Rattle.share_state.specs.declared.state.State.{State}
+use Rattle.share_state.specs.SharedList.{firstFree, left}
+use Rattle.share_state.specs.Answers.{done, accepted}
+use Rattle.share_draw.specs.declared.answer.DrawResult.{DrawResult}
 use Rattle.share_answers.specs.declared.answer.DrawAnswer.the-variants.{Drawn}
 use Rattle.share_answers.specs.Answers.{toldDraw, roomVerdict, partVerdict, verdict, drawVerdict, pointsIn}
-use Rattle.shares.specs.Operations.{newIndices, drawnState, DidDraw}
+use Rattle.share_draw.specs.Operations.{newIndices, drawnState, DidDraw}
 use Rattle.share_answers.proofs.Passed.{passed}
-use Rattle.shares.proofs.Counts.{point-words, index-words}
-use Rattle.shares.proofs.Drawn.{Ready, ready}
+use Rattle.share_draw.proofs.Counts.{point-words, index-words}
+use Rattle.share_draw.proofs.Drawn.{Ready, ready}
 use Rattle.share_words.specs.Words.{stateIn, designerOf}
 use Rattle.share_exports.specs.Calls.{unknownDesigner, asked, DrawCalled}
 use Rattle.share_exports.proofs.Calls.{asked-none, asked-some}
-use Rattle.share_runs.proofs.OneCall.{lowered, written, one-call, once-call}
+use Rattle.share_isolation.proofs.OneCall.{lowered, written, one-call, once-call}
 use Rattle.third_demand.specs.Written.{drawnPoints}
 use Rattle.third_demand.proofs.AllPoints.{AllPoints}
 

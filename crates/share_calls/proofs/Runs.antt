@@ -7,17 +7,17 @@ use native.Mathlib.Omega.{arith}
 use lib.Dec.{eqb}
 use lib.ListN.{length}
 use Rattle.answer_codes.specs.Told.{Told, refused}
-use Rattle.shared_lists.specs.declared.state.State.{State}
-use Rattle.shared_lists.specs.Answers.{done, quotasFit}
-use Rattle.shared_lists.specs.Operations.{startState}
+use Rattle.share_state.specs.declared.state.State.{State}
+use Rattle.share_state.specs.Answers.{done, quotasFit}
+use Rattle.share_state.specs.Operations.{startState}
 use Rattle.share_words.specs.Words.{stateIn, quotaIn, designerOf}
-use Rattle.share_runs.specs.Session.{Session, OwnState, View, ownState, begun}
-use Rattle.share_runs.specs.Session as runs
-use Rattle.share_runs.proofs.Step.{Good}
-use Rattle.share_runs.proofs.Isolation.{begun-good, start-own-state}
+use Rattle.share_isolation.specs.Session.{Session, OwnState, View, ownState, begun}
+use Rattle.share_isolation.specs.Session as runs
+use Rattle.share_isolation.proofs.Step.{Good}
+use Rattle.share_isolation.proofs.Isolation.{begun-good, start-own-state}
 use Rattle.share_calls.specs.Run.{Call, Memory, Answered, Begun, begin, Made, Ran, callsOf, answersOf, sessionIn, view, quotaOf}
-use Rattle.share_runs.specs.Steps.{those, after, replies}
-use Rattle.share_runs.proofs.Steps.{Played, ran-is, those-twice, kept-after, seen, answered}
+use Rattle.share_isolation.specs.Steps.{those, after, replies}
+use Rattle.share_isolation.proofs.Steps.{Played, ran-is, those-twice, kept-after, seen, answered}
 use Rattle.share_calls.proofs.Calls.{reply, step, ownReply, ownStep, viewStep, good-step, length-step, own-reply, own-step, own-view, other-view, made-is}
 
 -- a run of calls is what the steps give

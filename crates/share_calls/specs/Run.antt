@@ -6,14 +6,14 @@ use mathlib.Core.List.{List, []}
 use lib.Dec.{eqb}
 use lib.Ieee.{Float}
 use lib.ListN.{length}
-use Rattle.shared_lists.specs.declared.state.Quota.{Quota}
-use Rattle.shared_lists.specs.Operations.{unlessRefused}
+use Rattle.share_state.specs.declared.state.Quota.{Quota}
+use Rattle.share_state.specs.Operations.{unlessRefused}
 use Rattle.share_words.specs.Words.{stateIn, quotaIn, designerOf}
 use Rattle.share_exports.specs.Calls.{DrawCalled, StartCalled, ClearCalled}
-use Rattle.share_runs.specs.Steps.{those}
-use Rattle.share_runs.specs.Steps as steps
-use Rattle.share_runs.specs.Session.{Session, View}
-use Rattle.share_runs.specs.Session as session
+use Rattle.share_isolation.specs.Steps.{those}
+use Rattle.share_isolation.specs.Steps as steps
+use Rattle.share_isolation.specs.Session.{Session, View}
+use Rattle.share_isolation.specs.Session as session
 
 -- what a call after the start asks for: drawing, with six setting bytes and six levels, or clearing
 pub data Request : Type 0 where

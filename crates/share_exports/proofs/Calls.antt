@@ -13,22 +13,22 @@ use Rattle.patch.specs.declared.kinds.Patch.{Patch}
 use Rattle.patch.specs.declared.settings.Settings.{Settings}
 use Rattle.job_fields.specs.Settings.{firstUnknown}
 use Rattle.answer_codes.specs.Told.{Told, refused}
-use Rattle.replies.specs.declared.reply.Reply.{Reply}
-use Rattle.replies.specs.Replies.{Tells, unknownSetting, badTop}
-use Rattle.replies.proofs.Replies.{said-two, says-as}
-use Rattle.requests.specs.Inputs.{topIn, patchIn, settingsIn}
-use Rattle.shared_lists.specs.declared.state.Designer.{Designer}
-use Rattle.shared_lists.specs.declared.state.Quota.{Quota}
-use Rattle.shared_lists.specs.declared.state.State.{State}
-use Rattle.shared_lists.specs.declared.answer.StartAnswer.{StartAnswer}
-use Rattle.shared_lists.specs.declared.answer.StartAnswer.the-variants as starting
-use Rattle.shared_lists.specs.declared.answer.StartAnswer.the-variants.{QuotasTooLarge}
-use Rattle.shares.specs.declared.answer.DrawResult.{DrawResult}
-use Rattle.shared_lists.specs.declared.answer.ClearResult.{ClearResult}
-use Rattle.shared_lists.specs.Answers.{done, toldStart, toldClear, quotasFit, accepted, clearVerdict}
+use Rattle.call_answers.specs.declared.reply.Reply.{Reply}
+use Rattle.call_answers.specs.Replies.{Tells, unknownSetting, badTop}
+use Rattle.call_answers.proofs.Replies.{said-two, says-as}
+use Rattle.call_inputs.specs.Inputs.{topIn, patchIn, settingsIn}
+use Rattle.share_state.specs.declared.state.Designer.{Designer}
+use Rattle.share_state.specs.declared.state.Quota.{Quota}
+use Rattle.share_state.specs.declared.state.State.{State}
+use Rattle.share_state.specs.declared.answer.StartAnswer.{StartAnswer}
+use Rattle.share_state.specs.declared.answer.StartAnswer.the-variants as starting
+use Rattle.share_state.specs.declared.answer.StartAnswer.the-variants.{QuotasTooLarge}
+use Rattle.share_draw.specs.declared.answer.DrawResult.{DrawResult}
+use Rattle.share_state.specs.declared.answer.ClearResult.{ClearResult}
+use Rattle.share_state.specs.Answers.{done, toldStart, toldClear, quotasFit, accepted, clearVerdict}
 use Rattle.share_answers.specs.Answers.{toldDraw, drawVerdict}
-use Rattle.shared_lists.specs.Operations.{unlessRefused, startState, clearedState, DidStart, DidClear}
-use Rattle.shares.specs.Operations.{drawnState, DidDraw}
+use Rattle.share_state.specs.Operations.{unlessRefused, startState, clearedState, DidStart, DidClear}
+use Rattle.share_draw.specs.Operations.{drawnState, DidDraw}
 use Rattle.share_words.specs.Words.{stateIn, stateWords, quotaIn, designerOf}
 use Rattle.share_exports.specs.Calls.{unknownDesigner, asked, Called, DrawAsked, DrawCalled, Started, StartCalled, clearSays, Cleared, ClearCalled}
 

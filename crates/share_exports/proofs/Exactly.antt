@@ -18,13 +18,13 @@ use Rattle.job_fields.proofs.Limits.{first-is, first-none, first-all}
 use Rattle.tessellate.specs.Answers.{pointsOf, indicesOf}
 use Rattle.answer_codes.specs.Told.{Told, refused, drewBoth}
 use Rattle.level.proofs.Top.{top-as, is-top, no-top, top-no}
-use Rattle.replies.specs.Replies.{unknownSetting, badTop, twoWords}
-use Rattle.requests.specs.Inputs.{topIn, patchIn, settingsIn}
+use Rattle.call_answers.specs.Replies.{unknownSetting, badTop, twoWords}
+use Rattle.call_inputs.specs.Inputs.{topIn, patchIn, settingsIn}
 use Rattle.answer_codes.specs.Reports.{Reports}
 use Rattle.answer_codes.proofs.Exactly.{answered-exactly}
-use Rattle.shared_lists.specs.declared.state.Quota.{Quota}
-use Rattle.shared_lists.specs.SharedList.{left}
-use Rattle.shared_lists.specs.Answers.{done, quotasFit, accepted}
+use Rattle.share_state.specs.declared.state.Quota.{Quota}
+use Rattle.share_state.specs.SharedList.{left}
+use Rattle.share_state.specs.Answers.{done, quotasFit, accepted}
 use Rattle.share_answers.specs.declared.answer.DrawAnswer.the-variants as drawing
 use Rattle.share_answers.specs.Answers.{roomVerdict, partVerdict, verdict, pointsIn}
 use Rattle.share_words.specs.Words.{stateIn, quotaIn, designerOf}

@@ -13,16 +13,16 @@ use Rattle.patch.specs.declared.settings.Settings.{Settings}
 use Rattle.job_fields.specs.Settings.{firstUnknown}
 use Rattle.answer_codes.specs.Told.{Told, refused}
 use Rattle.tessellate.specs.Draws.{pointWords}
-use Rattle.replies.specs.Replies.{unknownSetting, badTop, twoWords, Says}
-use Rattle.requests.specs.Inputs.{topIn, patchIn, settingsIn}
-use Rattle.shared_lists.specs.declared.state.Designer.{Designer}
-use Rattle.shared_lists.specs.declared.state.Quota.{Quota}
-use Rattle.shared_lists.specs.declared.state.State.{State}
-use Rattle.shared_lists.specs.SharedList.{appended}
-use Rattle.shared_lists.specs.Answers.{done, accepted, startVerdict}
+use Rattle.call_answers.specs.Replies.{unknownSetting, badTop, twoWords, Says}
+use Rattle.call_inputs.specs.Inputs.{topIn, patchIn, settingsIn}
+use Rattle.share_state.specs.declared.state.Designer.{Designer}
+use Rattle.share_state.specs.declared.state.Quota.{Quota}
+use Rattle.share_state.specs.declared.state.State.{State}
+use Rattle.share_state.specs.SharedList.{appended}
+use Rattle.share_state.specs.Answers.{done, accepted, startVerdict}
 use Rattle.share_answers.specs.Answers.{drawVerdict}
-use Rattle.shared_lists.specs.Operations.{unlessRefused, startState, clearedState}
-use Rattle.shares.specs.Operations.{newIndices, drawnState}
+use Rattle.share_state.specs.Operations.{unlessRefused, startState, clearedState}
+use Rattle.share_draw.specs.Operations.{newIndices, drawnState}
 use Rattle.share_words.specs.Words.{stateIn, stateWords, quotaIn, designerOf}
 
 -- answer 15: the designer is neither 0 nor 1

@@ -11,12 +11,12 @@ use Rattle.patch.specs.Subdivide.{discards}
 use Rattle.job_fields.specs.Settings.{choices, FirstOver, AllBelow}
 use Rattle.tessellate.specs.Answers.{pointsOf, indicesOf}
 use Rattle.answer_codes.specs.Told.{Told}
-use Rattle.replies.specs.Replies.{unknownSetting, twoWords}
-use Rattle.requests.specs.Inputs.{topIn, patchIn, settingsIn}
+use Rattle.call_answers.specs.Replies.{unknownSetting, twoWords}
+use Rattle.call_inputs.specs.Inputs.{topIn, patchIn, settingsIn}
 use Rattle.answer_codes.specs.Reports.{AnsweredExactly}
-use Rattle.shared_lists.specs.declared.state.Quota.{Quota}
-use Rattle.shared_lists.specs.SharedList.{left}
-use Rattle.shared_lists.specs.Answers.{accepted}
+use Rattle.share_state.specs.declared.state.Quota.{Quota}
+use Rattle.share_state.specs.SharedList.{left}
+use Rattle.share_state.specs.Answers.{accepted}
 use Rattle.share_answers.specs.declared.answer.DrawAnswer.{DrawAnswer}
 use Rattle.share_answers.specs.declared.answer.DrawAnswer.the-variants as drawing
 use Rattle.share_answers.specs.Answers.{toldDraw, pointsIn}

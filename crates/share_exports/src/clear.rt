@@ -15,13 +15,13 @@ pub extern "C" fn yoktvarim_share_clear(
     ensures { λ r. ⌜ ClearCalled designer (length (now (vertices .entry))) (length (now (indices .entry))) (now (state .entry)) (now (state .exit)) r ⌝ }
 {
     let shared = state_in(state);
-    if !shared_lists::shared_list::accepts(shared, vertices.len(), indices.len()) {
+    if !share_state::shared_list::accepts(shared, vertices.len(), indices.len()) {
         return 14;
     }
     if 1 < designer {
         return 15;
     }
-    let result = shared_lists::clear::clear(shared, designer_of(designer), vertices, indices);
+    let result = share_state::clear::clear(shared, designer_of(designer), vertices, indices);
     let next = result.state;
     *state = words_of(next);
     0

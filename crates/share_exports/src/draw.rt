@@ -1,32 +1,32 @@
 // Drawing into a designer's part.
 ghost use lib.ListN.{length};
-ghost use Rattle.replies.specs.Replies.{Tells};
-ghost use Rattle.shared_lists.specs.Answers.{done, accepted};
+ghost use Rattle.call_answers.specs.Replies.{Tells};
+ghost use Rattle.share_state.specs.Answers.{done, accepted};
 ghost use Rattle.share_answers.specs.Answers.{drawVerdict};
 ghost use Rattle.share_exports.specs.Calls.{asked, DrawCalled, Called};
+use call_answers::reply::Reply;
+use call_answers::reply::bad_top;
+use call_answers::reply::refusal;
+use call_answers::reply::say_two;
+use call_answers::reply::unknown_setting;
 use patch::kinds::Patch;
 use patch::settings::Settings;
-use replies::reply::Reply;
-use replies::reply::bad_top;
-use replies::reply::refusal;
-use replies::reply::say_two;
-use replies::reply::unknown_setting;
+use share_state::state::Designer;
+use share_state::state::State;
 use share_words::reply::of_draw;
 use share_words::words::designer_of;
 use share_words::words::keep;
 use share_words::words::state_in;
-use shared_lists::state::Designer;
-use shared_lists::state::State;
 
 // What stands against a call before its patch is looked at; the number 0 where nothing does.
 fn objection(state: State, designer: u32, settings: &[u8; 6], v: usize, i: usize) -> Reply
     ensures { λ r. ⌜ Tells (asked (now (settings .entry)) designer (accepted v i state) done) r ⌝ }
 {
-    let top = requests::input::top_in(settings);
+    let top = call_inputs::input::top_in(settings);
     if !level::is_top(top) {
         return bad_top();
     }
-    if !shared_lists::shared_list::accepts(state, v, i) {
+    if !share_state::shared_list::accepts(state, v, i) {
         return refusal(14);
     }
     if 1 < designer {
@@ -52,7 +52,7 @@ fn draw_known(
 ) -> u32
     ensures { λ r. ⌜ Called (drawVerdict designer state settings patch (length (now (vertices .entry))) (length (now (indices .entry)))) designer state settings patch (now (words .entry)) (now (words .exit)) (now (vertices .entry)) (now (vertices .exit)) (now (indices .entry)) (now (indices .exit)) (now (counts .exit)) r ⌝ }
 {
-    let result = shares::draw::draw(state, designer, patch, settings, vertices, indices);
+    let result = share_draw::draw::draw(state, designer, patch, settings, vertices, indices);
     let answer = result.answer;
     let reply = of_draw(answer);
     let next = result.state;
@@ -77,12 +77,12 @@ pub extern "C" fn yoktvarim_share_draw(
     if 0 < why.number {
         return say_two(why, counts);
     }
-    let top = requests::input::top_in(settings);
+    let top = call_inputs::input::top_in(settings);
     draw_known(
         state,
         shared,
         designer_of(designer),
-        requests::input::patch_in(settings, levels),
+        call_inputs::input::patch_in(settings, levels),
         job_fields::setting::read_settings(settings, 0, top),
         vertices,
         indices,

@@ -4,7 +4,7 @@
 //             words, and the second's. Starting fills them, drawing and clearing change them; whatever is not 0 leaves them as they were
 //   quotas    four words: the first designer's quota of vertex words and of index words, and the second's
 //   designer  0 or 1
-// Settings, levels and counts are those of `exports`. The answer is its number: 0 started, drawn or cleared, 1 discarded, 3 and 4 too
+// Settings, levels and counts are those of `draw_exports`. The answer is its number: 0 started, drawn or cleared, 1 discarded, 3 and 4 too
 // little left of this quota, 8 unknown setting, 11 bad top, 12 quotas too large, 13 too many points, 14 bad state, 15 unknown designer.
 pub mod clear;
 pub mod draw;

@@ -1,9 +1,9 @@
 // Starting: both designers' quotas, or their refusal as a whole.
 ghost use lib.ListN.{length};
 ghost use Rattle.share_exports.specs.Calls.{StartCalled};
+use share_state::answer::StartAnswer;
 use share_words::words::quota_in;
 use share_words::words::words_of;
-use shared_lists::answer::StartAnswer;
 
 #[no_mangle]
 pub extern "C" fn yoktvarim_share_start(
@@ -16,7 +16,7 @@ pub extern "C" fn yoktvarim_share_start(
 {
     let first = quota_in(quotas, 0);
     let second = quota_in(quotas, 2);
-    match shared_lists::start::start(vertices, indices, first, second) {
+    match share_state::start::start(vertices, indices, first, second) {
         StartAnswer::Started { state: begun } => {
             *state = words_of(begun);
             0

@@ -4,11 +4,11 @@ use mathlib.Core.Bool.{cond}
 use mathlib.Core.List.{List, [], _∷_}
 use lib.Dec.{eqb}
 use lib.ListN.{getD}
-use Rattle.shared_lists.specs.declared.state.Designer.{Designer}
-use Rattle.shared_lists.specs.declared.state.Designer.the-variants.{First, Second}
-use Rattle.shared_lists.specs.declared.state.SharedList.{SharedList}
-use Rattle.shared_lists.specs.declared.state.Quota.{Quota}
-use Rattle.shared_lists.specs.declared.state.State.{State}
+use Rattle.share_state.specs.declared.state.Designer.{Designer}
+use Rattle.share_state.specs.declared.state.Designer.the-variants.{First, Second}
+use Rattle.share_state.specs.declared.state.SharedList.{SharedList}
+use Rattle.share_state.specs.declared.state.Quota.{Quota}
+use Rattle.share_state.specs.declared.state.State.{State}
 
 -- a shared list from its five words at k: its length, then quota and used words of each designer
 abbrev pub listIn : List ℕ → ℕ → SharedList

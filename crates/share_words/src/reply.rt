@@ -1,10 +1,10 @@
 // Answers as numbers.
-ghost use Rattle.replies.specs.Replies.{Tells};
+ghost use Rattle.call_answers.specs.Replies.{Tells};
 ghost use Rattle.share_answers.specs.Answers.{toldDraw};
-use replies::reply::Reply;
-use replies::reply::bad_top;
-use replies::reply::refusal;
-use replies::reply::success;
+use call_answers::reply::Reply;
+use call_answers::reply::bad_top;
+use call_answers::reply::refusal;
+use call_answers::reply::success;
 use share_answers::answer::DrawAnswer;
 
 pub fn of_draw(answer: DrawAnswer) -> Reply

@@ -3,11 +3,11 @@ ghost use mathlib.Core.Path.{_≡_};
 ghost use mathlib.Core.Bool.{cond};
 ghost use Prim.Native.Nat.{_≤_};
 ghost use Rattle.share_words.specs.Words.{listIn, stateIn, quotaIn, stateWords, designerOf};
-use shared_lists::state::Designer;
-use shared_lists::state::Quota;
-use shared_lists::state::Share;
-use shared_lists::state::SharedList;
-use shared_lists::state::State;
+use share_state::state::Designer;
+use share_state::state::Quota;
+use share_state::state::Share;
+use share_state::state::SharedList;
+use share_state::state::State;
 
 fn length_of(word: u64) -> usize
     ensures { λ r. ⌜ r ≡ word ⌝ }

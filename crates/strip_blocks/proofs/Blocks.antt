@@ -15,9 +15,9 @@ use Rattle.strip.specs.Strips.{stepTriangle, strip}
 use Rattle.strip.proofs.Lines.{at-more}
 use Rattle.strip.specs.Rule.{outerNext}
 use Rattle.strip.proofs.Strips.{indices-length, words-length}
-use Rattle.copies.proofs.Again.{drop-all, wrote-again, flat-moved}
-use Rattle.copies.specs.Copies.{shifted, copy}
-use Rattle.copies.proofs.Shifts.{shifted-twice, shifted-length, shifted-append, flat-split, flat-below, flat-shifted}
+use Rattle.shifted_copies.proofs.Again.{drop-all, wrote-again, flat-moved}
+use Rattle.shifted_copies.specs.Copies.{shifted, copy}
+use Rattle.shifted_copies.proofs.Shifts.{shifted-twice, shifted-length, shifted-append, flat-split, flat-below, flat-shifted}
 use Rattle.strip_pairs.specs.Pairs.{pair, pairWords}
 use Rattle.strip_pairs.proofs.Pairs.{pairs-length, alternates, halves}
 use Rattle.strip_blocks.specs.Blocks.{on, pairOn, patternOf, lineOf}

@@ -6,7 +6,7 @@ ghost use mathlib.Core.List.{[], _∷_, _++_};
 ghost use Prim.Native.Nat.{_+_, _*_, _≤_, _<_};
 ghost use lib.ListN.{length};
 ghost use Rattle.buffer.specs.Over.{Wrote, flat};
-ghost use Rattle.copies.specs.Copies.{shifted, copy};
+ghost use Rattle.shifted_copies.specs.Copies.{shifted, copy};
 ghost use Rattle.strip.specs.Triangles.{indices};
 ghost use Rattle.strip.specs.Lines.{vertex};
 ghost use Rattle.strip.specs.Strips.{strip, stepTriangle};

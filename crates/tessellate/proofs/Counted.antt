@@ -11,14 +11,14 @@ use Rattle.patch.specs.declared.settings.Settings.{Settings}
 use Rattle.patch.specs.declared.subdivision.Subdivision.{Subdivision}
 use Rattle.patch.specs.Subdivide.{discards, subdivision, isDiscarded}
 use Rattle.patch.proofs.Discarded.{discarded-cut}
-use Rattle.drawing.specs.Points.{points}
-use Rattle.drawing.specs.Counts.{pointCount, countIn}
-use Rattle.drawing.specs.Valid.{ValidCut}
-use Rattle.drawing.proofs.Counts.{point-count, index-count}
-use Rattle.drawing.proofs.Sizes.{points-at-most}
-use Rattle.drawing.proofs.Valid.{cut-valid}
+use Rattle.patch_mesh.specs.Points.{points}
+use Rattle.patch_mesh.specs.Counts.{pointCount, countIn}
+use Rattle.patch_mesh.specs.Valid.{ValidCut}
+use Rattle.patch_mesh.proofs.Counts.{point-count, index-count}
+use Rattle.patch_mesh.proofs.Sizes.{points-at-most}
+use Rattle.patch_mesh.proofs.Valid.{cut-valid}
 use Rattle.tessellate.specs.Answers.{pointsOf, indicesOf}
-use Rattle.cut_patch.proofs.Cuts.{valid-as}
+use Rattle.patch_writer.proofs.Cuts.{valid-as}
 
 module _ (set : Settings) (top : Top (set .top)) (p : Patch) (c : Subdivision) (is : c ≡ subdivision (set .spacing) (set .top) p) where
   -- every edge has an n and L that an edge can have

@@ -12,9 +12,9 @@ use Rattle.patch.specs.declared.kinds.Patch.{Patch}
 use Rattle.patch.specs.declared.settings.Settings.{Settings}
 use Rattle.patch.specs.declared.subdivision.Subdivision.{Subdivision}
 use Rattle.patch.specs.Subdivide.{discards, subdivision}
-use Rattle.drawing.specs.Points.{points}
-use Rattle.drawing.specs.Counts.{pointCount, countIn}
-use Rattle.drawing.specs.Valid.{ValidCut}
+use Rattle.patch_mesh.specs.Points.{points}
+use Rattle.patch_mesh.specs.Counts.{pointCount, countIn}
+use Rattle.patch_mesh.specs.Valid.{ValidCut}
 use Rattle.tessellate.specs.declared.cut.Cut.{Cut}
 use Rattle.tessellate.specs.declared.cut.Cut.the-variants.{BadTop, Discarded, Ready}
 use Rattle.tessellate.specs.Answers.{pointsOf, indicesOf, verdict}

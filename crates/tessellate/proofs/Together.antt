@@ -14,16 +14,16 @@ use Rattle.level.specs.Top.{Top, isTop}
 use Rattle.patch.specs.declared.kinds.Patch.{Patch}
 use Rattle.patch.specs.declared.settings.Settings.{Settings}
 use Rattle.patch.specs.Subdivide.{discards, subdivision}
-use Rattle.mesh.proofs.Words.{words-length}
-use Rattle.drawing.specs.Points.{points}
-use Rattle.mesh.specs.Words.{readPoints}
-use Rattle.drawing.specs.Demand.{Demand}
-use Rattle.drawing.specs.Inside.{SpotsOnce}
-use Rattle.drawing.specs.Kept.{Alike}
-use Rattle.mesh.proofs.ReadBack.{read-points}
-use Rattle.drawing.proofs.Demand.{demand}
-use Rattle.drawing.proofs.Once.{demand-once}
-use Rattle.drawing.proofs.Kept.{kept-connections}
+use Rattle.mesh_geometry.proofs.Words.{words-length}
+use Rattle.patch_mesh.specs.Points.{points}
+use Rattle.mesh_geometry.specs.Words.{readPoints}
+use Rattle.patch_mesh.specs.Demand.{Demand}
+use Rattle.patch_mesh.specs.Inside.{SpotsOnce}
+use Rattle.patch_mesh.specs.Kept.{Alike}
+use Rattle.mesh_geometry.proofs.ReadBack.{read-points}
+use Rattle.patch_mesh.proofs.Demand.{demand}
+use Rattle.patch_mesh.proofs.Once.{demand-once}
+use Rattle.patch_mesh.proofs.Kept.{kept-connections}
 use Rattle.tessellate.specs.declared.answer.PointsAnswer.{PointsAnswer}
 use Rattle.tessellate.specs.declared.answer.IndicesAnswer.{IndicesAnswer}
 use Rattle.tessellate.specs.Answers.{toldPoints, toldIndices, pointsOf, indicesOf, verdict}

@@ -11,8 +11,8 @@ use Rattle.patch.specs.declared.settings.Settings.{Settings}
 use Rattle.patch.specs.Subdivide.{discards, subdivision}
 use Rattle.level_clamps.specs.Clamps.{clampsOf}
 use Rattle.level_clamps.specs.Numbers.{clampNumbers}
-use Rattle.drawing.specs.Points.{points}
-use Rattle.drawing.specs.Primitives.{indexWords}
+use Rattle.patch_mesh.specs.Points.{points}
+use Rattle.patch_mesh.specs.Primitives.{indexWords}
 use Rattle.answer_codes.specs.Told.{Told, refused, drew}
 use Rattle.tessellate.specs.declared.answer.PointsAnswer.{PointsAnswer}
 use Rattle.tessellate.specs.declared.answer.PointsAnswer.the-variants as points

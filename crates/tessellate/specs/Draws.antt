@@ -6,9 +6,9 @@ use lib.ListN.{length}
 use Rattle.patch.specs.declared.kinds.Patch.{Patch}
 use Rattle.patch.specs.declared.settings.Settings.{Settings}
 use Rattle.patch.specs.Subdivide.{subdivision}
-use Rattle.mesh.specs.Words.{vertexWords}
-use Rattle.drawing.specs.Points.{points}
-use Rattle.drawing.specs.Primitives.{indexWords}
+use Rattle.mesh_geometry.specs.Words.{vertexWords}
+use Rattle.patch_mesh.specs.Points.{points}
+use Rattle.patch_mesh.specs.Primitives.{indexWords}
 use Rattle.answer_codes.specs.Drew.{Drew}
 use Rattle.tessellate.specs.declared.answer.PointsAnswer.{PointsAnswer}
 use Rattle.tessellate.specs.declared.answer.IndicesAnswer.{IndicesAnswer}

@@ -15,11 +15,11 @@ pub fn draw_points(patch: Patch, settings: Settings, vertices: &mut [u32]) -> Po
         Cut::BadTop => PointsAnswer::BadTop,
         Cut::Discarded => PointsAnswer::Discarded,
         Cut::Ready { cut } => {
-            let points = cut_patch::count::point_count(cut);
+            let points = patch_writer::count::point_count(cut);
             if vertices.len() < 3 * (points as usize) {
                 return PointsAnswer::NoRoomForVertices;
             }
-            cut_patch::place::write_points(vertices, cut);
+            patch_writer::place::write_points(vertices, cut);
             PointsAnswer::Drawn { points }
         }
     }
@@ -35,12 +35,12 @@ pub fn draw_indices(patch: Patch, settings: Settings, indices: &mut [u16]) -> In
         Cut::BadTop => IndicesAnswer::BadTop,
         Cut::Discarded => IndicesAnswer::Discarded,
         Cut::Ready { cut } => {
-            let words = cut_patch::count::index_count(cut, point_mode);
+            let words = patch_writer::count::index_count(cut, point_mode);
             if indices.len() < words as usize {
                 return IndicesAnswer::NoRoomForIndices;
             }
             let positive = patch::settings::turns_positive(order, origin);
-            cut_patch::connect::write_indices(indices, cut, point_mode, positive);
+            patch_writer::connect::write_indices(indices, cut, point_mode, positive);
             IndicesAnswer::Drawn { indices: words }
         }
     }

@@ -18,8 +18,8 @@ pub fn measure(patch: Patch, settings: Settings) -> Size
         Cut::BadTop => Size::BadTop,
         Cut::Discarded => Size::Discarded,
         Cut::Ready { cut } => {
-            let points = cut_patch::count::point_count(cut);
-            let indices = cut_patch::count::index_count(cut, point_mode);
+            let points = patch_writer::count::point_count(cut);
+            let indices = patch_writer::count::index_count(cut, point_mode);
             let clamps = level_clamps::clamps_of(patch, spacing, top);
             Size::Counts {
                 points,

@@ -11,15 +11,15 @@ use Rattle.level.specs.Segments.{segmentsOf}
 use Rattle.patch.specs.declared.kinds.Patch.{Patch}
 use Rattle.patch.specs.declared.settings.Settings.{Settings}
 use Rattle.patch.specs.Subdivide.{outers, discards, subdivision}
-use Rattle.mesh.specs.declared.Point.{Point}
-use Rattle.mesh.specs.Cover.{Face, Cover, sides, piece}
-use Rattle.mesh.specs.Seam.{OuterEdge, places, Mirrors}
-use Rattle.mesh.specs.Edge.{Run, along, Placed}
-use Rattle.drawing.specs.Points.{run, points}
-use Rattle.drawing.specs.Primitives.{indexWords}
-use Rattle.drawing.specs.Demand.{Surface, outerRuns, edges, Demand}
-use Rattle.drawing.proofs.Demand.{demand}
-use Rattle.drawing.proofs.Seams.{seam, same-places}
+use Rattle.mesh_geometry.specs.declared.Point.{Point}
+use Rattle.mesh_geometry.specs.Cover.{Face, Cover, sides, piece}
+use Rattle.mesh_geometry.specs.Seam.{OuterEdge, places, Mirrors}
+use Rattle.mesh_geometry.specs.Edge.{Run, along, Placed}
+use Rattle.patch_mesh.specs.Points.{run, points}
+use Rattle.patch_mesh.specs.Primitives.{indexWords}
+use Rattle.patch_mesh.specs.Demand.{Surface, outerRuns, edges, Demand}
+use Rattle.patch_mesh.proofs.Demand.{demand}
+use Rattle.patch_mesh.proofs.Seams.{seam, same-places}
 use Rattle.third_demand.specs.Seams.{IsEdge, EdgesAlike, placesOn, row, Seam}
 use Rattle.third_demand.specs.ThirdDemand.{OccursOnce, ThirdDemand}
 

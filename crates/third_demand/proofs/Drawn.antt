@@ -5,8 +5,8 @@ use mathlib.Core.List.{List}
 use lib.ListN.{take}
 use Rattle.patch.specs.declared.kinds.Patch.{Patch}
 use Rattle.patch.specs.declared.settings.Settings.{Settings}
-use Rattle.mesh.specs.declared.Point.{Point}
-use Rattle.drawing.specs.Demand.{Surface}
+use Rattle.mesh_geometry.specs.declared.Point.{Point}
+use Rattle.patch_mesh.specs.Demand.{Surface}
 use Rattle.tessellate.specs.declared.answer.PointsAnswer.{PointsAnswer}
 use Rattle.tessellate.specs.declared.answer.IndicesAnswer.{IndicesAnswer}
 use Rattle.tessellate.specs.Answers.{toldPoints, toldIndices}

@@ -7,11 +7,11 @@ use Rattle.level.specs.Segments.{segmentsOf}
 use Rattle.patch.specs.declared.kinds.Patch.{Patch}
 use Rattle.patch.specs.declared.settings.Settings.{Settings}
 use Rattle.patch.specs.Subdivide.{outers}
-use Rattle.mesh.specs.declared.Point.{Point}
-use Rattle.mesh.specs.Seam.{places, Mirrors}
-use Rattle.mesh.specs.Edge.{along}
-use Rattle.drawing.specs.Points.{run}
-use Rattle.drawing.specs.Demand.{Surface, outerLevel, edges}
+use Rattle.mesh_geometry.specs.declared.Point.{Point}
+use Rattle.mesh_geometry.specs.Seam.{places, Mirrors}
+use Rattle.mesh_geometry.specs.Edge.{along}
+use Rattle.patch_mesh.specs.Points.{run}
+use Rattle.patch_mesh.specs.Demand.{Surface, outerLevel, edges}
 
 -- k is an outer edge of p, and p is a triangle or quad patch
 pub record IsEdge (p : Patch) (k : ℕ) : Type 0 where

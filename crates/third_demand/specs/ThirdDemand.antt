@@ -9,11 +9,11 @@ use Rattle.patch.specs.declared.kinds.Patch.{Patch}
 use Rattle.patch.specs.declared.settings.Settings.{Settings}
 use Rattle.patch.specs.Subdivide.{outers}
 use Rattle.patch.specs.Turn.{positive}
-use Rattle.mesh.specs.declared.Point.{Point}
-use Rattle.mesh.specs.Cover.{Face, Side, missing, sides, side, reversed, piece, Occurs, HasSign, twiceArea, totalTwiceArea, signed}
-use Rattle.mesh.specs.Seam.{Mirrors}
-use Rattle.drawing.specs.Demand.{outline, twiceAreaOf}
-use Rattle.mesh.specs.Faces.{facesIn}
+use Rattle.mesh_geometry.specs.declared.Point.{Point}
+use Rattle.mesh_geometry.specs.Cover.{Face, Side, missing, sides, side, reversed, piece, Occurs, HasSign, twiceArea, totalTwiceArea, signed}
+use Rattle.mesh_geometry.specs.Seam.{Mirrors}
+use Rattle.patch_mesh.specs.Demand.{outline, twiceAreaOf}
+use Rattle.mesh_geometry.specs.Faces.{facesIn}
 use Rattle.third_demand.specs.Seams.{IsEdge, EdgesAlike, placesOn, row}
 
 -- point mode is off

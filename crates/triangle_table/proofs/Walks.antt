@@ -10,14 +10,14 @@ use lib.Dec.{eqb}
 use lib.ListN.{length, getD}
 use borrow.Author.Tests.{eq-eqb, ne-eqb, eqb-true}
 use Rattle.strip.specs.declared.triangle.Triangle.{Triangle}
-use Rattle.searches.specs.Triangles.{triangleAt}
-use Rattle.searches.proofs.First.{some-here, some-none, some-all, some-which}
-use Rattle.side_searches.specs.Same.{sameTriangle}
-use Rattle.mesh_faults.specs.Outline.{startOf, endOf}
-use Rattle.side_chains.specs.Sides.{sideStart, sideEnd, isSide}
-use Rattle.side_chains.specs.Links.{lastFrom, Linked}
-use Rattle.side_chains.proofs.Numbers.{numbered-start, numbered-end, both, both-which, which-of, same-ends, ends-same}
-use Rattle.side_chains.proofs.Table.{last-none, last-is, last-most, link-before}
+use Rattle.check_searches.specs.Triangles.{triangleAt}
+use Rattle.check_searches.proofs.First.{some-here, some-none, some-all, some-which}
+use Rattle.check_side_searches.specs.Same.{sameTriangle}
+use Rattle.check_faults.specs.Outline.{startOf, endOf}
+use Rattle.half_edge_chains.specs.Sides.{sideStart, sideEnd, isSide}
+use Rattle.half_edge_chains.specs.Links.{lastFrom, Linked}
+use Rattle.half_edge_chains.proofs.Numbers.{numbered-start, numbered-end, both, both-which, which-of, same-ends, ends-same}
+use Rattle.half_edge_chains.proofs.Table.{last-none, last-is, last-most, link-before}
 use Rattle.triangle_table.specs.Hits.{someFace, hits, Sought}
 
 test-false : (b : Bool) → (b ≡ true → ⊥) → b ≡ false

@@ -4,10 +4,10 @@ use mathlib.Core.Path.{_≡_}
 use mathlib.Core.Bool.{Bool, false, _&&_}
 use mathlib.Core.List.{List}
 use Rattle.strip.specs.declared.triangle.Triangle.{Triangle}
-use Rattle.searches.specs.First.{some}
-use Rattle.searches.specs.Triangles.{triangleAt}
-use Rattle.side_searches.specs.Same.{sameTriangle}
-use Rattle.side_chains.specs.Sides.{sideStart, isSide}
+use Rattle.check_searches.specs.First.{some}
+use Rattle.check_searches.specs.Triangles.{triangleAt}
+use Rattle.check_side_searches.specs.Same.{sameTriangle}
+use Rattle.half_edge_chains.specs.Sides.{sideStart, isSide}
 
 -- whether one of the first n triangles is t, up to rotation
 abbrev pub someFace : List Triangle → Triangle → ℕ → Bool

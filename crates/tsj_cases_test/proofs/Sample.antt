@@ -11,24 +11,24 @@ use Rattle.edge.specs.Table.{table}
 use Rattle.strip.specs.Triangles.{indices}
 use Rattle.strip.specs.Rule.{outerNext}
 use Rattle.strip.specs.Strips.{stripFrom}
-use Rattle.cover.specs.Ring.{ringAt}
-use Rattle.cover.specs.Band.{bandFrom}
-use Rattle.cover.specs.Nest.{nest}
+use Rattle.mesh_topology.specs.Ring.{ringAt}
+use Rattle.mesh_topology.specs.Band.{bandFrom}
+use Rattle.mesh_topology.specs.Nest.{nest}
 use Rattle.patch.specs.Every.{some, every}
 use Rattle.patch.specs.Subdivide.{subdivision}
-use Rattle.mesh.specs.Edge.{ring}
-use Rattle.mesh.specs.TrianglePoints.{rings}
-use Rattle.mesh.specs.Words.{vertexWords}
-use Rattle.drawing.specs.Points.{points}
-use Rattle.drawing.specs.Primitives.{triangles, indexWords}
+use Rattle.mesh_geometry.specs.Edge.{ring}
+use Rattle.mesh_geometry.specs.TrianglePoints.{rings}
+use Rattle.mesh_geometry.specs.Words.{vertexWords}
+use Rattle.patch_mesh.specs.Points.{points}
+use Rattle.patch_mesh.specs.Primitives.{triangles, indexWords}
 use Rattle.job_fields.specs.Bytes.{word}
 use Rattle.job.specs.Header.{startsWith, headerOf}
 use Rattle.job_fields.specs.Settings.{firstOver}
 use Rattle.job_fields.specs.Tops.{unknownPlace}
 use Rattle.job.specs.Records.{recordOf, recordAt}
-use Rattle.text.specs.Digits.{digitsIn, digits}
-use Rattle.text.specs.Lines.{line, rows}
-use Rattle.text.specs.Heads.{bytes}
+use Rattle.decimal_text.specs.Digits.{digitsIn, digits}
+use Rattle.decimal_text.specs.Lines.{line, rows}
+use Rattle.decimal_text.specs.Heads.{bytes}
 use Rattle.patch_text.specs.Answers.{drawnText}
 use Rattle.job_text.specs.Jobs.{answers, jobText}
 

@@ -7,10 +7,10 @@ use native.Mathlib.Omega.{arith}
 use borrow.Author.Tests.{ne-eqb}
 use lib.Dec.{eqb}
 use lib.ListN.{length, take}
-use Rattle.streams.specs.declared.input.Input.{Input}
-use Rattle.streams.specs.declared.output.Output.{Output}
-use Rattle.streams.specs.Moved.{Filled, Taken}
-use Rattle.streams.proofs.Takes.{taken-all}
+use Rattle.standard_streams.specs.declared.input.Input.{Input}
+use Rattle.standard_streams.specs.declared.output.Output.{Output}
+use Rattle.standard_streams.specs.Moved.{Filled, Taken}
+use Rattle.standard_streams.proofs.Takes.{taken-all}
 use Rattle.job_fields.specs.declared.version.Version.{Version}
 use Rattle.job_text.specs.Jobs.{answersFrom}
 use Rattle.tsj_pieces.specs.Chunks.{chunkSize, AnsweredChunk}

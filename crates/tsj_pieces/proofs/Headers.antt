@@ -7,10 +7,10 @@ use native.Mathlib.Omega.{arith}
 use lib.ListN.{length, take}
 use Rattle.buffer.specs.Over.{Wrote}
 use Rattle.buffer.proofs.Laws.{over-front}
-use Rattle.streams.specs.declared.input.Input.{Input}
-use Rattle.streams.specs.declared.output.Output.{Output}
-use Rattle.streams.specs.Moved.{Filled, Taken}
-use Rattle.streams.proofs.Takes.{taken-all}
+use Rattle.standard_streams.specs.declared.input.Input.{Input}
+use Rattle.standard_streams.specs.declared.output.Output.{Output}
+use Rattle.standard_streams.specs.Moved.{Filled, Taken}
+use Rattle.standard_streams.proofs.Takes.{taken-all}
 use Rattle.job.specs.declared.header.Header.{Header}
 use Rattle.job_text.specs.declared.header.Rest.{Rest}
 use Rattle.job_text.specs.declared.header.Rest.the-variants.{Nothing}

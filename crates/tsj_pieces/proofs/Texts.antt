@@ -5,8 +5,8 @@ use mathlib.Core.Bool.{true, false}
 use mathlib.Core.List.{List}
 use native.Mathlib.Omega.{arith}
 use lib.ListN.{length, take, length-append, length-take}
-use Rattle.streams.specs.Moved.{Taken}
-use Rattle.streams.proofs.Takes.{taken-short, taken-all, taken-fewer, taken-whole}
+use Rattle.standard_streams.specs.Moved.{Taken}
+use Rattle.standard_streams.proofs.Takes.{taken-short, taken-all, taken-fewer, taken-whole}
 use Rattle.job_fields.specs.declared.version.Version.{Version}
 use Rattle.job_text.specs.Jobs.{answersFrom}
 use Rattle.job_text.proofs.Steps.{answers-end}

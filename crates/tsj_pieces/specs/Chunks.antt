@@ -5,8 +5,8 @@ use mathlib.Core.Bool.{cond, not, _&&_}
 use mathlib.Core.List.{List, []}
 use lib.Dec.{eqb}
 use lib.ListN.{length, take}
-use Rattle.streams.specs.Moved.{Filled, Taken}
-use Rattle.streams.specs.declared.input.Input.{Input}
+use Rattle.standard_streams.specs.Moved.{Filled, Taken}
+use Rattle.standard_streams.specs.declared.input.Input.{Input}
 use Rattle.job_fields.specs.declared.version.Version.{Version}
 use Rattle.job_fields.specs.Version.{recordSize}
 use Rattle.job_text.specs.Jobs.{answersFrom}

@@ -4,8 +4,8 @@ use mathlib.Core.Path.{_≡_}
 use mathlib.Core.Bool.{cond}
 use mathlib.Core.List.{List, []}
 use lib.ListN.{length, take}
-use Rattle.streams.specs.Moved.{Filled, Taken}
-use Rattle.streams.specs.declared.input.Input.{Input}
+use Rattle.standard_streams.specs.Moved.{Filled, Taken}
+use Rattle.standard_streams.specs.declared.input.Input.{Input}
 use Rattle.job.specs.declared.header.Header.{Header}
 use Rattle.job.specs.Header.{headerOf}
 use Rattle.job_text.specs.declared.header.Rest.the-variants.{Nothing}

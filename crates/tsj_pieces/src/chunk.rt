@@ -5,7 +5,7 @@ ghost use lib.ListN.{length};
 ghost use Rattle.job_fields.specs.Version.{recordSize};
 ghost use Rattle.job_text.specs.Jobs.{answersFrom};
 ghost use Rattle.patch_text.specs.Room.{room, FullSize};
-ghost use Rattle.streams.specs.Moved.{Taken};
+ghost use Rattle.standard_streams.specs.Moved.{Taken};
 ghost use Rattle.tsj_pieces.specs.Chunks.{AnsweredSome, AnsweredChunk};
 use crate::failures::read_or_tell;
 use crate::failures::write_or_tell;
@@ -13,8 +13,8 @@ use job_fields::version::Version;
 use job_fields::version::record_size;
 use job_text::records::Progress;
 use job_text::records::put_records;
-use streams::Input;
-use streams::Output;
+use standard_streams::Input;
+use standard_streams::Output;
 
 // The text of some records, and how much of it was written.
 pub struct Step {

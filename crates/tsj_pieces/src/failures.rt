@@ -1,10 +1,10 @@
 // Reading and writing: what fails is reported in a line on standard error.
 ghost use Prim.Native.Nat.{_≤_};
 ghost use lib.ListN.{length};
-ghost use Rattle.streams.specs.Moved.{Filled, Taken};
-use streams::Input;
-use streams::Output;
-use streams::read_front;
+ghost use Rattle.standard_streams.specs.Moved.{Filled, Taken};
+use standard_streams::Input;
+use standard_streams::Output;
+use standard_streams::read_front;
 
 // Reads up to `size` bytes to the front of `bytes`.
 pub(crate) fn read_or_tell(bytes: &mut [u8], size: usize) -> Input
@@ -13,7 +13,7 @@ pub(crate) fn read_or_tell(bytes: &mut [u8], size: usize) -> Input
 {
     let input = read_front(&mut bytes[..size]);
     if input.failed {
-        streams::tell(b"tsj: standard input could not be read\n");
+        standard_streams::tell(b"tsj: standard input could not be read\n");
     }
     input
 }
@@ -22,5 +22,5 @@ pub(crate) fn read_or_tell(bytes: &mut [u8], size: usize) -> Input
 pub(crate) fn write_or_tell(bytes: &[u8]) -> Output
     ensures { λ r. ⌜ Taken (length (now (bytes .entry))) r ⌝ }
 {
-    streams::write_or_tell(bytes, b"tsj: standard output could not be written\n")
+    standard_streams::write_or_tell(bytes, b"tsj: standard output could not be written\n")
 }

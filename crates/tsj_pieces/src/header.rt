@@ -10,8 +10,8 @@ use job::header::read_header;
 use job_text::header::Rest;
 use job_text::header::put_header;
 use job_text::header::rest_of;
-use streams::Input;
-use streams::Output;
+use standard_streams::Input;
+use standard_streams::Output;
 
 // What was read and written, and what is to be read next: nothing where one of them failed.
 pub struct Start {

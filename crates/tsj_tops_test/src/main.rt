@@ -4,5 +4,5 @@ fn main() {
     let mut records = [0u8; 7680];
     let mut vertices: [u32; 12675] = [0; 12675];
     let mut indices: [u16; 24576] = [0; 24576];
-    report::run::run(&mut header, &mut records, &mut vertices, &mut indices);
+    tsj_run::run::run(&mut header, &mut records, &mut vertices, &mut indices);
 }

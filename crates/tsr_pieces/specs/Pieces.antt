@@ -5,7 +5,7 @@ use mathlib.Core.Bool.{_&&_}
 use mathlib.Core.List.{List}
 use lib.Dec.{eqb}
 use lib.ListN.{take}
-use Rattle.streams.specs.Moved.{Filled}
+use Rattle.standard_streams.specs.Moved.{Filled}
 use Rattle.replay.specs.declared.answer.Replay.{Replay}
 use Rattle.replay.specs.Replays.{startOf, goOn}
 use Rattle.replay.specs.Pieces.{isOpen}

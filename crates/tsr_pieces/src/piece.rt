@@ -8,8 +8,8 @@ ghost use Rattle.tsr_pieces.specs.Pieces.{ReplayedHeader, ReplayedChunk}
 use replay::answer::Replay;
 use replay::recording::go_on;
 use replay::recording::read_start;
-use streams::Input;
-use streams::read_front;
+use standard_streams::Input;
+use standard_streams::read_front;
 
 // The bytes of a full chunk: 256 entries.
 const CHUNK: usize = 8704;

@@ -6,11 +6,11 @@ use native.Mathlib.Omega.{arith}
 use lib.ListN.{length}
 use Rattle.buffer.specs.Over.{Wrote}
 use Rattle.buffer.proofs.Laws.{Left, left-all, left-fits, left-step, left-last}
-use Rattle.mesh.specs.declared.Point.{Point}
-use Rattle.mesh.specs.Edge.{Run, ring}
-use Rattle.mesh.specs.Words.{vertexWords}
+use Rattle.mesh_geometry.specs.declared.Point.{Point}
+use Rattle.mesh_geometry.specs.Edge.{Run, ring}
+use Rattle.mesh_geometry.specs.Words.{vertexWords}
 use Rattle.vertices.specs.Edges.{edgePoints}
-use Rattle.mesh.proofs.Words.{words-length}
+use Rattle.mesh_geometry.proofs.Words.{words-length}
 use Rattle.vertices.proofs.Words.{words-append, table-words}
 
 -- the edges k, k + 1, .. of a ring are left to write, into `out` from w on, where ys are written into xs from `at` on

@@ -7,9 +7,9 @@ use native.Mathlib.Omega.{arith}
 use Rattle.level.specs.declared.Segments.{Segments}
 use Rattle.level.specs.Segments.{Valid}
 use Rattle.edge.specs.Rows.{RowAt, Filled}
-use Rattle.stored_rows.specs.Stored.{rowsTo, Widest}
+use Rattle.edge_table.specs.Stored.{rowsTo, Widest}
 use Rattle.edge.proofs.Rows.{row-kept}
-use Rattle.stored_rows.proofs.StoredRows.{row-stored}
+use Rattle.edge_table.proofs.StoredRows.{row-stored}
 use Rattle.vertices.specs.Rows.{Stored, AllStored, AllValid}
 
 -- ---- computed rows: a row stays unchanged when the row of s is computed at least 65 words before it

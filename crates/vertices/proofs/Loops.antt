@@ -8,9 +8,9 @@ use lib.ListN.{length}
 use Rattle.buffer.specs.Over.{Wrote}
 use Rattle.buffer.proofs.Laws.{Counting, count-start, count-fits, count-room, count-step, count-done, flat-length}
 use Rattle.edge.specs.Table.{table}
-use Rattle.mesh.specs.declared.Point.{Point}
-use Rattle.mesh.specs.QuadPoints.{grid}
-use Rattle.mesh.specs.Words.{pointWords, vertexWords}
+use Rattle.mesh_geometry.specs.declared.Point.{Point}
+use Rattle.mesh_geometry.specs.QuadPoints.{grid}
+use Rattle.mesh_geometry.specs.Words.{pointWords, vertexWords}
 use Rattle.vertices.specs.Rows.{places, listed, Clear}
 use Rattle.vertices.proofs.Words.{words-table, words-grid, table-words}
 

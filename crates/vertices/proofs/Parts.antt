@@ -6,9 +6,9 @@ use native.Mathlib.Omega.{arith}
 use lib.ListN.{length, length-append}
 use Rattle.buffer.specs.Over.{Wrote}
 use Rattle.buffer.proofs.Laws.{over-length, wrote-then}
-use Rattle.mesh.specs.declared.Point.{Point}
-use Rattle.mesh.specs.Words.{vertexWords}
-use Rattle.mesh.proofs.Words.{words-length}
+use Rattle.mesh_geometry.specs.declared.Point.{Point}
+use Rattle.mesh_geometry.specs.Words.{vertexWords}
+use Rattle.mesh_geometry.proofs.Words.{words-length}
 use Rattle.vertices.proofs.Words.{words-append}
 
 -- the points `all` are ps and then qs, and the list xs has room for their words from `at` on

@@ -8,8 +8,8 @@ use lib.ListN.{length, take, drop, getD, set, length-append, length-take, length
 use lib.Seq.{drop-cons, take-add, take-at, take-length, set-at, paste, paste-zero, paste-suc}
 use Rattle.buffer.specs.Over.{over, Wrote}
 use Rattle.edge.specs.Table.{table}
-use Rattle.mesh.specs.declared.Point.{Point}
-use Rattle.mesh.specs.Words.{pointWords, vertexWords}
+use Rattle.mesh_geometry.specs.declared.Point.{Point}
+use Rattle.mesh_geometry.specs.Words.{pointWords, vertexWords}
 use Rattle.vertices.specs.Rows.{places}
 use Rattle.vertices.specs.Grids.{rowPoints, raised}
 

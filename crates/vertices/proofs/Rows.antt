@@ -9,12 +9,12 @@ use Rattle.level.specs.declared.Segments.{Segments}
 use Rattle.level.specs.Segments.{Valid}
 use Rattle.edge.specs.Table.{table}
 use Rattle.edge.proofs.Table.{length-table, get-table}
-use Rattle.mesh.specs.declared.Point.{Point}
-use Rattle.mesh.specs.Edge.{Run, ring, along}
-use Rattle.mesh.specs.Segmented.{run}
-use Rattle.mesh.specs.QuadPoints.{grid}
-use Rattle.mesh.proofs.Edge.{good-to}
-use Rattle.mesh.proofs.Positions.{good-positions}
+use Rattle.mesh_geometry.specs.declared.Point.{Point}
+use Rattle.mesh_geometry.specs.Edge.{Run, ring, along}
+use Rattle.mesh_geometry.specs.Segmented.{run}
+use Rattle.mesh_geometry.specs.QuadPoints.{grid}
+use Rattle.mesh_geometry.proofs.Edge.{good-to}
+use Rattle.mesh_geometry.proofs.Positions.{good-positions}
 use Rattle.vertices.specs.Rows.{places, listed, whole, Clear, GoodRow}
 
 -- tables, and grids, that agree up to their size

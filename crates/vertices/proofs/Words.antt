@@ -7,10 +7,10 @@ use lib.ListN.{length}
 use Rattle.buffer.specs.Over.{flat}
 use Rattle.edge.specs.Table.{table}
 use Rattle.edge.proofs.Table.{length-table}
-use Rattle.mesh.specs.declared.Point.{Point}
-use Rattle.mesh.specs.QuadPoints.{grid}
-use Rattle.mesh.specs.Words.{pointWords, vertexWords}
-use Rattle.mesh.proofs.Words.{words-length}
+use Rattle.mesh_geometry.specs.declared.Point.{Point}
+use Rattle.mesh_geometry.specs.QuadPoints.{grid}
+use Rattle.mesh_geometry.specs.Words.{pointWords, vertexWords}
+use Rattle.mesh_geometry.proofs.Words.{words-length}
 
 pub words-append : (ps qs : List Point) → vertexWords (ps ++ qs) ≡ vertexWords ps ++ vertexWords qs
 unfolding vertexWords

@@ -3,8 +3,8 @@
 use Prim.Native.Nat.{ℕ}
 use mathlib.Core.List.{List}
 use Rattle.edge.specs.Table.{table}
-use Rattle.mesh.specs.declared.Point.{Point}
-use Rattle.mesh.specs.Edge.{Run}
+use Rattle.mesh_geometry.specs.declared.Point.{Point}
+use Rattle.mesh_geometry.specs.Edge.{Run}
 
 -- the points of edge k on the ring d units inside, without the edge's end; `place k x d` is the point at place x
 abbrev pub edgePoints : (ℕ → ℕ → ℕ → Point) → ℕ → Run → ℕ → List Point

@@ -3,8 +3,8 @@ use Prim.Native.Nat.{ℕ}
 use mathlib.Core.List.{List, [], _∷_}
 use lib.ListN.{length}
 use Rattle.edge.specs.Table.{table}
-use Rattle.mesh.specs.declared.Point.{Point}
-use Rattle.mesh.specs.QuadPoints.{grid}
+use Rattle.mesh_geometry.specs.declared.Point.{Point}
+use Rattle.mesh_geometry.specs.QuadPoints.{grid}
 use Rattle.vertices.specs.Rows.{places}
 
 -- the point in row r and column c

@@ -3,10 +3,10 @@ use Prim.Native.Nat.{ℕ, _+_, _-_, _≤_, _<_}
 use mathlib.Core.List.{List, [], _∷_}
 use lib.ListN.{length, getD}
 use Rattle.edge.specs.Rows.{RowAt}
-use Rattle.stored_rows.specs.Stored.{start}
+use Rattle.edge_table.specs.Stored.{start}
 use Rattle.level.specs.declared.Segments.{Segments}
 use Rattle.level.specs.Segments.{Valid}
-use Rattle.mesh.specs.Edge.{Run, GoodRun}
+use Rattle.mesh_geometry.specs.Edge.{Run, GoodRun}
 
 -- q of a list: entry i is the place of point i
 abbrev pub places : List ℕ → ℕ → ℕ

@@ -4,7 +4,7 @@ ghost use mathlib.Core.List.{_++_};
 ghost use Prim.Native.Nat.{_+_, _*_, _≤_};
 ghost use lib.ListN.{length, take, drop};
 ghost use Rattle.buffer.specs.Over.{Wrote};
-ghost use Rattle.mesh.specs.Words.{vertexWords};
+ghost use Rattle.mesh_geometry.specs.Words.{vertexWords};
 ghost use Rattle.vertices.specs.Grids.{rowPoints, gridPoints, raised};
 
 // Writes a row of points at height v, one for each place along u.

@@ -1,9 +1,9 @@
 // The point at a place of an edge of a patch.
 ghost use mathlib.Core.Path.{_≡_};
 ghost use Prim.Native.Nat.{_+_, _≤_, _<_};
-ghost use Rattle.mesh.specs.TrianglePoints.{trianglePlace};
-ghost use Rattle.mesh.specs.QuadPoints.{quadPlace};
-use mesh::Point;
+ghost use Rattle.mesh_geometry.specs.TrianglePoints.{trianglePlace};
+ghost use Rattle.mesh_geometry.specs.QuadPoints.{quadPlace};
+use mesh_geometry::Point;
 
 // Returns the point at place x of edge k of a triangle patch, on the ring d units inside; `high` is 196608 - d, the start coordinate at place 0.
 pub fn triangle_place(k: u32, x: u32, d: u32, high: u32) -> Point

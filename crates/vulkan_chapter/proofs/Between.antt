@@ -12,10 +12,10 @@ use Rattle.strip.specs.Mirror.{SameCorners}
 use Rattle.strip.specs.Rule.{outerNext, stepOuter, stepInner}
 use Rattle.strip.specs.Strips.{stepTriangle, stripFrom, strip}
 use Rattle.strip.proofs.Rule.{Rule, rule}
-use Rattle.cover.specs.Quad.{joined}
-use Rattle.cover.proofs.Walk.{Way, on}
-use Rattle.mesh.proofs.Lists.{All, none, more}
-use Rattle.mesh.proofs.Members.{all-member}
+use Rattle.mesh_topology.specs.Quad.{joined}
+use Rattle.mesh_topology.proofs.Walk.{Way, on}
+use Rattle.mesh_geometry.proofs.Lists.{All, none, more}
+use Rattle.mesh_geometry.proofs.Members.{all-member}
 use Rattle.vulkan_chapter.specs.Members.{Member}
 use Rattle.vulkan_chapter.specs.Between.{NumberedLine, Based, Joins, on-first, on-second, BaseDrawn, Filled}
 

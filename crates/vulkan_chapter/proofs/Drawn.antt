@@ -22,34 +22,34 @@ use Rattle.patch.specs.declared.settings.Settings.{Settings}
 use Rattle.patch.specs.Every.{every}
 use Rattle.patch.specs.Subdivide.{single, discards, cut, subdivision}
 use Rattle.patch.specs.Turn.{positive}
-use Rattle.cover.specs.Sides.{sum}
-use Rattle.cover.specs.GridStrips.{outlineOn, gridOn}
-use Rattle.cover.specs.RingVertices.{vertexOn}
-use Rattle.cover.proofs.Ring.{ring-before}
-use Rattle.cover.proofs.Sums.{sum-within}
-use Rattle.cover.proofs.RingVertices.{vertex-before}
-use Rattle.mesh.specs.Cover.{Face, missing}
-use Rattle.mesh.specs.Domain.{triangle, square}
-use Rattle.mesh.specs.Edge.{Run, GoodRun, ring}
-use Rattle.mesh.specs.Segmented.{run}
-use Rattle.mesh.specs.RingPoints.{segments}
-use Rattle.mesh.specs.TrianglePoints.{trianglePlace, triangleCorners}
-use Rattle.mesh.specs.QuadPoints.{quadPlace, quadCorners}
-use Rattle.mesh.proofs.Edge.{good-some}
-use Rattle.mesh.proofs.Members.{all-member, at-member}
-use Rattle.drawing.specs.Points.{points}
-use Rattle.drawing.specs.Primitives.{triangles, primitives, indexWords}
-use Rattle.mesh.specs.Words.{readTriangles}
-use Rattle.drawing.specs.Demand.{Surface, outline, Demand}
-use Rattle.mesh.specs.Faces.{facesIn}
-use Rattle.mesh.proofs.ReadBack.{read-triangles}
-use Rattle.drawing.proofs.Runs.{good-run}
-use Rattle.drawing.proofs.Plain.{plain-outline}
-use Rattle.drawing.proofs.Demand.{not-discarded, demand}
-use Rattle.drawing.proofs.Once.{demand-once}
-use Rattle.drawing.proofs.Seams.{seam}
-use Rattle.drawing.proofs.InPatch.{drawn-in}
-use Rattle.drawing.proofs.Distinct.{points-distinct}
+use Rattle.mesh_topology.specs.Sides.{sum}
+use Rattle.mesh_topology.specs.GridStrips.{outlineOn, gridOn}
+use Rattle.mesh_topology.specs.RingVertices.{vertexOn}
+use Rattle.mesh_topology.proofs.Ring.{ring-before}
+use Rattle.mesh_topology.proofs.Sums.{sum-within}
+use Rattle.mesh_topology.proofs.RingVertices.{vertex-before}
+use Rattle.mesh_geometry.specs.Cover.{Face, missing}
+use Rattle.mesh_geometry.specs.Domain.{triangle, square}
+use Rattle.mesh_geometry.specs.Edge.{Run, GoodRun, ring}
+use Rattle.mesh_geometry.specs.Segmented.{run}
+use Rattle.mesh_geometry.specs.RingPoints.{segments}
+use Rattle.mesh_geometry.specs.TrianglePoints.{trianglePlace, triangleCorners}
+use Rattle.mesh_geometry.specs.QuadPoints.{quadPlace, quadCorners}
+use Rattle.mesh_geometry.proofs.Edge.{good-some}
+use Rattle.mesh_geometry.proofs.Members.{all-member, at-member}
+use Rattle.patch_mesh.specs.Points.{points}
+use Rattle.patch_mesh.specs.Primitives.{triangles, primitives, indexWords}
+use Rattle.mesh_geometry.specs.Words.{readTriangles}
+use Rattle.patch_mesh.specs.Demand.{Surface, outline, Demand}
+use Rattle.mesh_geometry.specs.Faces.{facesIn}
+use Rattle.mesh_geometry.proofs.ReadBack.{read-triangles}
+use Rattle.patch_mesh.proofs.Runs.{good-run}
+use Rattle.patch_mesh.proofs.Plain.{plain-outline}
+use Rattle.patch_mesh.proofs.Demand.{not-discarded, demand}
+use Rattle.patch_mesh.proofs.Once.{demand-once}
+use Rattle.patch_mesh.proofs.Seams.{seam}
+use Rattle.patch_mesh.proofs.InPatch.{drawn-in}
+use Rattle.patch_mesh.proofs.Distinct.{points-distinct}
 use Rattle.vulkan_chapter.specs.Members.{Member}
 use Rattle.vulkan_chapter.specs.Winding.{windingArea, Ordered}
 use Rattle.vulkan_chapter.specs.Between.{NumberedLine}

@@ -10,12 +10,12 @@ use lib.ListN.{length, getD, List·getD-append}
 use lib.Seq.{getD-append-add}
 use Rattle.buffer.specs.Over.{flat}
 use Rattle.buffer.proofs.Laws.{flat-length}
-use Rattle.cover.specs.Lines.{lineSegment, isolines, dots}
-use Rattle.mesh.specs.declared.Point.{Point}
-use Rattle.mesh.specs.Edge.{Run}
-use Rattle.mesh.specs.Segmented.{isolinePoints}
-use Rattle.mesh.proofs.Grid.{grid-at, grid-length}
-use Rattle.mesh.proofs.Members.{member-at}
+use Rattle.mesh_topology.specs.Lines.{lineSegment, isolines, dots}
+use Rattle.mesh_geometry.specs.declared.Point.{Point}
+use Rattle.mesh_geometry.specs.Edge.{Run}
+use Rattle.mesh_geometry.specs.Segmented.{isolinePoints}
+use Rattle.mesh_geometry.proofs.Grid.{grid-at, grid-length}
+use Rattle.mesh_geometry.proofs.Members.{member-at}
 use Rattle.vulkan_chapter.specs.Members.{Member}
 use Rattle.vulkan_chapter.specs.Between.{NumberedLine}
 use Rattle.vulkan_chapter.specs.Isolines.{LineVertices, LineSegments}

@@ -6,19 +6,19 @@ use mathlib.Core.List.{List}
 use native.Mathlib.Omega.{arith}
 use native.Mathlib.Decide.{decLe}
 use Rattle.edge.specs.Table.{table}
-use Rattle.cover.specs.Sides.{sum}
-use Rattle.cover.specs.Ring.{ringAt}
-use Rattle.cover.proofs.Ring.{ring-zero, ring-last, ring-before}
-use Rattle.cover.proofs.Sums.{sum-within}
-use Rattle.mesh.specs.declared.Point.{Point}
-use Rattle.mesh.specs.Faces.{at}
-use Rattle.mesh.specs.Edge.{Run, GoodRun, ring}
-use Rattle.mesh.specs.Domain.{Domain, triangle, square, edgeCount, placeOn}
-use Rattle.mesh.specs.OnEdge.{OnEdge}
-use Rattle.mesh.specs.OuterRing.{edgeStart, OuterRing}
-use Rattle.mesh.specs.RingPoints.{segments}
-use Rattle.mesh.proofs.Edge.{good-some, good-to}
-use Rattle.mesh.proofs.OuterRing.{outer-exactly}
+use Rattle.mesh_topology.specs.Sides.{sum}
+use Rattle.mesh_topology.specs.Ring.{ringAt}
+use Rattle.mesh_topology.proofs.Ring.{ring-zero, ring-last, ring-before}
+use Rattle.mesh_topology.proofs.Sums.{sum-within}
+use Rattle.mesh_geometry.specs.declared.Point.{Point}
+use Rattle.mesh_geometry.specs.Faces.{at}
+use Rattle.mesh_geometry.specs.Edge.{Run, GoodRun, ring}
+use Rattle.mesh_geometry.specs.Domain.{Domain, triangle, square, edgeCount, placeOn}
+use Rattle.mesh_geometry.specs.OnEdge.{OnEdge}
+use Rattle.mesh_geometry.specs.OuterRing.{edgeStart, OuterRing}
+use Rattle.mesh_geometry.specs.RingPoints.{segments}
+use Rattle.mesh_geometry.proofs.Edge.{good-some, good-to}
+use Rattle.mesh_geometry.proofs.OuterRing.{outer-exactly}
 
 -- the end of an edge is the start of the next one
 edge-turn : (shape : Domain) (k : ℕ) (p : Point) → suc k < edgeCount shape → OnEdge shape (suc k) 0 p → OnEdge shape k 65536 p

@@ -10,26 +10,26 @@ use lib.ListN.{length}
 use Rattle.strip.specs.declared.triangle.Triangle.{Triangle}
 use Rattle.strip.specs.Triangles.{turned}
 use Rattle.strip.specs.Mirror.{SameCorners}
-use Rattle.cover.specs.Sides.{sum}
-use Rattle.cover.specs.Quad.{joined, quad}
-use Rattle.cover.specs.GridStrips.{outlineOn, gridOn, nearestLine, nearestSegments, gridStrip, cellOn, cellsOn}
-use Rattle.cover.proofs.Ring.{ring-before}
-use Rattle.cover.proofs.Sums.{sum-constant, sum-within}
-use Rattle.cover.proofs.GridStrips.{quad-exactly}
-use Rattle.mesh.specs.declared.Point.{Point}
-use Rattle.mesh.specs.Domain.{square}
-use Rattle.mesh.specs.Faces.{at}
-use Rattle.mesh.specs.Edge.{Run, GoodRun}
-use Rattle.mesh.specs.OnEdge.{OnEdge}
-use Rattle.mesh.specs.OuterRing.{edgeStart}
-use Rattle.mesh.specs.QuadPoints.{quadPatch}
-use Rattle.mesh.specs.RingPoints.{segments}
-use Rattle.mesh.specs.GridPoints.{GridPoints}
-use Rattle.mesh.proofs.Edge.{good-to}
-use Rattle.mesh.proofs.Lists.{All, none, more, all-append, all-more}
-use Rattle.mesh.proofs.Located.{located}
-use Rattle.mesh.proofs.QuadTurns.{joined-all}
-use Rattle.mesh.proofs.GridPoints.{grid-exactly}
+use Rattle.mesh_topology.specs.Sides.{sum}
+use Rattle.mesh_topology.specs.Quad.{joined, quad}
+use Rattle.mesh_topology.specs.GridStrips.{outlineOn, gridOn, nearestLine, nearestSegments, gridStrip, cellOn, cellsOn}
+use Rattle.mesh_topology.proofs.Ring.{ring-before}
+use Rattle.mesh_topology.proofs.Sums.{sum-constant, sum-within}
+use Rattle.mesh_topology.proofs.GridStrips.{quad-exactly}
+use Rattle.mesh_geometry.specs.declared.Point.{Point}
+use Rattle.mesh_geometry.specs.Domain.{square}
+use Rattle.mesh_geometry.specs.Faces.{at}
+use Rattle.mesh_geometry.specs.Edge.{Run, GoodRun}
+use Rattle.mesh_geometry.specs.OnEdge.{OnEdge}
+use Rattle.mesh_geometry.specs.OuterRing.{edgeStart}
+use Rattle.mesh_geometry.specs.QuadPoints.{quadPatch}
+use Rattle.mesh_geometry.specs.RingPoints.{segments}
+use Rattle.mesh_geometry.specs.GridPoints.{GridPoints}
+use Rattle.mesh_geometry.proofs.Edge.{good-to}
+use Rattle.mesh_geometry.proofs.Lists.{All, none, more, all-append, all-more}
+use Rattle.mesh_geometry.proofs.Located.{located}
+use Rattle.mesh_geometry.proofs.QuadTurns.{joined-all}
+use Rattle.mesh_geometry.proofs.GridPoints.{grid-exactly}
 use Rattle.vulkan_chapter.specs.Members.{Member}
 use Rattle.vulkan_chapter.specs.Between.{NumberedLine, Filled}
 use Rattle.vulkan_chapter.specs.Quads.{OnLines, OnEdgeOrGrid, on-edge, on-grid, Halves, along-xz, along-yw, HalvesCell, InnerRectangle, innerSide, PairDrawn, InGrid, first-of-pair, second-of-pair, between}

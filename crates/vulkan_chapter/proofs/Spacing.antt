@@ -26,8 +26,8 @@ use Rattle.level.proofs.Scale.{least-parts, parts-rise}
 use Rattle.level.proofs.Rounding.{least-count}
 use Rattle.level.proofs.Valid.{segments-valid}
 use Rattle.edge.specs.Positions.{position}
-use Rattle.mesh.specs.Edge.{Run}
-use Rattle.mesh.specs.Segmented.{run}
+use Rattle.mesh_geometry.specs.Edge.{Run}
+use Rattle.mesh_geometry.specs.Segmented.{run}
 use Rattle.vulkan_chapter.specs.Lengths.{Decreases}
 use Rattle.vulkan_chapter.specs.Spacing.{lowEnd, highEnd, Clamped, whole, RoundedUp, LengthsOf, Spaced, EdgeRule, onePlus, Subdivides}
 use Rattle.vulkan_chapter.proofs.Lengths.{divided, additional, vanishes, all-equal, decreases}

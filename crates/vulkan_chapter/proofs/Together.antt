@@ -12,7 +12,7 @@ use Rattle.level.specs.Top.{Top, isTop}
 use Rattle.patch.specs.declared.kinds.Patch.{Patch}
 use Rattle.patch.specs.declared.settings.Settings.{Settings}
 use Rattle.patch.specs.Subdivide.{discards}
-use Rattle.mesh.specs.Words.{readPoints}
+use Rattle.mesh_geometry.specs.Words.{readPoints}
 use Rattle.tessellate.specs.declared.answer.PointsAnswer.{PointsAnswer}
 use Rattle.tessellate.specs.declared.answer.IndicesAnswer.{IndicesAnswer}
 use Rattle.tessellate.specs.Answers.{toldPoints, toldIndices, pointsOf, indicesOf, verdict}

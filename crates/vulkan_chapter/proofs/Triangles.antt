@@ -12,26 +12,26 @@ use borrow.Author.Tests.{eq-eqb, eqb-true}
 use Rattle.strip.specs.declared.triangle.Triangle.{Triangle}
 use Rattle.strip.specs.Triangles.{turned}
 use Rattle.strip.specs.Mirror.{SameCorners}
-use Rattle.cover.specs.Sides.{sum}
-use Rattle.cover.specs.Ring.{ringAt}
-use Rattle.cover.specs.Nest.{nest}
-use Rattle.cover.specs.Quad.{joined}
-use Rattle.cover.specs.RingVertices.{ringSegments, edgeFirst, ringSize, ringFirst, vertexOn}
-use Rattle.cover.specs.RingStrips.{ringStrip, stripsBetween, innermost, ringStrips}
-use Rattle.cover.proofs.Ring.{ring-zero}
-use Rattle.cover.proofs.Sums.{sum-constant}
-use Rattle.cover.proofs.RingVertices.{vertex-before, vertex-end}
-use Rattle.cover.proofs.RingStrips.{nest-exactly}
-use Rattle.mesh.specs.declared.Point.{Point}
-use Rattle.mesh.specs.Faces.{at}
-use Rattle.mesh.specs.Edge.{Run, GoodRun}
-use Rattle.mesh.specs.OnEdge.{oppositeCoordinate, OnTriangle}
-use Rattle.mesh.specs.TrianglePoints.{centre, trianglePatch}
-use Rattle.mesh.specs.RingPoints.{segments, RingPoints}
-use Rattle.mesh.proofs.Lists.{All, none, more, all-append, all-more}
-use Rattle.mesh.proofs.Located.{located}
-use Rattle.mesh.proofs.QuadTurns.{joined-all}
-use Rattle.mesh.proofs.RingPoints.{rings-exactly}
+use Rattle.mesh_topology.specs.Sides.{sum}
+use Rattle.mesh_topology.specs.Ring.{ringAt}
+use Rattle.mesh_topology.specs.Nest.{nest}
+use Rattle.mesh_topology.specs.Quad.{joined}
+use Rattle.mesh_topology.specs.RingVertices.{ringSegments, edgeFirst, ringSize, ringFirst, vertexOn}
+use Rattle.mesh_topology.specs.RingStrips.{ringStrip, stripsBetween, innermost, ringStrips}
+use Rattle.mesh_topology.proofs.Ring.{ring-zero}
+use Rattle.mesh_topology.proofs.Sums.{sum-constant}
+use Rattle.mesh_topology.proofs.RingVertices.{vertex-before, vertex-end}
+use Rattle.mesh_topology.proofs.RingStrips.{nest-exactly}
+use Rattle.mesh_geometry.specs.declared.Point.{Point}
+use Rattle.mesh_geometry.specs.Faces.{at}
+use Rattle.mesh_geometry.specs.Edge.{Run, GoodRun}
+use Rattle.mesh_geometry.specs.OnEdge.{oppositeCoordinate, OnTriangle}
+use Rattle.mesh_geometry.specs.TrianglePoints.{centre, trianglePatch}
+use Rattle.mesh_geometry.specs.RingPoints.{segments, RingPoints}
+use Rattle.mesh_geometry.proofs.Lists.{All, none, more, all-append, all-more}
+use Rattle.mesh_geometry.proofs.Located.{located}
+use Rattle.mesh_geometry.proofs.QuadTurns.{joined-all}
+use Rattle.mesh_geometry.proofs.RingPoints.{rings-exactly}
 use Rattle.vulkan_chapter.specs.Members.{Member}
 use Rattle.vulkan_chapter.specs.Between.{NumberedLine, Filled}
 use Rattle.vulkan_chapter.specs.Triangles.{OnPerpendicular, Concentric, OnRing, IsRing, InRings, RingDrawn}

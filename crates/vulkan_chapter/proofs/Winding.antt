@@ -9,8 +9,8 @@ use Rattle.patch.specs.declared.settings.VertexOrder.the-variants.{Clockwise, C
 use Rattle.patch.specs.declared.settings.DomainOrigin.{DomainOrigin}
 use Rattle.patch.specs.declared.settings.DomainOrigin.the-variants.{UpperLeft, LowerLeft}
 use Rattle.patch.specs.Turn.{positive}
-use Rattle.mesh.specs.Cover.{Face, twiceArea, HasSign}
-use Rattle.mesh.proofs.Signed.{Is, is-same, is-neg, is-add, is-above, is-below, is-area, loop}
+use Rattle.mesh_geometry.specs.Cover.{Face, twiceArea, HasSign}
+use Rattle.mesh_geometry.proofs.Signed.{Is, is-same, is-neg, is-add, is-above, is-below, is-area, loop}
 use Rattle.vulkan_chapter.specs.Winding.{windingArea, Ordered}
 
 is-pos : (n : ℕ) → Is (pos n) n 0

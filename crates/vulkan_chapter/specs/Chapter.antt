@@ -12,17 +12,17 @@ use Rattle.patch.specs.declared.kinds.Patch.the-variants.{Triangles, Quads, Iso
 use Rattle.patch.specs.declared.settings.Settings.{Settings}
 use Rattle.patch.specs.Subdivide.{outers}
 use Rattle.patch.specs.Turn.{positive}
-use Rattle.mesh.specs.declared.Point.{Point}
-use Rattle.mesh.specs.Cover.{Face, Cover}
-use Rattle.mesh.specs.Seam.{places}
-use Rattle.mesh.specs.Edge.{Run, ring, along}
-use Rattle.mesh.specs.TrianglePoints.{trianglePlace}
-use Rattle.mesh.specs.QuadPoints.{quadPlace}
-use Rattle.mesh.specs.Words.{readTriangles}
-use Rattle.drawing.specs.Demand.{Surface, outerLevel, edges, twiceAreaOf}
-use Rattle.mesh.specs.Faces.{facesIn}
-use Rattle.drawing.specs.Inside.{SpotsOnce}
-use Rattle.drawing.specs.InPatch.{InPatch, domainOf}
+use Rattle.mesh_geometry.specs.declared.Point.{Point}
+use Rattle.mesh_geometry.specs.Cover.{Face, Cover}
+use Rattle.mesh_geometry.specs.Seam.{places}
+use Rattle.mesh_geometry.specs.Edge.{Run, ring, along}
+use Rattle.mesh_geometry.specs.TrianglePoints.{trianglePlace}
+use Rattle.mesh_geometry.specs.QuadPoints.{quadPlace}
+use Rattle.mesh_geometry.specs.Words.{readTriangles}
+use Rattle.patch_mesh.specs.Demand.{Surface, outerLevel, edges, twiceAreaOf}
+use Rattle.mesh_geometry.specs.Faces.{facesIn}
+use Rattle.patch_mesh.specs.Inside.{SpotsOnce}
+use Rattle.patch_mesh.specs.InPatch.{InPatch, domainOf}
 use Rattle.vulkan_chapter.specs.Members.{Member}
 use Rattle.vulkan_chapter.specs.Discard.{PatchDiscarded}
 use Rattle.vulkan_chapter.specs.Spacing.{EdgeRule, Subdivides}

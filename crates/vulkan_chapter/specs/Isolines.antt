@@ -5,10 +5,10 @@ use mathlib.Core.Path.{_≡_}
 use mathlib.Core.List.{List}
 use mathlib.Core.Logic.{_⊎_}
 use lib.ListN.{length, getD}
-use Rattle.mesh.specs.declared.Point.{Point}
-use Rattle.mesh.specs.Cover.{missing}
-use Rattle.mesh.specs.Faces.{at}
-use Rattle.mesh.specs.Edge.{Run}
+use Rattle.mesh_geometry.specs.declared.Point.{Point}
+use Rattle.mesh_geometry.specs.Cover.{missing}
+use Rattle.mesh_geometry.specs.Faces.{at}
+use Rattle.mesh_geometry.specs.Edge.{Run}
 use Rattle.vulkan_chapter.specs.Members.{Member}
 use Rattle.vulkan_chapter.specs.Between.{NumberedLine}
 

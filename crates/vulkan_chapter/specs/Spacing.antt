@@ -12,7 +12,7 @@ use Rattle.level.specs.declared.Spacing.the-variants.{Equal, FractionalEven, Fr
 use Rattle.level.specs.Top.{Top}
 use Rattle.level.specs.Scale.{LeastParts}
 use Rattle.level.specs.Rounding.{Kind}
-use Rattle.mesh.specs.Edge.{Run}
+use Rattle.mesh_geometry.specs.Edge.{Run}
 use Rattle.vulkan_chapter.specs.Lengths.{Divided, AllEqual, Additional, Decreases, Vanishes}
 
 -- ---- the clamp, where t is the maximum level

@@ -7,11 +7,11 @@ use mathlib.Core.List.{List, [], _∷_}
 use lib.ListN.{length}
 use Rattle.strip.specs.declared.triangle.Triangle.{Triangle}
 use Rattle.strip.specs.Mirror.{SameCorners}
-use Rattle.mesh.specs.declared.Point.{Point}
-use Rattle.mesh.specs.Domain.{triangle}
-use Rattle.mesh.specs.Edge.{Run}
-use Rattle.mesh.specs.Faces.{at}
-use Rattle.mesh.specs.OnEdge.{startCoordinate, endCoordinate, oppositeCoordinate, OnEdge}
+use Rattle.mesh_geometry.specs.declared.Point.{Point}
+use Rattle.mesh_geometry.specs.Domain.{triangle}
+use Rattle.mesh_geometry.specs.Edge.{Run}
+use Rattle.mesh_geometry.specs.Faces.{at}
+use Rattle.mesh_geometry.specs.OnEdge.{startCoordinate, endCoordinate, oppositeCoordinate, OnEdge}
 use Rattle.vulkan_chapter.specs.Members.{Member}
 use Rattle.vulkan_chapter.specs.Between.{NumberedLine, Joins, Filled}
 

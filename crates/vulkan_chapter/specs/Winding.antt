@@ -7,7 +7,7 @@ use Rattle.patch.specs.declared.settings.VertexOrder.{VertexOrder}
 use Rattle.patch.specs.declared.settings.VertexOrder.the-variants.{Clockwise, CounterClockwise}
 use Rattle.patch.specs.declared.settings.DomainOrigin.{DomainOrigin}
 use Rattle.patch.specs.declared.settings.DomainOrigin.the-variants.{UpperLeft, LowerLeft}
-use Rattle.mesh.specs.Cover.{Face, HasSign}
+use Rattle.mesh_geometry.specs.Cover.{Face, HasSign}
 
 -- the chapter's quantity a of a triangle, over whole coordinates
 abbrev pub windingArea : Face → ℤ

@@ -3,10 +3,10 @@ use native.Mathlib.Omega.{arith}
 use Prim.Native.Nat.{_+_, _-_, _≤_}
 use mathlib.Core.Path.{_≡_, refl, sym, ap, _∙_}
 use lib.ListN.{length, length-set}
-use Rattle.mesh.specs.Words.{readPoints}
-use Rattle.searches.specs.Points.{repeats, firstRepeated}
-use Rattle.searches.proofs.First.{Below, below-zero, below-more, first-at, first-none}
-use Rattle.searches.proofs.Read.{points-count}
+use Rattle.mesh_geometry.specs.Words.{readPoints}
+use Rattle.check_searches.specs.Points.{repeats, firstRepeated}
+use Rattle.check_searches.proofs.First.{Below, below-zero, below-more, first-at, first-none}
+use Rattle.check_searches.proofs.Read.{points-count}
 use Rattle.point_table.specs.Trees.{PointTable}
 use Rattle.point_table.proofs.Trees.{table-more, sought-new, sought-again}
 use borrow.Author.Needs.{needs}
@@ -15,7 +15,7 @@ use Rattle.point_table.proofs.fill.Tie as tie
 use Rattle.point_table.proofs.fill.Reads as reads
 use Rattle.point_table.proofs.fill.Lts as lts
 use Rattle.point_table.proofs.seek.Reads as seek-reads
-use Rattle.searches.proofs.point.point_at.Reads as point-at-reads
+use Rattle.check_searches.proofs.point.point_at.Reads as point-at-reads
 
 abbrev Inv-loop : tie.InvT-loop
 Inv-loop points table₀ slots count j₀ table j = (j ≤ count) × Below (repeats (readPoints points)) j × PointTable (readPoints points) slots j table × (length table ≡ length table₀)

@@ -3,7 +3,7 @@ use native.Mathlib.Omega.{arith}
 use Prim.Native.Nat.{_+_, _*_, _-_, _≤_, _<_}
 use mathlib.Core.Path.{_≡_, refl, sym, _∙_}
 use lib.ListN.{length, getD}
-use Rattle.mesh.specs.Words.{readPoints}
+use Rattle.mesh_geometry.specs.Words.{readPoints}
 use Rattle.point_table.proofs.Trees.{Passed, passed-none, passed-more, sought-at, sought-empty}
 use borrow.Author.Needs.{needs}
 use Rattle.point_table.proofs.seek.Statement.{statement}
@@ -13,7 +13,7 @@ use Rattle.point_table.proofs.seek.Lts as lts
 use Rattle.point_table.proofs.next_bit.Reads as next-bit-reads
 use Rattle.point_table.proofs.slot_of.Reads as slot-of-reads
 use Rattle.point_table.proofs.turn.Reads as turn-reads
-use Rattle.searches.proofs.point.lies_at.Reads as lies-at-reads
+use Rattle.check_searches.proofs.point.lies_at.Reads as lies-at-reads
 
 abbrev Inv-loop : tie.InvT-loop
 Inv-loop points count table slots p x₀ rest₀ k₀ x rest k = Passed (readPoints points) table slots p rest x × (k ≡ getD table x 0) × (x < slots + 2 * count) × (k ≤ count)

@@ -9,7 +9,7 @@ use Rattle.buffer.specs.Over.{flat}
 use Rattle.buffer.proofs.Laws.{Counting, count-begin, count-room, count-step, count-done}
 use Rattle.strip_blocks.specs.Blocks.{pairOn}
 use Rattle.strip_blocks.proofs.Blocks.{laid, block-laid, pairs-size}
-use Rattle.copies.proofs.Again.{wrote-whole}
+use Rattle.shifted_copies.proofs.Again.{wrote-whole}
 use Rattle.strip_blocks.proofs.block.Statement.{statement}
 use Rattle.strip_blocks.proofs.block.Tie as tie
 

@@ -6,7 +6,7 @@ use mathlib.Core.Path.{refl}
 use mathlib.Core.List.{[], _∷_}
 use lib.ListN.{getD}
 use Rattle.buffer.proofs.Laws.{Counting, count-begin, count-room, count-step, count-done}
-use Rattle.copies.proofs.Again.{words-all}
+use Rattle.shifted_copies.proofs.Again.{words-all}
 use Rattle.strip_blocks.proofs.put_block.Statement.{statement}
 use Rattle.strip_blocks.proofs.put_block.Tie as tie
 

@@ -5,8 +5,8 @@ use Prim.Native.Nat.{_-_}
 use mathlib.Core.Path.{_≡_, _∙_, sym}
 use lib.ListN.{length}
 use Rattle.buffer.proofs.Laws.{Counting, count-begin, count-room, count-step, count-done, wrote-as}
-use Rattle.copies.specs.Copies.{copy}
-use Rattle.copies.proofs.Shifts.{copy-length}
+use Rattle.shifted_copies.specs.Copies.{copy}
+use Rattle.shifted_copies.proofs.Shifts.{copy-length}
 use Rattle.strip_blocks.proofs.Blocks.{copy-first, copy-next}
 use Rattle.strip_blocks.proofs.write_blocks.Statement.{statement}
 use Rattle.strip_blocks.proofs.write_blocks.Tie as tie

@@ -3,17 +3,17 @@ use native.Mathlib.Omega.{arith}
 use Prim.Native.Nat.{_-_, _≤_, _/_, _*_}
 use mathlib.Core.Path.{_≡_, refl, _∙_, sym}
 use lib.ListN.{length}
-use Rattle.mesh.specs.Words.{readTriangles}
-use Rattle.side_chains.specs.Links.{Linked}
-use Rattle.side_chains.proofs.Numbers.{start-word}
-use Rattle.side_chains.proofs.Table.{linked-none}
+use Rattle.mesh_geometry.specs.Words.{readTriangles}
+use Rattle.half_edge_chains.specs.Links.{Linked}
+use Rattle.half_edge_chains.proofs.Numbers.{start-word}
+use Rattle.half_edge_chains.proofs.Table.{linked-none}
 use borrow.Author.Needs.{needs}
 use Rattle.triangle_table.proofs.fill.Statement.{statement}
 use Rattle.triangle_table.proofs.fill.Tie as tie
 use Rattle.triangle_table.proofs.fill.Reads as reads
 use Rattle.triangle_table.proofs.fill.Lts as lts
-use Rattle.side_chains.proofs.chain.add_side.Reads as add-side-reads
-use Rattle.side_chains.proofs.number.end_at.Reads as end-at-reads
+use Rattle.half_edge_chains.proofs.chain.add_side.Reads as add-side-reads
+use Rattle.half_edge_chains.proofs.number.end_at.Reads as end-at-reads
 
 abbrev Inv-loop : tie.InvT-loop
 Inv-loop indices heads₀ links₀ sides m₀ heads links m = (m ≤ sides) × Linked (readTriangles indices) m heads links × (length heads ≡ length heads₀) × (length links ≡ length links₀)

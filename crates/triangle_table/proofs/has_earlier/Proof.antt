@@ -8,7 +8,7 @@ use Rattle.triangle_table.proofs.has_earlier.Tie as tie
 use Rattle.triangle_table.proofs.has_earlier.Reads as reads
 use Rattle.triangle_table.proofs.has_earlier.Lts as lts
 use Rattle.triangle_table.proofs.walk.Reads as walk-reads
-use Rattle.side_chains.proofs.chain.before_in.Reads as before-in-reads
+use Rattle.half_edge_chains.proofs.chain.before_in.Reads as before-in-reads
 
 walk-requires : tie.Need-walk-requires
 walk-requires c κs =

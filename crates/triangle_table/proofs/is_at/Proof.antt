@@ -3,15 +3,15 @@ use native.Mathlib.Omega.{arith}
 use Rattle.triangle_table.proofs.Walks.{hit-end, hit-same}
 use mathlib.Core.Path.{_∙_, sym, ap}
 use Rattle.strip.specs.declared.triangle.Triangle.{Triangle}
-use Rattle.side_searches.specs.Same.{sameTriangle}
+use Rattle.check_side_searches.specs.Same.{sameTriangle}
 use borrow.Author.Needs.{needs}
 use Rattle.triangle_table.proofs.is_at.Statement.{statement}
 use Rattle.triangle_table.proofs.is_at.Tie as tie
 use Rattle.triangle_table.proofs.is_at.Reads as reads
 use Rattle.triangle_table.proofs.is_at.Lts as lts
-use Rattle.searches.proofs.triangle.triangle_at.Reads as triangle-at-reads
-use Rattle.side_chains.proofs.chain.end_in.Reads as end-in-reads
-use Rattle.side_searches.proofs.same.same_triangle.Reads as same-triangle-reads
+use Rattle.check_searches.proofs.triangle.triangle_at.Reads as triangle-at-reads
+use Rattle.half_edge_chains.proofs.chain.end_in.Reads as end-in-reads
+use Rattle.check_side_searches.proofs.same.same_triangle.Reads as same-triangle-reads
 
 end-in-requires : tie.Need-end-in-requires
 end-in-requires c κs = search needs

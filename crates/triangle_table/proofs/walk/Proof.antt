@@ -2,9 +2,9 @@
 use native.Mathlib.Omega.{arith}
 use Prim.Native.Nat.{_-_, _*_}
 use mathlib.Core.Path.{_≡_, refl, _∙_, sym}
-use Rattle.mesh.specs.Words.{readTriangles}
+use Rattle.mesh_geometry.specs.Words.{readTriangles}
 use Rattle.triangle_table.specs.Hits.{Sought}
-use Rattle.side_chains.proofs.Table.{link-end}
+use Rattle.half_edge_chains.proofs.Table.{link-end}
 use Rattle.triangle_table.proofs.Walks.{seek-begins, seek-here, seek-goes-on, seek-less, seek-meets, seek-ends}
 use borrow.Author.Needs.{needs}
 use Rattle.triangle_table.proofs.walk.Statement.{statement}
@@ -12,7 +12,7 @@ use Rattle.triangle_table.proofs.walk.Tie as tie
 use Rattle.triangle_table.proofs.walk.Reads as reads
 use Rattle.triangle_table.proofs.walk.Lts as lts
 use Rattle.triangle_table.proofs.is_at.Reads as is-at-reads
-use Rattle.side_chains.proofs.chain.before_in.Reads as before-in-reads
+use Rattle.half_edge_chains.proofs.chain.before_in.Reads as before-in-reads
 
 abbrev Inv-loop : tie.InvT-loop
 Inv-loop indices heads links n from t k₀ k = Sought (readTriangles indices) t (n * 3) k

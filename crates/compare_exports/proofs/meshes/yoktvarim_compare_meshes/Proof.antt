@@ -5,7 +5,7 @@ use Rattle.compare_exports.proofs.meshes.yoktvarim_compare_meshes.State
 use Rattle.compare_exports.proofs.meshes.yoktvarim_compare_meshes.Tie as tie
 use Rattle.compare_exports.proofs.meshes.yoktvarim_compare_meshes.Reads as reads
 use Rattle.compare_exports.proofs.meshes.yoktvarim_compare_meshes.Lts as lts
-use Rattle.compare.proofs.tool.compare.Reads as compare-reads
+use Rattle.compare_meshes.proofs.tool.compare.Reads as compare-reads
 use Rattle.compare_exports.proofs.reply.reply_to.Reads as reply-to-reads
 
 compare-requires : tie.Need-compare-requires

@@ -2,8 +2,8 @@
 use native.Mathlib.Omega.{arith}
 use mathlib.Core.Path.{sym, ap, _∙_}
 use Prim.Native.Nat.{ℕ, _+_}
-use Rattle.compare.specs.declared.answer.Comparison.{Comparison}
-use Rattle.compare.specs.Answers.{told}
+use Rattle.compare_meshes.specs.declared.answer.Comparison.{Comparison}
+use Rattle.compare_meshes.specs.Answers.{told}
 use Rattle.compare_exports.specs.Calls.{replyOf}
 use Rattle.compare_exports.proofs.Numbers.{shift-most, fault-told}
 use borrow.Author.Needs.{needs}

@@ -2,8 +2,8 @@
 use native.Mathlib.Omega.{arith}
 use mathlib.Core.Path.{refl}
 use borrow.Author.Tests.{not-false}
-use Rattle.table_flags.specs.Flags.{missing, isFirst}
-use Rattle.table_flags.proofs.Tables.{known-all, known-none, flagged-once, flagged-twice, and-turned}
+use Rattle.compare_table_flags.specs.Flags.{missing, isFirst}
+use Rattle.compare_table_flags.proofs.Tables.{known-all, known-none, flagged-once, flagged-twice, and-turned}
 use borrow.Author.Needs.{needs}
 use Rattle.compare_flags.proofs.meshes.flag_meshes.Statement.{statement}
 use Rattle.compare_flags.proofs.meshes.flag_meshes.Tie as tie

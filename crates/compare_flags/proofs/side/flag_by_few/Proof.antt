@@ -1,7 +1,7 @@
 -- Meets its contract. Assumes nothing.
 use native.Mathlib.Omega.{arith}
-use Rattle.side_chains.proofs.Table.{zeros-all}
-use Rattle.table_flags.proofs.Tables.{numbered-in}
+use Rattle.half_edge_chains.proofs.Table.{zeros-all}
+use Rattle.compare_table_flags.proofs.Tables.{numbered-in}
 use borrow.Author.Needs.{needs}
 use Rattle.compare_flags.proofs.side.flag_by_few.Statement.{statement}
 use Rattle.compare_flags.proofs.side.flag_by_few.Tie as tie

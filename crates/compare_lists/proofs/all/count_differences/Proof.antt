@@ -1,6 +1,6 @@
 -- Meets its contract. Assumes nothing.
 use native.Mathlib.Omega.{arith}
-use Rattle.differences.specs.Meshes.{readMesh}
+use Rattle.compare_differences.specs.Meshes.{readMesh}
 use Rattle.compare_lists.proofs.Passing.{Few, few}
 use Rattle.compare_lists.proofs.Parts.{parts-count}
 use borrow.Author.Needs.{needs}

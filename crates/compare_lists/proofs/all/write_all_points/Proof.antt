@@ -3,8 +3,8 @@ use native.Mathlib.Omega.{arith}
 use mathlib.Core.Path.{refl, sym}
 use mathlib.Core.List.{[], append-nil}
 use Rattle.buffer.proofs.Laws.{left-all, left-fits, left-step, wrote-then}
-use Rattle.differences.specs.Meshes.{pointsIn}
-use Rattle.differences.specs.Differences.{pointDifferences, words}
+use Rattle.compare_differences.specs.Meshes.{pointsIn}
+use Rattle.compare_differences.specs.Differences.{pointDifferences, words}
 use borrow.Author.Needs.{needs}
 use Rattle.compare_lists.proofs.all.write_all_points.Statement.{statement}
 use Rattle.compare_lists.proofs.all.write_all_points.Tie as tie

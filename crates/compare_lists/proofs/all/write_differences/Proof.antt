@@ -3,8 +3,8 @@ use borrow.Author.Needs.{needs}
 use mathlib.Core.Path.{refl, sym}
 use mathlib.Core.List.{[], append-nil}
 use Rattle.buffer.proofs.Laws.{left-fits, left-last}
-use Rattle.differences.specs.Meshes.{readMesh}
-use Rattle.differences.specs.Differences.{leftFaces, rightFaces, words}
+use Rattle.compare_differences.specs.Meshes.{readMesh}
+use Rattle.compare_differences.specs.Differences.{leftFaces, rightFaces, words}
 use Rattle.compare_lists.proofs.Parts.{points-fit, after-points, after-faces}
 use Rattle.compare_lists.proofs.all.write_differences.Statement.{statement}
 use Rattle.compare_lists.proofs.all.write_differences.Tie as tie

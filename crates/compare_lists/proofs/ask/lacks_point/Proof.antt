@@ -1,13 +1,13 @@
 -- Meets its contract. Assumes nothing.
 use native.Mathlib.Omega.{arith}
 use mathlib.Core.Path.{_≡_, refl, _∙_, sym, ap}
-use Rattle.table_flags.proofs.Tables.{flag-tells}
+use Rattle.compare_table_flags.proofs.Tables.{flag-tells}
 use borrow.Author.Needs.{needs}
 use Rattle.compare_lists.proofs.ask.lacks_point.Statement.{statement}
 use Rattle.compare_lists.proofs.ask.lacks_point.Tie as tie
 use Rattle.compare_lists.proofs.ask.lacks_point.Reads as reads
 use Rattle.compare_lists.proofs.ask.lacks_point.Lts as lts
-use Rattle.differences.proofs.side.lacks_point.Reads as lacks-point-reads
+use Rattle.compare_differences.proofs.side.lacks_point.Reads as lacks-point-reads
 
 shared-slice-read-result : tie.Need-shared-slice-read-result
 shared-slice-read-result c = omega (arith, (c .before .before .before .before .before .pre .1 .1 .is (c .before .if1 .taken)) .room, c .before .before .before .before .before .pre .0)

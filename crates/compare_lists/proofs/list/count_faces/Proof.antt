@@ -4,9 +4,9 @@ use native.Mathlib.Omega.{arith}
 use Prim.Native.Nat.{_-_}
 use mathlib.Core.Path.{sym, ap, _∙_}
 use mathlib.Core.Bool.{Bool, cond}
-use Rattle.searches.proofs.Read.{triangles-count}
-use Rattle.differences.specs.Lacking.{lacks}
-use Rattle.differences.specs.Meshes.{facesIn, sameFace}
+use Rattle.check_searches.proofs.Read.{triangles-count}
+use Rattle.compare_differences.specs.Lacking.{lacks}
+use Rattle.compare_differences.specs.Meshes.{facesIn, sameFace}
 use Rattle.compare_lists.proofs.Passing.{cond-most, Tally, tally-start, tally-step, tally-done, flags-pass}
 use Rattle.compare_lists.proofs.list.count_faces.Statement.{statement}
 use Rattle.compare_lists.proofs.list.count_faces.Tie as tie

@@ -4,10 +4,10 @@ use native.Mathlib.Omega.{arith}
 use Prim.Native.Nat.{_-_}
 use mathlib.Core.Path.{sym, ap, _∙_}
 use mathlib.Core.Bool.{Bool, cond}
-use Rattle.searches.specs.Points.{samePoint}
-use Rattle.searches.proofs.Read.{points-count}
-use Rattle.differences.specs.Lacking.{lacks}
-use Rattle.differences.specs.Meshes.{pointsIn}
+use Rattle.check_searches.specs.Points.{samePoint}
+use Rattle.check_searches.proofs.Read.{points-count}
+use Rattle.compare_differences.specs.Lacking.{lacks}
+use Rattle.compare_differences.specs.Meshes.{pointsIn}
 use Rattle.compare_lists.proofs.Passing.{cond-most, Tally, tally-start, tally-step, tally-done, flags-pass}
 use Rattle.compare_lists.proofs.list.count_points.Statement.{statement}
 use Rattle.compare_lists.proofs.list.count_points.Tie as tie

@@ -4,7 +4,7 @@ use native.Mathlib.Omega.{arith}
 use Prim.Native.Nat.{_-_}
 use lib.Dec.{eqb}
 use lib.ListN.{getD}
-use Rattle.table_flags.specs.Flags.{isSet}
+use Rattle.compare_table_flags.specs.Flags.{isSet}
 use Rattle.compare_lists.proofs.Passing.{cond-most, Tally, tally-start, tally-step, tally-done}
 use Rattle.compare_lists.proofs.list.count_set.Statement.{statement}
 use Rattle.compare_lists.proofs.list.count_set.Tie as tie

@@ -6,10 +6,10 @@ use mathlib.Core.Path.{sym, ap}
 use mathlib.Core.Bool.{Bool}
 use lib.ListN.{length}
 use Rattle.buffer.proofs.Laws.{Counting, count-start, count-fits, count-step, count-done, wrote-as}
-use Rattle.searches.proofs.Read.{triangles-count}
-use Rattle.differences.specs.Lacking.{lacks}
-use Rattle.differences.specs.Meshes.{facesIn, sameFace}
-use Rattle.differences.specs.Differences.{wordsIf}
+use Rattle.check_searches.proofs.Read.{triangles-count}
+use Rattle.compare_differences.specs.Lacking.{lacks}
+use Rattle.compare_differences.specs.Meshes.{facesIn, sameFace}
+use Rattle.compare_differences.specs.Differences.{wordsIf}
 use Rattle.compare_lists.proofs.Passing.{passing-words}
 use Rattle.compare_lists.proofs.list.write_faces.Statement.{statement}
 use Rattle.compare_lists.proofs.list.write_faces.Tie as tie

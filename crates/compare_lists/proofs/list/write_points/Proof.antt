@@ -5,12 +5,12 @@ use Prim.Native.Nat.{_-_}
 use mathlib.Core.Path.{sym, ap}
 use mathlib.Core.Bool.{Bool}
 use lib.ListN.{length}
-use Rattle.searches.specs.Points.{samePoint}
+use Rattle.check_searches.specs.Points.{samePoint}
 use Rattle.buffer.proofs.Laws.{Counting, count-start, count-fits, count-step, count-done, wrote-as}
-use Rattle.searches.proofs.Read.{points-count}
-use Rattle.differences.specs.Lacking.{lacks}
-use Rattle.differences.specs.Meshes.{pointsIn}
-use Rattle.differences.specs.Differences.{wordsIf}
+use Rattle.check_searches.proofs.Read.{points-count}
+use Rattle.compare_differences.specs.Lacking.{lacks}
+use Rattle.compare_differences.specs.Meshes.{pointsIn}
+use Rattle.compare_differences.specs.Differences.{wordsIf}
 use Rattle.compare_lists.proofs.Passing.{passing-words}
 use Rattle.compare_lists.proofs.list.write_points.Statement.{statement}
 use Rattle.compare_lists.proofs.list.write_points.Tie as tie

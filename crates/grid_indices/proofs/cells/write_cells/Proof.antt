@@ -4,10 +4,10 @@ use native.Mathlib.Omega.{arith}
 use native.Mathlib.Nat.{add-mul, mul-le-mul, mul-le-mul-right}
 use Prim.Native.Nat.{ℕ, _+_, _*_, _≤_}
 use mathlib.Core.Path.{_≡_, ap}
-use Rattle.copies.specs.Copies.{copy}
+use Rattle.shifted_copies.specs.Copies.{copy}
 use Rattle.grid_indices.specs.Grids.{rowWords}
 use Rattle.grid_indices.proofs.Grids.{gridRow, some-rows, row-length, cells-words, row-shifted}
-use Rattle.copies.proofs.Shifts.{copies-wrote}
+use Rattle.shifted_copies.proofs.Shifts.{copies-wrote}
 use Rattle.grid_indices.proofs.cells.write_cells.Statement.{statement}
 use Rattle.grid_indices.proofs.cells.write_cells.Tie as tie
 

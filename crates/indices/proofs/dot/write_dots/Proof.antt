@@ -4,8 +4,8 @@ use native.Mathlib.Omega.{arith}
 use Prim.Native.Nat.{_-_}
 use mathlib.Core.List.{[], _∷_}
 use Rattle.buffer.proofs.Laws.{Counting, counting, count-start}
-use Rattle.cover.specs.Lines.{dots}
-use Rattle.cover.proofs.Length.{dots-length}
+use Rattle.mesh_topology.specs.Lines.{dots}
+use Rattle.mesh_topology.proofs.Length.{dots-length}
 use Rattle.indices.proofs.dot.write_dots.Statement.{statement}
 use Rattle.indices.proofs.dot.write_dots.Tie as tie
 

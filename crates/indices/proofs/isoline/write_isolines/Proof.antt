@@ -6,10 +6,10 @@ use Prim.Native.Nat.{ℕ, suc, _+_, _*_, _≤_}
 use mathlib.Core.Path.{_≡_, ap}
 use Rattle.buffer.specs.Over.{flat}
 use Rattle.buffer.proofs.Laws.{wrote-none, wrote-as}
-use Rattle.cover.specs.Lines.{isolines}
+use Rattle.mesh_topology.specs.Lines.{isolines}
 use Rattle.indices.specs.Isolines.{lineWords}
 use Rattle.indices.proofs.Isolines.{line, line-length, line-copied, isolines-are}
-use Rattle.copies.proofs.Shifts.{copies-wrote}
+use Rattle.shifted_copies.proofs.Shifts.{copies-wrote}
 use Rattle.indices.proofs.isoline.write_isolines.Statement.{statement}
 use Rattle.indices.proofs.isoline.write_isolines.Tie as tie
 

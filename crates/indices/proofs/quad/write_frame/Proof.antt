@@ -4,9 +4,9 @@ use native.Mathlib.Omega.{arith}
 use Prim.Native.Nat.{_+_, _-_}
 use mathlib.Core.Path.{refl}
 use mathlib.Core.List.{[], _∷_}
-use Rattle.cover.specs.Ring.{ringAt}
-use Rattle.cover.specs.Band.{from, Edge}
-use Rattle.cover.specs.Quad.{gridAt}
+use Rattle.mesh_topology.specs.Ring.{ringAt}
+use Rattle.mesh_topology.specs.Band.{from, Edge}
+use Rattle.mesh_topology.specs.Quad.{gridAt}
 use Rattle.ring_indices.proofs.Bands.{side-next, band-step, band-last}
 use Rattle.indices.proofs.quad.write_frame.Statement.{statement}
 use Rattle.indices.proofs.quad.write_frame.Tie as tie

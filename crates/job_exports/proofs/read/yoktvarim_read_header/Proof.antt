@@ -1,7 +1,7 @@
 -- Meets its contract. Assumes nothing.
 use borrow.Author.Needs.{needs}
 use mathlib.Core.Path.{sym, ap}
-use Rattle.replies.proofs.Replies.{said-one, says-as}
+use Rattle.call_answers.proofs.Replies.{said-one, says-as}
 use Rattle.job_exports.specs.Calls.{toldRead}
 use Rattle.job_exports.proofs.read.yoktvarim_read_header.Statement.{statement}
 use Rattle.job_exports.proofs.read.yoktvarim_read_header.Tie as tie

@@ -1,7 +1,7 @@
 -- Meets its contract. Assumes nothing.
 use borrow.Author.Needs.{needs}
 use mathlib.Core.Path.{ap}
-use Rattle.replies.proofs.Replies.{tells-as, tells-one}
+use Rattle.call_answers.proofs.Replies.{tells-as, tells-one}
 use Rattle.job_exports.specs.Calls.{toldRead}
 use Rattle.job_exports.proofs.reply.of_header.Statement.{statement}
 use Rattle.job_exports.proofs.reply.of_header.Tie as tie

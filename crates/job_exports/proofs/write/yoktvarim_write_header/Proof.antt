@@ -2,7 +2,7 @@
 use borrow.Author.Needs.{needs}
 use mathlib.Core.Path.{refl}
 use Rattle.level.proofs.Top.{good, bad}
-use Rattle.replies.proofs.Replies.{said-one}
+use Rattle.call_answers.proofs.Replies.{said-one}
 use Rattle.job_exports.proofs.Calls.{kept, done, header-other, header-known}
 use Rattle.job_exports.proofs.write.yoktvarim_write_header.Statement.{statement}
 use Rattle.job_exports.proofs.write.yoktvarim_write_header.Tie as tie

@@ -3,8 +3,8 @@ use borrow.Author.Needs.{needs}
 use native.Mathlib.Omega.{arith}
 use mathlib.Core.Path.{refl, sym, ap}
 use Rattle.level.proofs.Top.{good, bad}
-use Rattle.replies.specs.Replies.{unknownSetting}
-use Rattle.replies.proofs.Replies.{said-one, tells-as}
+use Rattle.call_answers.specs.Replies.{unknownSetting}
+use Rattle.call_answers.proofs.Replies.{said-one, tells-as}
 use Rattle.job_exports.proofs.Calls.{kept, done, record-other, record-top, record-unknown, record-known}
 use Rattle.job_exports.proofs.write.yoktvarim_write_record.Statement.{statement}
 use Rattle.job_exports.proofs.write.yoktvarim_write_record.Tie as tie

@@ -4,9 +4,9 @@ use native.Mathlib.Omega.{arith}
 use Prim.Native.Nat.{_+_, _*_}
 use mathlib.Core.Path.{refl}
 use mathlib.Core.List.{[], _∷_}
-use Rattle.cover.specs.Ring.{ringAt}
-use Rattle.cover.specs.Band.{from}
-use Rattle.cover.specs.Nest.{ringEdge}
+use Rattle.mesh_topology.specs.Ring.{ringAt}
+use Rattle.mesh_topology.specs.Band.{from}
+use Rattle.mesh_topology.specs.Nest.{ringEdge}
 use Rattle.ring_indices.proofs.Rings.{follows-from}
 use Rattle.ring_indices.proofs.Bands.{side-next, band-step, band-last}
 use Rattle.ring_indices.proofs.nest.write_band.Statement.{statement}

@@ -4,8 +4,8 @@ use native.Mathlib.Omega.{arith}
 use Prim.Native.Nat.{_+_, _*_}
 use mathlib.Core.List.{[], _∷_}
 use Rattle.strip.specs.Lines.{vertex}
-use Rattle.cover.specs.Ring.{ringAt}
-use Rattle.cover.specs.Nest.{ringEdge}
+use Rattle.mesh_topology.specs.Ring.{ringAt}
+use Rattle.mesh_topology.specs.Nest.{ringEdge}
 use Rattle.strip_blocks.specs.Blocks.{on, lineOf}
 use Rattle.ring_indices.proofs.Rings.{line-closed}
 use Rattle.ring_indices.proofs.Bands.{on-ring, three-strips}
@@ -13,7 +13,7 @@ use Rattle.strip.specs.Triangles.{indices}
 use Rattle.strip.specs.Strips.{stepTriangle}
 use Rattle.strip.proofs.Strips.{indices-length, strip-same, strip-follows}
 use Rattle.strip_blocks.proofs.Blocks.{open-next}
-use Rattle.cover.specs.Band.{from}
+use Rattle.mesh_topology.specs.Band.{from}
 use mathlib.Core.Bool.{false}
 use Rattle.ring_indices.proofs.nest.write_long_band.Statement.{statement}
 use Rattle.ring_indices.proofs.nest.write_long_band.Tie as tie

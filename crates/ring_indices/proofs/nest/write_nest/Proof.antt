@@ -6,7 +6,7 @@ use mathlib.Core.Path.{refl}
 use mathlib.Core.Logic.{⊎-elim}
 use Rattle.buffer.proofs.Laws.{Left, left-all, left-fits, left-step, left-none, left-last}
 use Rattle.strip.specs.Triangles.{indices}
-use Rattle.cover.specs.Nest.{nest}
+use Rattle.mesh_topology.specs.Nest.{nest}
 use Rattle.ring_indices.proofs.Nests.{bandWords, band-length, nest-words-length, nest-more, nest-none, nest-one, one-triangle}
 use Rattle.ring_indices.proofs.nest.write_nest.Statement.{statement}
 use Rattle.ring_indices.proofs.nest.write_nest.Tie as tie

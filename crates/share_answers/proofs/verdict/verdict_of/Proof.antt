@@ -1,9 +1,9 @@
 -- Meets its contract. Assumes nothing.
 use borrow.Author.Needs.{needs}
 use Rattle.level.proofs.Top.{good, bad}
-use Rattle.shared_lists.specs.Answers.{lent, soundState}
+use Rattle.share_state.specs.Answers.{lent, soundState}
 use Rattle.share_answers.specs.Answers.{verdict}
-use Rattle.shared_lists.proofs.Sound.{both}
+use Rattle.share_state.proofs.Sound.{both}
 use Rattle.share_answers.proofs.verdict.verdict_of.Statement.{statement}
 use Rattle.share_answers.proofs.verdict.verdict_of.Tie as tie
 

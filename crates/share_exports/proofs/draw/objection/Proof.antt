@@ -1,7 +1,7 @@
 -- Meets its contract. Assumes nothing.
 use mathlib.Core.Path.{ap, _∙_}
 use Rattle.level.specs.Top.{isTop}
-use Rattle.replies.proofs.Replies.{tells-as}
+use Rattle.call_answers.proofs.Replies.{tells-as}
 use Rattle.level.proofs.Top.{good, bad}
 use Rattle.share_exports.proofs.Calls.{found-top, found-state, found-designer, found-setting, found-none}
 use borrow.Author.Needs.{needs}

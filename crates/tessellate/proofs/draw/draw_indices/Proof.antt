@@ -5,8 +5,8 @@ use mathlib.Core.Path.{refl, ap, _∙_}
 use mathlib.Core.Bool.{Bool}
 use Rattle.buffer.specs.Over.{over}
 use Rattle.patch.specs.declared.subdivision.Subdivision.{Subdivision}
-use Rattle.drawing.specs.Primitives.{inMode, indexWords}
-use Rattle.cut_patch.proofs.Modes.{mode-count}
+use Rattle.patch_mesh.specs.Primitives.{inMode, indexWords}
+use Rattle.patch_writer.proofs.Modes.{mode-count}
 use Rattle.tessellate.proofs.Cutting.{is-cut, cut-valid, cut-few, cut-indices, draw-bad, draw-discarded, draw-short, draw-done}
 use Rattle.tessellate.proofs.draw.draw_indices.Statement.{statement}
 use Rattle.tessellate.proofs.draw.draw_indices.Tie as tie

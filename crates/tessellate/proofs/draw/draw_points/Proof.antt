@@ -4,9 +4,9 @@ use native.Mathlib.Omega.{arith}
 use mathlib.Core.Path.{refl, ap, _∙_}
 use Rattle.buffer.specs.Over.{over}
 use Rattle.patch.specs.declared.subdivision.Subdivision.{Subdivision}
-use Rattle.mesh.specs.Words.{vertexWords}
-use Rattle.drawing.specs.Points.{points}
-use Rattle.drawing.proofs.Counts.{point-count}
+use Rattle.mesh_geometry.specs.Words.{vertexWords}
+use Rattle.patch_mesh.specs.Points.{points}
+use Rattle.patch_mesh.proofs.Counts.{point-count}
 use Rattle.tessellate.proofs.Cutting.{is-cut, cut-valid, cut-points, draw-bad, draw-discarded, draw-short, draw-done}
 use Rattle.tessellate.proofs.draw.draw_points.Statement.{statement}
 use Rattle.tessellate.proofs.draw.draw_points.Tie as tie

@@ -1,7 +1,7 @@
 -- Meets its contract: the part that is lent is the front. Assumes nothing.
 use borrow.Author.Needs.{needs}
 use Rattle.io.proofs.Counting.{front}
-use Rattle.streams.proofs.Fills.{part-filled}
+use Rattle.standard_streams.proofs.Fills.{part-filled}
 use Rattle.tsj_pieces.proofs.failures.read_or_tell.Statement.{statement}
 use Rattle.tsj_pieces.proofs.failures.read_or_tell.Tie as tie
 

@@ -3,7 +3,7 @@ use borrow.Author.Needs.{needs}
 use native.Mathlib.Omega.{arith}
 use lib.ListN.{length-take}
 use Rattle.tsr_pieces.proofs.Countings.{countable-less}
-use Rattle.streams.proofs.Fills.{filled-as}
+use Rattle.standard_streams.proofs.Fills.{filled-as}
 use Rattle.tsr_pieces.proofs.piece.replay_chunk.Statement.{statement}
 use Rattle.tsr_pieces.proofs.piece.replay_chunk.Tie as tie
 

@@ -1,6 +1,6 @@
 -- Meets its contract. Assumes nothing.
 use borrow.Author.Needs.{needs}
-use Rattle.streams.proofs.Fills.{filled-as}
+use Rattle.standard_streams.proofs.Fills.{filled-as}
 use Rattle.tsr_pieces.proofs.piece.replay_header.Statement.{statement}
 use Rattle.tsr_pieces.proofs.piece.replay_header.Tie as tie
 

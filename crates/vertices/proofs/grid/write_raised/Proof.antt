@@ -7,7 +7,7 @@ use mathlib.Core.Path.{_≡_, refl, ap, sym, _∙_}
 use mathlib.Core.List.{List}
 use lib.ListN.{length, take, length-take}
 use Rattle.buffer.proofs.Laws.{count-step, over-front, wrote-as}
-use Rattle.mesh.specs.Words.{vertexWords}
+use Rattle.mesh_geometry.specs.Words.{vertexWords}
 use Rattle.vertices.specs.Rows.{places}
 use Rattle.vertices.specs.Grids.{crossing, rowPoints, raised}
 use Rattle.vertices.proofs.Loops.{Rows, rows-start, rows-fits, rows-done}

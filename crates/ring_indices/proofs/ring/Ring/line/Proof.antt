@@ -3,8 +3,8 @@ use borrow.Author.Needs.{needs}
 use mathlib.Core.Path.{sym, ap, _∙_}
 use Prim.Native.Nat.{_+_}
 use mathlib.Core.Logic.{⊎-elim}
-use Rattle.cover.specs.Ring.{ringAt}
-use Rattle.cover.proofs.Ring.{ring-last, ring-point}
+use Rattle.mesh_topology.specs.Ring.{ringAt}
+use Rattle.mesh_topology.proofs.Ring.{ring-last, ring-point}
 use Rattle.ring_indices.proofs.Rings.{follows-ring}
 use Rattle.ring_indices.proofs.ring.Ring.line.Statement.{statement}
 use Rattle.ring_indices.proofs.ring.Ring.line.Tie as tie

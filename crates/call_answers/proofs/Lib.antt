@@ -1,0 +1,3 @@
+-- The laws of `call_answers`.
+pub mod Replies
+pub mod ClampBytes

@@ -1,0 +1,47 @@
+-- Meets its contract: one return per kind. Assumes nothing.
+use borrow.Author.Needs.{needs}
+use mathlib.Core.Path.{sym, ap, _∙_}
+use Rattle.level_clamps.specs.Numbers.{clampNumbers}
+use Rattle.call_answers.proofs.clamps.bytes_of.Statement.{statement}
+use Rattle.call_answers.proofs.clamps.bytes_of.Tie as tie
+
+enum-known-clamps : tie.Need-enum-known-clamps
+enum-known-clamps c = search needs
+
+triangle-bytes-requires : tie.Need-triangle-bytes-requires
+triangle-bytes-requires c κs = search needs
+
+enum-known-clamps-2 : tie.Need-enum-known-clamps-2
+enum-known-clamps-2 c = search needs
+
+quad-bytes-requires : tie.Need-quad-bytes-requires
+quad-bytes-requires c κs = search needs
+
+enum-known-clamps-3 : tie.Need-enum-known-clamps-3
+enum-known-clamps-3 c = search needs
+
+isoline-bytes-requires : tie.Need-isoline-bytes-requires
+isoline-bytes-requires c κs = search needs
+
+returns : tie.Need-returns
+returns c = c .triangle-bytes .ensures ∙ ap clampNumbers (sym (c .before .before .clamps .given .1))
+
+returns-2 : tie.Need-returns-2
+returns-2 c = c .quad-bytes .ensures ∙ ap clampNumbers (sym (c .before .before .clamps2 .given .1))
+
+returns-3 : tie.Need-returns-3
+returns-3 c = c .isoline-bytes .ensures ∙ ap clampNumbers (sym (c .before .before .clamps3 .given .1))
+
+pub bytes-of-spec : {M : Type 1} → statement M
+bytes-of-spec =
+    tie.close
+    (tie.spec
+    enum-known-clamps
+    triangle-bytes-requires
+    enum-known-clamps-2
+    quad-bytes-requires
+    enum-known-clamps-3
+    isoline-bytes-requires
+    returns
+    returns-2
+    returns-3)

@@ -1,0 +1,3 @@
+-- The definitions of `call_answers`.
+pub mod Replies
+pub mod Clamps

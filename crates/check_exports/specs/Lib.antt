@@ -1,0 +1,3 @@
+-- The definitions of `check_exports`.
+pub mod Founds
+pub mod Exactly

@@ -1,0 +1,4 @@
+-- The definitions of `check_faults`.
+pub mod Inside
+pub mod Turns
+pub mod Outline

@@ -1,0 +1,14 @@
+-- The laws of `check_meaning`, lowest first.
+pub mod Given
+pub mod Tells
+pub mod Sides
+pub mod PointTests
+pub mod SideTests
+pub mod Stages
+pub mod Forward
+pub mod Back
+pub mod Named
+pub mod Numbers
+pub mod Verdicts
+pub mod Accepted
+pub mod Own

@@ -1,0 +1,2 @@
+-- The laws of `check_mesh`.
+pub mod Arms

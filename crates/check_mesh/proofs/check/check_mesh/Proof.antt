@@ -1,0 +1,104 @@
+-- Meets its contract. Assumes nothing.
+use mathlib.Core.Path.{_≡_, sym, ap, _∙_}
+use Rattle.check_meaning.proofs.Named.{patchFault, verdict}
+use Rattle.check_meaning.proofs.Verdicts.{checked}
+use Rattle.level.proofs.Top.{bad, good, top-as}
+use Rattle.check_mesh.proofs.Arms.{flag}
+use borrow.Author.Needs.{needs}
+use Rattle.check_mesh.proofs.check.check_mesh.Statement.{statement}
+use Rattle.check_mesh.proofs.check.check_mesh.Tie as tie
+use Rattle.check_mesh.proofs.check.check_mesh.Reads as reads
+use Rattle.check_mesh.proofs.check.check_mesh.Lts as lts
+use Rattle.check_mesh.proofs.check.is_empty.Reads as is-empty-reads
+use Rattle.check_mesh.proofs.check.is_isolines.Reads as is-isolines-reads
+use Rattle.check_mesh.proofs.check.patch_fault.Reads as patch-fault-reads
+use Rattle.level.proofs.is_top.Reads as is-top-reads
+use Rattle.patch.proofs.settings.turns_positive.Reads as turns-positive-reads
+use Rattle.patch.proofs.subdivision.is_discarded.Reads as is-discarded-reads
+use Rattle.patch.proofs.subdivision.subdivide.Reads as subdivide-reads
+
+is-top-requires : tie.Need-is-top-requires
+is-top-requires c κs = search needs
+
+returns : tie.Need-returns
+unfolding verdict
+returns c =
+    let a = c .before .before .before .before .args in
+    checked (a .settings) (a .patch) _ _ (rw (bad _ (c .before .is-top .ensures) (c .if1 .taken)))
+
+is-isolines-requires : tie.Need-is-isolines-requires
+is-isolines-requires c κs = search needs
+
+returns-2 : tie.Need-returns-2
+unfolding verdict
+returns-2 c =
+    let a = c .before .before .before .before .before .before .args in
+    checked (a .settings) (a .patch) _ _ (rw (good _ (c .before .before .before .is-top .ensures) (c .before .before .if1 .left), ← c .before .is-isolines .ensures, c .if2 .taken))
+
+returns-3 : tie.Need-returns-3
+unfolding verdict
+returns-3 c =
+    let a = c .before .before .before .before .before .before .before .args in
+    checked (a .settings) (a .patch) _ _ (rw (good _ (c .before .before .before .before .is-top .ensures) (c .before .before .before .if1 .left), ← c .before .before .is-isolines .ensures, c .before .if2 .left, c .if3 .taken))
+
+subdivide-requires : tie.Need-subdivide-requires
+subdivide-requires c κs = top-as _ (good _ (c .before .before .before .before .is-top .ensures) (c .before .before .before .if1 .left))
+
+is-discarded-requires : tie.Need-is-discarded-requires
+is-discarded-requires c κs = search needs
+
+is-empty-requires : tie.Need-is-empty-requires
+is-empty-requires c κs = search needs
+
+returns-4 : tie.Need-returns-4
+unfolding verdict
+returns-4 c =
+    let e = c .before .before in
+    let a = e .before .before .before .before .before .before .before .before .before .before .args in
+    let d = e .before .before in
+    let top = good _ (d .before .before .before .before .before .is-top .ensures) (d .before .before .before .before .if1 .left) in
+    checked (a .settings) (a .patch) _ _ (rw (top, ← d .before .before .before .is-isolines .ensures, d .before .before .if2 .left, d .before .if3 .left, flag (a .settings) (a .patch) (d .subdivide .ensures) (e .before .is-discarded .ensures) (e .if4 .taken), ← c .before .is-empty .ensures, c .if5 .taken))
+
+returns-5 : tie.Need-returns-5
+unfolding verdict
+returns-5 c =
+    let e = c .before .before in
+    let a = e .before .before .before .before .before .before .before .before .before .before .args in
+    let d = e .before .before in
+    let top = good _ (d .before .before .before .before .before .is-top .ensures) (d .before .before .before .before .if1 .left) in
+    checked (a .settings) (a .patch) _ _ (rw (top, ← d .before .before .before .is-isolines .ensures, d .before .before .if2 .left, d .before .if3 .left, flag (a .settings) (a .patch) (d .subdivide .ensures) (e .before .is-discarded .ensures) (e .if4 .taken), ← c .before .is-empty .ensures, c .if5 .left))
+
+turns-positive-requires : tie.Need-turns-positive-requires
+turns-positive-requires c κs = search needs
+
+patch-fault-requires : tie.Need-patch-fault-requires
+patch-fault-requires c κs =
+    let d = c .before .before .before in
+    top-as _ (good _ (d .before .before .before .before .before .is-top .ensures) (d .before .before .before .before .if1 .left))
+
+returns-6 : tie.Need-returns-6
+unfolding verdict patchFault
+returns-6 c =
+    let e = c .before .before in
+    let a = e .before .before .before .before .before .before .before .before .before .before .args in
+    let d = e .before .before in
+    let top = good _ (d .before .before .before .before .before .is-top .ensures) (d .before .before .before .before .if1 .left) in
+    checked (a .settings) (a .patch) _ _ (rw (top, ← d .before .before .before .is-isolines .ensures, d .before .before .if2 .left, d .before .if3 .left, flag (a .settings) (a .patch) (d .subdivide .ensures) (e .before .is-discarded .ensures) (e .if4 .left), ← c .before .turns-positive .ensures) (c .patch-fault .ensures))
+
+pub check-mesh-spec : {M : Type 1} → statement M
+check-mesh-spec =
+    tie.close
+    (tie.spec
+    is-top-requires
+    returns
+    is-isolines-requires
+    returns-2
+    returns-3
+    subdivide-requires
+    is-discarded-requires
+    is-empty-requires
+    returns-4
+    returns-5
+    turns-positive-requires
+    patch-fault-requires
+    returns-6)

@@ -1,0 +1,52 @@
+-- Meets its contract: no point before i equals q. Assumes nothing.
+use native.Mathlib.Omega.{arith}
+use mathlib.Core.Path.{refl, sym, _∙_}
+use Prim.Native.Nat.{_-_}
+use Rattle.mesh_geometry.specs.Faces.{at}
+use Rattle.mesh_geometry.specs.Words.{readPoints}
+use Rattle.check_searches.specs.Points.{samePoint}
+use Rattle.check_searches.proofs.First.{Passed, passed-none, passed-more, search-found, search-none}
+use borrow.Author.Needs.{needs}
+use Rattle.check_searches.proofs.point.first_equal.Statement.{statement}
+use Rattle.check_searches.proofs.point.first_equal.Tie as tie
+
+abbrev Inv-loop : tie.InvT-loop
+Inv-loop points q end i₀ i = Passed (λ k. samePoint (at (readPoints points) k) q) end i
+
+abbrev μ-loop : tie.MeasureT-loop
+μ-loop points q end i₀ i = end - i
+
+loop-holds : tie.Need-loop-holds Inv-loop μ-loop
+loop-holds c = passed-none _ _
+
+lies-at-requires : tie.Need-lies-at-requires Inv-loop μ-loop
+lies-at-requires c κs = search needs
+
+returns : tie.Need-returns Inv-loop μ-loop
+returns c = search-found refl (c .before .before .before .loop .inv) (omega arith) (sym (c .before .lies-at .ensures) ∙ c .if1 .taken)
+
+add-i : tie.Need-add-i Inv-loop μ-loop
+add-i c = search needs
+
+loop-less : tie.Need-loop-less Inv-loop μ-loop
+loop-less c = search needs
+
+loop-again : tie.Need-loop-again Inv-loop μ-loop
+loop-again c = passed-more (c .before .before .before .loop .inv) (omega arith) (sym (c .before .lies-at .ensures) ∙ c .if1 .left)
+
+returns-2 : tie.Need-returns-2 Inv-loop μ-loop
+returns-2 c = search-none refl (c .before .loop .inv) (omega arith)
+
+pub first-equal-spec : {M : Type 1} → statement M
+first-equal-spec =
+    tie.close
+    (tie.spec
+    Inv-loop
+    μ-loop
+    loop-holds
+    lies-at-requires
+    returns
+    add-i
+    loop-less
+    loop-again
+    returns-2)

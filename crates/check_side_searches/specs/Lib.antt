@@ -1,0 +1,3 @@
+-- The definitions of `check_side_searches`.
+pub mod Skips
+pub mod Same

@@ -1,0 +1,2 @@
+-- The definitions of `check_verdict`.
+pub mod Faults

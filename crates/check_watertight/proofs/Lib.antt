@@ -1,0 +1,2 @@
+-- The laws of `check_watertight`.
+pub mod Joins

@@ -1,2 +1,0 @@
--- The laws of `checker`.
-pub mod Arms

@@ -1,2 +1,0 @@
--- The laws of `closed`.
-pub mod Joins

@@ -1,2 +1,0 @@
--- The definitions of `closed`.
-pub mod Closing

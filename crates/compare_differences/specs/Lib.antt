@@ -1,0 +1,5 @@
+-- The definitions of `compare_differences`.
+pub mod Lacking
+pub mod Meshes
+pub mod Found
+pub mod Differences

@@ -1,0 +1,41 @@
+// The fastest test: the triangle with the same number.
+ghost use mathlib.Core.Path.{_≡_};
+ghost use mathlib.Core.Bool.{true};
+ghost use Prim.Native.Nat.{_/_, _<_};
+ghost use lib.ListN.{length};
+ghost use Rattle.check_searches.specs.Points.{samePoint};
+ghost use Rattle.compare_differences.specs.Meshes.{Indexed, pointsIn, facesIn};
+ghost use Rattle.compare_differences.specs.Found.{InPlace};
+use check_searches::point::point_at;
+use check_searches::point::same_point;
+use check_searches::triangle::triangle_at;
+
+// Whether point x of one list equals point y of another.
+fn same_place(points: &[u32], x: u16, others: &[u32], y: u16) -> bool
+    requires { ⌜ x < length (now points) / 3 ⌝ ∗ ⌜ y < length (now others) / 3 ⌝ }
+    ensures { λ z. ⌜ z ≡ samePoint (pointsIn (now (others .entry)) .entry y) (pointsIn (now (points .entry)) .entry x) ⌝ }
+{
+    same_point(point_at(others, y as usize), point_at(points, x as usize))
+}
+
+// Whether triangle k of the other mesh has equal corners in the same order.
+pub(crate) fn is_in_place(
+    points: &[u32],
+    indices: &[u16],
+    k: usize,
+    other_points: &[u32],
+    other_indices: &[u16],
+) -> bool
+    requires { ⌜ k < length (now indices) / 3 ⌝ ∗ ⌜ Indexed (now points) (now indices) ⌝ ∗ ⌜ Indexed (now «other_points») (now «other_indices») ⌝ }
+    ensures { λ z. ⌜ (z ≡ true → InPlace (facesIn (now (points .entry)) (now (indices .entry))) (facesIn (now («other_points» .entry)) (now («other_indices» .entry))) k) ⌝ }
+{
+    if k < other_indices.len() / 3 {
+        let s = triangle_at(indices, k);
+        let t = triangle_at(other_indices, k);
+        same_place(points, s.a, other_points, t.a)
+            & same_place(points, s.b, other_points, t.b)
+            & same_place(points, s.c, other_points, t.c)
+    } else {
+        false
+    }
+}

@@ -1,0 +1,3 @@
+-- The definitions of `compare_sameness`.
+pub mod Same
+pub mod Refusals

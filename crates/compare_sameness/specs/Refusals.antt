@@ -1,0 +1,70 @@
+-- Why a mesh is refused, in terms of its points and indices. Assumes nothing.
+use Prim.Native.Nat.{ℕ, _*_, _%_, _≤_, _<_}
+use mathlib.Core.Path.{_≡_}
+use mathlib.Core.List.{List}
+use lib.ListN.{length, getD}
+use Rattle.mesh_geometry.specs.Faces.{at}
+use Rattle.mesh_geometry.specs.Words.{readPoints}
+use Rattle.compare_meshes.specs.declared.answer.Fault.{Fault}
+use Rattle.compare_meshes.specs.declared.answer.Fault.the-variants.{NotThrees, UnknownIndex, EqualPoints}
+use Rattle.compare_meshes.specs.declared.answer.Checked.{Checked}
+use Rattle.compare_meshes.specs.declared.answer.Checked.the-variants.{Sound, Refused}
+use Rattle.compare_meshes.specs.declared.answer.Comparison.{Comparison}
+use Rattle.compare_meshes.specs.declared.answer.Comparison.the-variants.{Differences, NoRoom, LeftRefused, RightRefused}
+use Rattle.compare_differences.specs.Meshes.{readMesh}
+use Rattle.compare_differences.specs.Differences.{differences}
+
+-- the numbers of point words and of indices are multiples of three
+pub record InThrees (pw iw : List ℕ) : Type 0 where
+  pub points : length pw % 3 ≡ 0
+  pub indices : length iw % 3 ≡ 0
+
+-- every index is the number of a point
+abbrev pub AllKnown : List ℕ → List ℕ → Type 0
+AllKnown pw iw = (k : ℕ) → k < length iw → getD iw k 0 < length (readPoints pw)
+
+-- no two points are equal
+abbrev pub AllApart : List ℕ → Type 0
+AllApart pw = (i j : ℕ) → i < j → j < length (readPoints pw) → at (readPoints pw) i ≡ at (readPoints pw) j → ⊥
+
+-- the mesh can be compared
+pub record Comparable (pw iw : List ℕ) : Type 0 where
+  pub threes : InThrees pw iw
+  pub known : AllKnown pw iw
+  pub apart : AllApart pw
+
+-- index k is not the number of a point
+pub record PastPoints (pw iw : List ℕ) : Type 0 where
+  pub k : ℕ
+  pub index : k < length iw
+  pub past : length (readPoints pw) ≤ getD iw k 0
+
+-- points i and j are equal
+pub record TwoEqual (pw : List ℕ) : Type 0 where
+  pub i : ℕ
+  pub j : ℕ
+  pub earlier : i < j
+  pub point : j < length (readPoints pw)
+  pub equal : at (readPoints pw) i ≡ at (readPoints pw) j
+
+-- what each fault means; each presumes that the faults before it are absent
+abbrev pub FaultMeans : Fault → List ℕ → List ℕ → Type 0
+FaultMeans NotThrees pw iw = InThrees pw iw → ⊥
+FaultMeans UnknownIndex pw iw = InThrees pw iw × PastPoints pw iw
+FaultMeans EqualPoints pw iw = InThrees pw iw × AllKnown pw iw × TwoEqual pw
+
+-- what the check of one mesh means
+abbrev pub CheckMeans : Checked → List ℕ → List ℕ → Type 0
+CheckMeans Sound pw iw = Comparable pw iw
+CheckMeans (Refused f) pw iw = FaultMeans f pw iw
+
+-- both meshes can be compared, and have n differences
+abbrev pub Counts : List ℕ → List ℕ → List ℕ → List ℕ → ℕ → Type 0
+Counts lp li rp ri n = Comparable lp li × Comparable rp ri × (length (differences (readMesh lp li) (readMesh rp ri)) ≡ n)
+
+-- what each answer means, for a list of `room` words: the left mesh is checked first, and room last
+abbrev pub AnswerMeans : Comparison → List ℕ → List ℕ → List ℕ → List ℕ → ℕ → Type 0
+AnswerMeans (LeftRefused f) lp li rp ri room = FaultMeans f lp li
+AnswerMeans (RightRefused f) lp li rp ri room = Comparable lp li × FaultMeans f rp ri
+AnswerMeans (NoRoom n) lp li rp ri room = Counts lp li rp ri n × (room < 3 * n)
+AnswerMeans (Differences n) lp li rp ri room = Counts lp li rp ri n × (3 * n ≤ room)

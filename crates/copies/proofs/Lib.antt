@@ -1,3 +1,0 @@
--- The laws of `copies`, for other crates.
-pub mod Shifts
-pub mod Again

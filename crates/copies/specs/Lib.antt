@@ -1,2 +1,0 @@
--- The definitions of `copies`.
-pub mod Copies

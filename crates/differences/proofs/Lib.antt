@@ -1,5 +1,0 @@
--- The laws of `differences`, lowest first.
-pub mod Tests
-pub mod Finds
-pub mod Numbers
-pub mod Lacks

@@ -1,5 +1,0 @@
--- The definitions of `differences`.
-pub mod Lacking
-pub mod Meshes
-pub mod Found
-pub mod Differences

@@ -1,2 +1,0 @@
--- The laws of `distinct`, lowest first.
-pub mod Table

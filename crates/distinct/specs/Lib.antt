@@ -1,2 +1,0 @@
--- The definitions of `distinct`.
-pub mod Marks

@@ -1,0 +1,46 @@
+-- What a call answers and leaves behind, for every input: bs are the setting bytes, xs the levels, v and v′ the words of the vertex list
+-- at entry and at exit, i and i′ those of the index list, and c′ the counts at exit. Assumes nothing.
+use Prim.Native.Nat.{ℕ}
+use mathlib.Core.Path.{_≡_}
+use mathlib.Core.List.{List}
+use lib.Ieee.{Float}
+use lib.ListN.{length}
+use Rattle.tessellate.specs.Answers.{pointsVerdict, indicesVerdict, measureVerdict}
+use Rattle.answer_codes.specs.Told.{Told}
+use Rattle.tessellate.specs.Draws.{pointWords, connectionWords}
+use Rattle.answer_codes.specs.Drew.{after}
+use Rattle.call_answers.specs.Clamps.{clampBytes}
+use Rattle.call_answers.specs.Replies.{unknownSetting, badTop, twoWords, oneWord, Says}
+use Rattle.call_inputs.specs.Inputs.{patchIn, settingsIn}
+use Rattle.call_inputs.specs.Asked.{known}
+
+-- what measuring has to say
+abbrev pub measureSays : List ℕ → List Float → Told
+measureSays bs xs = known bs badTop unknownSetting (measureVerdict (settingsIn bs) (patchIn bs xs))
+
+-- what drawing the points into a list of n words has to say
+abbrev pub pointsSay : List ℕ → List Float → ℕ → Told
+pointsSay bs xs n = known bs badTop unknownSetting (pointsVerdict (settingsIn bs) (patchIn bs xs) n)
+
+-- what drawing the indices into a list of n words has to say
+abbrev pub indicesSay : List ℕ → List Float → ℕ → Told
+indicesSay bs xs n = known bs badTop unknownSetting (indicesVerdict (settingsIn bs) (patchIn bs xs) n)
+
+-- a call of measuring; k′ are the bytes of the levels at exit
+pub record MeasureCalled (bs : List ℕ) (xs : List Float) (c′ k′ : List ℕ) (r : ℕ) : Type 0 where
+  pub says : Says twoWords (measureSays bs xs) c′ r
+  pub clamps : k′ ≡ clampBytes (measureSays bs xs .values)
+
+-- a call that has to say t, and whose own list l became l′
+pub record Called (t : Told) (words l l′ c′ : List ℕ) (r : ℕ) : Type 0 where
+  -- 11, 8, or what the operation says
+  pub says : Says oneWord t c′ r
+  -- drawn: the counted words at the front and not one more; else untouched
+  pub list : l′ ≡ after r l words
+
+-- a call that draws the points, and one that draws the indices
+abbrev pub PointsCalled : List ℕ → List Float → List ℕ → List ℕ → List ℕ → ℕ → Type 0
+PointsCalled bs xs v v′ c′ r = Called (pointsSay bs xs (length v)) (pointWords (settingsIn bs) (patchIn bs xs)) v v′ c′ r
+
+abbrev pub IndicesCalled : List ℕ → List Float → List ℕ → List ℕ → List ℕ → ℕ → Type 0
+IndicesCalled bs xs i i′ c′ r = Called (indicesSay bs xs (length i)) (connectionWords (settingsIn bs) (patchIn bs xs)) i i′ c′ r

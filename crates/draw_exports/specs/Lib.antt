@@ -1,0 +1,3 @@
+-- The definitions of `draw_exports`.
+pub mod Calls
+pub mod Exactly

@@ -1,0 +1,2 @@
+-- The definitions of `edge_table`.
+pub mod Stored

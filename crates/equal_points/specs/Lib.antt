@@ -1,0 +1,2 @@
+-- The definitions of `equal_points`.
+pub mod Marks

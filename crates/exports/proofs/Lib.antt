@@ -1,5 +1,0 @@
--- The laws of `exports`.
-pub mod Calls
-pub mod Exactly
-pub mod Numbers
-pub mod Together

@@ -1,3 +1,0 @@
--- The definitions of `exports`.
-pub mod Calls
-pub mod Exactly

@@ -1,0 +1,16 @@
+-- Meets its contract. Assumes nothing.
+use mathlib.Core.Path.{refl}
+use Rattle.half_edge_bits.specs.Rows.{bit}
+use borrow.Author.Needs.{needs}
+use Rattle.half_edge_bits.proofs.has_bit.Statement.{statement}
+use Rattle.half_edge_bits.proofs.has_bit.Tie as tie
+
+shr-result : tie.Need-shr-result
+shr-result c = search needs
+
+returns : tie.Need-returns
+unfolding bit
+returns c = refl
+
+pub has-bit-spec : {M : Type 1} → statement M
+has-bit-spec = tie.close (tie.spec shr-result returns)

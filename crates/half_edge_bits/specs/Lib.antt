@@ -1,0 +1,2 @@
+-- The definitions of `half_edge_bits`.
+pub mod Rows

@@ -1,0 +1,3 @@
+-- The definitions of `half_edge_chains`.
+pub mod Sides
+pub mod Links

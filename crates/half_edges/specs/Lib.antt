@@ -1,0 +1,3 @@
+-- The definitions of `half_edges`.
+pub mod Tables
+pub mod Opens

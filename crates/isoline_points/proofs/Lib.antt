@@ -1,0 +1,2 @@
+-- The laws that the proofs of `isoline_points` share.
+mod Lines

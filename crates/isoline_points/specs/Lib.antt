@@ -1,0 +1,2 @@
+-- The definitions that the contracts of `isoline_points` cite.
+pub mod Equal

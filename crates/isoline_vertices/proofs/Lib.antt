@@ -1,2 +1,0 @@
--- The laws that the proofs of `isoline_vertices` share.
-mod Lines

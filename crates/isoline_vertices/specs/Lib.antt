@@ -1,2 +1,0 @@
--- The definitions that the contracts of `isoline_vertices` cite.
-pub mod Equal

@@ -1,0 +1,2 @@
+-- The laws of `job_record_text`.
+pub mod Never

@@ -1,0 +1,2 @@
+-- The definitions of `job_record_text`.
+pub mod Replies

@@ -1,2 +1,0 @@
--- The law that the proofs of `list_text` share.
-mod Listed

@@ -1,4 +1,0 @@
--- The laws of `mesh_exports`.
-pub mod Calls
-pub mod Covered
-pub mod Exactly

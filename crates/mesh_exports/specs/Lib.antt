@@ -1,3 +1,0 @@
--- The definitions of `mesh_exports`.
-pub mod Founds
-pub mod Exactly

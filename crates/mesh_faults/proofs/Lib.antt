@@ -1,6 +1,0 @@
--- The laws of `mesh_faults`, lowest first.
-pub mod Corners
-pub mod Wide
-pub mod Turns
-pub mod Pieces
-pub mod Known

@@ -1,0 +1,2 @@
+-- The law that the proofs of `mesh_lines` share.
+mod Listed

@@ -1,2 +1,0 @@
--- The laws of `mesh_verdict`.
-pub mod Chain

@@ -1,2 +1,0 @@
--- The definitions of `mesh_verdict`.
-pub mod Faults

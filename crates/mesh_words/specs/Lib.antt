@@ -1,2 +1,0 @@
--- The definitions of `mesh_words`.
-pub mod Founds

@@ -1,3 +1,0 @@
--- The laws of `outline`.
-pub mod Around
-pub mod Fronts

@@ -1,2 +1,0 @@
--- The definitions of `outline`.
-pub mod Outlines

@@ -1,0 +1,30 @@
+-- Document 01's ten starred cases hold, by computation from the definitions. Assumes nothing.
+use mathlib.Core.Path.{_≡_, refl}
+use mathlib.Core.List.{map}
+use lib.Ieee.{isNan, le, ofInt}
+use Rattle.buffer.specs.Over.{flat}
+use Rattle.level.specs.Scale.{parts}
+use Rattle.level.specs.Segments.{segmentsOf, asInner}
+use Rattle.edge.specs.Positions.{position}
+use Rattle.edge.specs.Table.{table}
+use Rattle.strip.specs.Triangles.{indices}
+use Rattle.strip.specs.Rule.{outerNext}
+use Rattle.strip.specs.Strips.{stripFrom}
+use Rattle.mesh_topology.specs.Ring.{ringAt}
+use Rattle.mesh_topology.specs.Band.{bandFrom}
+use Rattle.mesh_topology.specs.Nest.{nest}
+use Rattle.mesh_topology.specs.Quad.{gridAt, joined, quad}
+use Rattle.mesh_topology.specs.Lines.{isolines}
+use Rattle.patch.specs.Every.{some, every}
+use Rattle.patch.specs.Subdivide.{subdivision}
+use Rattle.mesh_geometry.specs.Edge.{ring}
+use Rattle.mesh_geometry.specs.TrianglePoints.{rings}
+use Rattle.mesh_geometry.specs.QuadPoints.{grid}
+use Rattle.patch_mesh.specs.Points.{points}
+use Rattle.patch_mesh.specs.Primitives.{triangles, indexWords}
+use Rattle.patch_mesh.specs.Starred.{worked, starredTable}
+
+pub starred : map worked starredTable ≡ starredTable
+unfolding isNan le ofInt parts segmentsOf asInner position table outerNext stripFrom indices ringAt bandFrom nest gridAt joined quad
+    flat isolines some every subdivision ring rings grid points triangles indexWords
+starred = refl

@@ -1,0 +1,3 @@
+-- The laws of `patch_outline`.
+pub mod Around
+pub mod Fronts

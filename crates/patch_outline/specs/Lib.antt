@@ -1,0 +1,2 @@
+-- The definitions of `patch_outline`.
+pub mod Outlines

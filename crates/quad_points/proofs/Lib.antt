@@ -1,0 +1,2 @@
+-- The laws that the proofs of `quad_points` share.
+mod Quads

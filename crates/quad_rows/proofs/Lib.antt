@@ -1,2 +1,0 @@
--- The laws that the proofs of `quad_rows` share.
-mod Quads

@@ -1,2 +1,0 @@
--- The laws that the proofs of `quad_vertices` share.
-mod Quads

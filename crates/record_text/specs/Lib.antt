@@ -1,2 +1,0 @@
--- The definitions of `record_text`.
-pub mod Replies

@@ -1,3 +1,0 @@
--- The laws of `recorder`, lowest first.
-pub mod Entry
-pub mod Recordings

@@ -1,2 +1,0 @@
--- The definitions of `recorder`.
-pub mod Recordings

@@ -1,0 +1,2 @@
+-- The definitions of `replay_recording`.
+pub mod Recordings

@@ -1,3 +1,0 @@
--- The laws of `replies`.
-pub mod Replies
-pub mod ClampBytes

@@ -1,3 +1,0 @@
--- The definitions of `replies`.
-pub mod Replies
-pub mod Clamps

@@ -1,3 +1,0 @@
--- The laws of `report`, lowest first.
-pub mod Rests
-pub mod Runs

@@ -1,3 +1,0 @@
--- The definitions of `report`.
-pub mod Rests
-pub mod Runs

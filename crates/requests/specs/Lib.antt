@@ -1,4 +1,0 @@
--- The definitions of `requests`.
-pub mod Inputs
-pub mod Asked
-pub mod Exactly

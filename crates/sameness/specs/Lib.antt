@@ -1,3 +1,0 @@
--- The definitions of `sameness`.
-pub mod Same
-pub mod Refusals

@@ -1,0 +1,3 @@
+-- The definitions of `share_draw`.
+pub mod Room
+pub mod Operations

@@ -1,0 +1,4 @@
+-- The definitions of `share_isolation`.
+pub mod Steps
+pub mod Session
+pub mod Run

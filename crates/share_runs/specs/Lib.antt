@@ -1,4 +1,0 @@
--- The definitions of `share_runs`.
-pub mod Steps
-pub mod Session
-pub mod Run

@@ -1,0 +1,2 @@
+-- The laws of `share_state`.
+pub mod Sound

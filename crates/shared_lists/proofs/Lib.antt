@@ -1,2 +1,0 @@
--- The laws of `shared_lists`.
-pub mod Sound

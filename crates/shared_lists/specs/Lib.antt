@@ -1,4 +1,0 @@
--- The definitions of `shared_lists`.
-pub mod SharedList
-pub mod Answers
-pub mod Operations

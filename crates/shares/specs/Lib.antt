@@ -1,3 +1,0 @@
--- The definitions of `shares`.
-pub mod Room
-pub mod Operations

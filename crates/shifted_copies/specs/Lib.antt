@@ -1,0 +1,2 @@
+-- The definitions of `shifted_copies`.
+pub mod Copies

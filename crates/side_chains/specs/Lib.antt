@@ -1,3 +1,0 @@
--- The definitions of `side_chains`.
-pub mod Sides
-pub mod Links

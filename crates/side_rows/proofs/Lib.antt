@@ -1,3 +1,0 @@
--- The laws of `side_rows`.
-pub mod Bits
-pub mod Rows

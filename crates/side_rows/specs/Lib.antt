@@ -1,2 +1,0 @@
--- The definitions of `side_rows`.
-pub mod Rows

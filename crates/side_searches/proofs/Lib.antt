@@ -1,4 +1,0 @@
--- The laws of `side_searches`, lowest first.
-pub mod Skips
-pub mod Sided
-pub mod Corners

@@ -1,3 +1,0 @@
--- The definitions of `side_searches`.
-pub mod Skips
-pub mod Same

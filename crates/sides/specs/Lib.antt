@@ -1,3 +1,0 @@
--- The definitions of `sides`.
-pub mod Tables
-pub mod Opens

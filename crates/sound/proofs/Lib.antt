@@ -1,6 +1,0 @@
--- The laws of `sound`, lowest first.
-pub mod Beyond
-pub mod Apex
-pub mod Covers
-pub mod Patches
-pub mod Examples

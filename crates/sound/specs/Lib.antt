@@ -1,2 +1,0 @@
--- The definitions of `sound`.
-pub mod Sound

@@ -1,0 +1,3 @@
+-- The laws of `standard_streams`.
+pub mod Takes
+pub mod Fills

@@ -1,0 +1,2 @@
+-- The definitions of `standard_streams`.
+pub mod Moved

@@ -1,2 +1,0 @@
--- The definitions of `stored_rows`.
-pub mod Stored

@@ -1,3 +1,0 @@
--- The laws of `streams`.
-pub mod Takes
-pub mod Fills

@@ -1,2 +1,0 @@
--- The definitions of `streams`.
-pub mod Moved

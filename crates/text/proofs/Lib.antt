@@ -1,6 +1,0 @@
--- The laws of `text`.
-pub mod Digits
-pub mod Writes
-pub mod Lines
-pub mod Rows
-pub mod Examples

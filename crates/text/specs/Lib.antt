@@ -1,4 +1,0 @@
--- The definitions of `text`.
-pub mod Digits
-pub mod Lines
-pub mod Heads

@@ -1,0 +1,126 @@
+-- The rings of a triangle patch whose places stand in rows, one ring after the other inwards.
+-- Assumes nothing.
+use Prim.Native.Nat.{ℕ, zero, suc, _+_, _-_, _*_, _≤_, _<_}
+use mathlib.Core.Path.{_≡_, refl, sym, ap, _∙_}
+use mathlib.Core.List.{List, _++_}
+use native.Mathlib.Omega.{arith}
+use lib.ListN.{length, take}
+use lib.Seq.{getD-take}
+use Rattle.mesh_geometry.specs.declared.Point.{Point}
+use Rattle.mesh_geometry.specs.Edge.{Run, ring}
+use Rattle.mesh_geometry.specs.TrianglePoints.{trianglePlace, centre, alike, rings}
+use Rattle.mesh_geometry.specs.Words.{pointWords, vertexWords}
+use Rattle.mesh_geometry.proofs.Edge.{far}
+use Rattle.vertices.specs.Rows.{places, listed, Clear, GoodRow}
+use Rattle.triangle_point_rows.specs.Rings.{ringPoints, ringsOf, Inward}
+use Rattle.vertices.proofs.Words.{words-append}
+use Rattle.vertices.proofs.Parts.{Parts}
+use Rattle.vertices.proofs.Rows.{Same, AllSame, none, more, ring-same, front-length}
+use Rattle.vertices.proofs.Middle.{middle, middle-length, middle-at}
+
+-- ---- rings by places that are alike as far as they go
+alike-same : (n : ℕ) (p q : ℕ → ℕ) → ((i : ℕ) → i < n → p i ≡ q i) → AllSame (alike p n) (alike q n)
+alike-same n p q h =
+    let s : Same (record { q = p; c = n }) (record { q = q; c = n }) = record { count = refl; at = h } in
+    more s (more s (more s none))
+
+inner-same : (n d d′ : ℕ) (p q : ℕ → ℕ) → d ≡ d′ → ((i : ℕ) → i < n → p i ≡ q i) → rings (alike p n) d p n ≡ rings (alike q n) d′ q n
+unfolding rings
+inner-same zero d d′ p q e h = refl
+inner-same (suc zero) d d′ p q e h = rw e (ring-same trianglePlace 0 d′ (alike-same 1 p q h))
+inner-same (suc (suc r)) d d′ p q e h =
+    rw (
+      e,
+      ring-same trianglePlace 0 d′ (alike-same (suc (suc r)) p q h),
+      inner-same r (p 1) (q 1) (λ i. p (suc i)) (λ i. q (suc i)) (h 1 (omega arith)) (λ i l. h (suc i) (omega arith)),
+    )
+
+pub rings-same : {es fs : List Run} (n : ℕ) (p q : ℕ → ℕ) → AllSame es fs → ((i : ℕ) → i ≤ n → p i ≡ q i) → rings es 0 p n ≡ rings fs 0 q n
+unfolding rings
+rings-same zero p q s h = refl
+rings-same (suc zero) p q s h = ring-same trianglePlace 0 0 s
+rings-same (suc (suc r)) p q s h =
+    rw (
+      ring-same trianglePlace 0 0 s,
+      inner-same r (p 1) (q 1) (λ i. p (suc i)) (λ i. q (suc i)) (h 1 (omega arith)) (λ i l. h (suc i) (omega arith)),
+    )
+
+-- ---- the rings of a row
+-- a ring, and those inside it
+rings-more : (es : List Run) (d : ℕ) (row : List ℕ) → 3 ≤ length row
+    → rings es d (places row) (length row - 1) ≡ ring trianglePlace 0 es d ++ ringsOf (middle row)
+unfolding rings
+rings-more es d row h =
+    let r = length row - 3 in
+    let m = middle row in
+    let n : length row - 1 ≡ suc (suc r) = omega arith in
+    let k : length m - 1 ≡ r = omega (arith, middle-length row) in
+    ap (rings es d (places row)) n
+    ∙ ap (λ (ps : List Point). ring trianglePlace 0 es d ++ ps)
+    (inner-same r (places row 1) (places m 0) (λ i. places row (suc i)) (places m) (sym (middle-at row 0 (omega arith))) (λ i l. sym (middle-at row i (omega arith)))
+    ∙ ap (λ (n : ℕ). rings (alike (places m) n) (places m 0) (places m) n) (sym k))
+
+-- the outline, and the rings inside it
+pub triangle-parts : {es fs : List Run} → AllSame es fs → (row : List ℕ) → 3 ≤ length row → (xs : List ℕ) (at : ℕ)
+    → at + 3 * length (rings fs 0 (places row) (length row - 1)) ≤ length xs
+    → Parts (rings fs 0 (places row) (length row - 1)) (ring trianglePlace 0 es 0) (ringsOf (middle row)) xs at
+triangle-parts {fs = fs} s row h xs at room = record {
+  is = rings-more fs 0 row h ∙ ap (λ (ps : List Point). ps ++ ringsOf (middle row)) (sym (ring-same trianglePlace 0 0 s));
+  room = room;
+}
+
+module _ (row : List ℕ) (n : ℕ) (e : n ≡ length row - 1) (some : 2 ≤ length row) where
+  -- a ring's own points
+  own-are : ring trianglePlace 0 (alike (places row) (length row - 1)) (places row 0) ≡ ringPoints (take n row)
+  own-are =
+      let s : Same (record { q = places row; c = length row - 1 }) (listed (take n row)) =
+      record { count = omega (arith, front-length row n e); at = λ i l. sym (getD-take n row i 0 (omega (arith, front-length row n e))) } in
+      ap (ring trianglePlace 0 (alike (places row) (length row - 1))) (sym (getD-take n row 0 0 (omega arith)))
+      ∙ ring-same trianglePlace 0 (places (take n row) 0) (more s (more s (more s none)))
+
+  pub ring-then : 3 ≤ length row → vertexWords (ringsOf row) ≡ vertexWords (ringPoints (take n row)) ++ vertexWords (ringsOf (middle row))
+  ring-then h =
+      ap vertexWords (rings-more (alike (places row) (length row - 1)) (places row 0) row h ∙ ap (λ (ps : List Point). ps ++ ringsOf (middle row)) own-are)
+      ∙ words-append (ringPoints (take n row)) (ringsOf (middle row))
+
+  -- the innermost ring of three points
+  pub ring-last : length row ≡ 2 → vertexWords (ringsOf row) ≡ vertexWords (ringPoints (take n row))
+  unfolding rings
+  ring-last h =
+      let one : length row - 1 ≡ 1 = omega arith in
+      ap (λ (m : ℕ). vertexWords (rings (alike (places row) (length row - 1)) (places row 0) (places row) m)) one ∙ ap vertexWords own-are
+
+  -- it lies between its own corners
+  pub ring-clear : Inward row → Clear (places (take n row) 0) (listed (take n row))
+  ring-clear g i l =
+      let last = length row - 1 in
+      let m : i < n = omega (arith, front-length row n e) in
+      let z : last - 0 ≡ last = omega arith in
+      let corners : places row 0 + places row last ≡ 65536 = rw z at (g .mirrors 0 (omega arith)) in
+      omega (arith, getD-take n row i 0 m, getD-take n row 0 0 (omega arith), far (places row) last (λ j k. g .rises j (omega arith)) 0 i (omega arith) (omega arith), far (places row) last (λ j k. g .rises j (omega arith)) i last (omega arith) (omega arith))
+
+-- or the centre
+pub centre-last : (row : List ℕ) → length row ≡ 1 → vertexWords (ringsOf row) ≡ pointWords centre
+unfolding rings vertexWords
+centre-last row h =
+    let none : length row - 1 ≡ 0 = omega arith in
+    ap (λ (m : ℕ). vertexWords (rings (alike (places row) (length row - 1)) (places row 0) (places row) m)) none
+
+-- ---- the places of rings
+pub row-inward : (row : List ℕ) → GoodRow row → Inward row
+row-inward row g = record {
+  some = omega (arith, g .some);
+  rises = λ i l. g .good .rises i (omega arith);
+  mirrors = λ i l. g .good .mirrors i (omega arith);
+}
+
+pub next-inward : (row : List ℕ) → 3 ≤ length row → Inward row → Inward (middle row)
+next-inward row h g =
+    let n = middle-length row in record {
+      some = omega arith;
+      rises = λ i l. omega (arith, middle-at row i (omega arith), middle-at row (suc i) (omega arith), g .rises (suc i) (omega arith));
+      mirrors = λ i l.
+          let j = length (middle row) - 1 - i in
+          let k : suc j ≡ length row - 1 - suc i = omega arith in
+          omega (arith, middle-at row i (omega arith), middle-at row j (omega arith), ap (places row) k, g .mirrors (suc i) (omega arith));
+    }

@@ -1,0 +1,90 @@
+-- Meets its contract. Assumes nothing.
+use borrow.Author.Needs.{needs}
+use native.Mathlib.Omega.{arith}
+use Prim.Native.Nat.{_-_, _*_, _≤_}
+use mathlib.Core.Path.{sym}
+use lib.ListN.{length, take, getD}
+use Rattle.buffer.proofs.Laws.{wrote-as}
+use Rattle.mesh_geometry.specs.TrianglePoints.{trianglePlace}
+use Rattle.vertices.specs.Rows.{places, listed}
+use Rattle.vertices.proofs.Edges.{three-edges}
+use Rattle.triangle_point_rows.proofs.Eights.{sums-size}
+use Rattle.triangle_point_rows.proofs.Wide.{ring-size, front-size, ring-depth, edge-zero, edge-one, edge-two}
+use Rattle.triangle_point_rows.proofs.write_wide_ring.Statement.{statement}
+use Rattle.triangle_point_rows.proofs.write_wide_ring.Tie as tie
+
+sub-n : tie.Need-sub-n
+sub-n c = search needs
+
+shared-slice-read-d : tie.Need-shared-slice-read-d
+shared-slice-read-d c = search needs
+
+negative-requires : tie.Need-negative-requires
+negative-requires c κs = search needs
+
+mul-more : tie.Need-mul-more
+mul-more c =
+    let s = c .before .before .before .before .before .before in
+    omega (arith, ring-depth (s .args .row .now) (omega (arith, s .pre .0)) (s .pre .1 .1 .0))
+
+write-run-requires : tie.Need-write-run-requires
+write-run-requires c κs =
+    let s = c .before .before .before .before .before .before .before in
+    let row = s .args .row .now in
+    (omega (arith, s .pre .0, s .pre .1 .0 .room), omega (arith, ring-size (take (length row - 1) row), front-size row (omega arith), s .pre .1 .1 .1))
+
+write-run-requires-2 : tie.Need-write-run-requires-2
+write-run-requires-2 c κs =
+    let s = c .before .before .before .before .before .before .before .before .before .before .before in
+    let a = s .args in
+    let row = a .row .now in
+    let d = getD row 0 0 in
+    let less = c .before .before .before .before .before .negative .result in
+    let w = c .before .before .before .write-run in
+    (omega (arith, s .pre .0, s .pre .1 .0 .other-room), omega (arith, ring-size (take (length row - 1) row), front-size row (omega arith), s .pre .1 .1 .1, w .ensures .next, w .kept .0, sums-size (a .base .now) (a .from) (2 * d) less less 0 (length row - 1)))
+
+add-write-run : tie.Need-add-write-run
+add-write-run c = omega (arith, c .before .before .before .before .before .before .before .before .before .before .before .before .before .before .before .pre .1 .0 .room)
+
+write-run-requires-3 : tie.Need-write-run-requires-3
+write-run-requires-3 c κs =
+    let s = c .before .before .before .before .before .before .before .before .before .before .before .before .before .before .before in
+    let a = s .args in
+    let row = a .row .now in
+    let d = getD row 0 0 in
+    let less = c .before .before .before .before .before .before .before .before .before .negative .result in
+    let w = c .before .before .before .before .before .before .before .write-run in
+    let v = c .before .before .before .write-run2 in
+    (omega (arith, s .pre .0, s .pre .1 .0 .room), omega (arith, ring-size (take (length row - 1) row), front-size row (omega arith), s .pre .1 .1 .1, w .ensures .next, w .kept .0, sums-size (a .base .now) (a .from) (2 * d) less less 0 (length row - 1), v .ensures .next, v .kept .0, sums-size (a .other .now) (a .from) less (2 * d) less 0 (length row - 1)))
+
+same-length : tie.Need-same-length
+same-length c = search needs
+
+returns : tie.Need-returns
+returns c =
+    let s = c .before .before .before .before .before .before .before .before .before .before .before .before .before .before .before .before .before .before in
+    let row = s .args .row .now in
+    let laid = s .pre .1 .0 in
+    let some : 2 ≤ length row = omega (arith, s .pre .0) in
+    let clear = s .pre .1 .1 .0 in
+    let less = c .before .before .before .before .before .before .before .before .before .before .before .before .negative in
+    let e = listed (take (length row - 1) row) in
+    three-edges trianglePlace (places (take (length row - 1) row) 0) e e e (s .pre .1 .1 .1)
+    (wrote-as (λ ys. ys) (sym (edge-zero laid some clear (less .result) (less .ensures))) (c .before .before .before .before .before .before .before .before .before .before .write-run .ensures))
+    (wrote-as (λ ys. ys) (sym (edge-one laid some clear (less .result) (less .ensures))) (c .before .before .before .before .before .before .write-run2 .ensures))
+    (wrote-as (λ ys. ys) (sym (edge-two laid some clear (less .result) (less .ensures))) (c .before .before .write-run3 .ensures))
+
+pub write-wide-ring-spec : {M : Type 1} → statement M
+write-wide-ring-spec =
+    tie.close
+    (tie.spec
+    sub-n
+    shared-slice-read-d
+    negative-requires
+    mul-more
+    write-run-requires
+    write-run-requires-2
+    add-write-run
+    write-run-requires-3
+    same-length
+    returns)

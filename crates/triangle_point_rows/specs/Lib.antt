@@ -1,0 +1,2 @@
+-- The definitions of `triangle_point_rows`.
+pub mod Rings

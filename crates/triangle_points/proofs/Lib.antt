@@ -1,0 +1,2 @@
+-- The laws that the proofs of `triangle_points` share.
+mod Triangles

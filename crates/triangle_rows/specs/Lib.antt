@@ -1,2 +1,0 @@
--- The definitions of `triangle_rows`.
-pub mod Rings

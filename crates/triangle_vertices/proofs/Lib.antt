@@ -1,2 +1,0 @@
--- The laws that the proofs of `triangle_vertices` share.
-mod Triangles

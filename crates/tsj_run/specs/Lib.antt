@@ -1,0 +1,3 @@
+-- The definitions of `tsj_run`.
+pub mod Rests
+pub mod Runs

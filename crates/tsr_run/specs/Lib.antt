@@ -1,0 +1,3 @@
+-- The definitions of `tsr_run`.
+pub mod Rests
+pub mod Runs
