@@ -7,7 +7,7 @@ ghost use Rattle.level.specs.Segments.{Valid};
 ghost use Rattle.mesh.specs.QuadPoints.{quadPatch, quadCorners};
 ghost use Rattle.mesh.specs.Segmented.{run};
 ghost use Rattle.mesh.specs.Words.{vertexWords};
-ghost use Rattle.vertices.specs.Rows.{AllValid, AllStored};
+ghost use Rattle.vertices.specs.Rows.{AllValid, AllStored, Widths};
 use level::Segments;
 use quad_rows::write_rows;
 use stored_rows::row_of;
@@ -35,6 +35,30 @@ fn write_stored(
     let r4 = row_of(table, rows);
     let r5 = row_of(table, columns);
     write_rows(out, at, r0, r1, r2, r3, r4, r5)
+}
+
+// The same, the inside point by point, which is quicker where the patch is small.
+fn write_small(
+    out: &mut [u32],
+    at: usize,
+    table: &[u32],
+    e0: Segments,
+    e1: Segments,
+    e2: Segments,
+    e3: Segments,
+    rows: Segments,
+    columns: Segments,
+) -> usize
+    requires { ⌜ AllValid (e0 ∷ e1 ∷ e2 ∷ e3 ∷ rows ∷ columns ∷ []) ⌝ ∗ ⌜ AllStored (now table) (e0 ∷ e1 ∷ e2 ∷ e3 ∷ rows ∷ columns ∷ []) ⌝ ∗ ⌜ at + 3 * length (quadPatch (run e0) (run e1) (run e2) (run e3) (run rows) (run columns)) ≤ length (now out) ⌝ }
+    ensures { λ w. ⌜ Wrote (now (out .entry)) at (vertexWords (quadPatch (run e0) (run e1) (run e2) (run e3) (run rows) (run columns))) (now (out .exit)) w ⌝ }
+{
+    let r0 = row_of(table, e0);
+    let r1 = row_of(table, e1);
+    let r2 = row_of(table, e2);
+    let r3 = row_of(table, e3);
+    let r4 = row_of(table, rows);
+    let r5 = row_of(table, columns);
+    quad_rows::write_small(out, at, r0, r1, r2, r3, r4, r5)
 }
 
 // A patch whose rows are filled in by division, one every 65 words.
@@ -68,6 +92,37 @@ fn write_divided(
     write_rows(out, at, r0, r1, r2, r3, r4, r5)
 }
 
+// A patch whose widest edge has `most` segments, or, where that is 65, an edge that is not of equal spacing. It is a function of its own so
+// that a small patch does not pay for the stack that the whole table takes.
+fn write_wide(
+    out: &mut [u32],
+    at: usize,
+    most: u32,
+    e0: Segments,
+    e1: Segments,
+    e2: Segments,
+    e3: Segments,
+    rows: Segments,
+    columns: Segments,
+) -> usize
+    requires { ⌜ AllValid (e0 ∷ e1 ∷ e2 ∷ e3 ∷ rows ∷ columns ∷ []) ⌝ ∗ ⌜ Widths 0 (e0 ∷ e1 ∷ e2 ∷ e3 ∷ rows ∷ columns ∷ []) most ⌝ ∗ ⌜ at + 3 * length (quadPatch (run e0) (run e1) (run e2) (run e3) (run rows) (run columns)) ≤ length (now out) ⌝ }
+    ensures { λ w. ⌜ Wrote (now (out .entry)) at (vertexWords (quadPatch (run e0) (run e1) (run e2) (run e3) (run rows) (run columns))) (now (out .exit)) w ⌝ }
+{
+    if most <= 16 {
+        let table = stored_rows::rows_to_16();
+        return write_stored(out, at, &table, e0, e1, e2, e3, rows, columns);
+    }
+    if most <= 32 {
+        let table = stored_rows::rows_to_32();
+        return write_stored(out, at, &table, e0, e1, e2, e3, rows, columns);
+    }
+    if most <= 64 {
+        let table = stored_rows::rows_to_64();
+        return write_stored(out, at, &table, e0, e1, e2, e3, rows, columns);
+    }
+    write_divided(out, at, e0, e1, e2, e3, rows, columns)
+}
+
 // The grid has m - 1 rows of n - 1 points, where `rows` has m segments and `columns` n.
 // Of equal spacing the places are the table's, of which no more rows are laid out than the edges need.
 pub fn write_quad_patch(
@@ -91,21 +146,9 @@ pub fn write_quad_patch(
     let most = widest(most, columns);
     if most <= 8 {
         let table = stored_rows::rows_to_8();
-        return write_stored(out, at, &table, e0, e1, e2, e3, rows, columns);
+        return write_small(out, at, &table, e0, e1, e2, e3, rows, columns);
     }
-    if most <= 16 {
-        let table = stored_rows::rows_to_16();
-        return write_stored(out, at, &table, e0, e1, e2, e3, rows, columns);
-    }
-    if most <= 32 {
-        let table = stored_rows::rows_to_32();
-        return write_stored(out, at, &table, e0, e1, e2, e3, rows, columns);
-    }
-    if most <= 64 {
-        let table = stored_rows::rows_to_64();
-        return write_stored(out, at, &table, e0, e1, e2, e3, rows, columns);
-    }
-    write_divided(out, at, e0, e1, e2, e3, rows, columns)
+    write_wide(out, at, most, e0, e1, e2, e3, rows, columns)
 }
 
 // The plain patch: its four corners.

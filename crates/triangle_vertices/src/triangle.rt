@@ -7,7 +7,7 @@ ghost use Rattle.level.specs.Segments.{Valid};
 ghost use Rattle.mesh.specs.TrianglePoints.{trianglePatch, triangleCorners};
 ghost use Rattle.mesh.specs.Segmented.{run};
 ghost use Rattle.mesh.specs.Words.{vertexWords};
-ghost use Rattle.vertices.specs.Rows.{AllValid, AllStored};
+ghost use Rattle.vertices.specs.Rows.{AllValid, AllStored, Widths};
 use level::Segments;
 use stored_rows::row_of;
 use stored_rows::widest;
@@ -31,6 +31,26 @@ fn write_stored(
     let r2 = row_of(table, e2);
     let r3 = row_of(table, inside);
     write_rows(out, at, r0, r1, r2, r3)
+}
+
+// The same, the inside point by point, which is quicker where the patch is small.
+fn write_small(
+    out: &mut [u32],
+    at: usize,
+    table: &[u32],
+    e0: Segments,
+    e1: Segments,
+    e2: Segments,
+    inside: Segments,
+) -> usize
+    requires { ⌜ AllValid (e0 ∷ e1 ∷ e2 ∷ inside ∷ []) × (2 ≤ inside .count) ⌝ ∗ ⌜ AllStored (now table) (e0 ∷ e1 ∷ e2 ∷ inside ∷ []) ⌝ ∗ ⌜ at + 3 * length (trianglePatch (run e0) (run e1) (run e2) (run inside)) ≤ length (now out) ⌝ }
+    ensures { λ w. ⌜ Wrote (now (out .entry)) at (vertexWords (trianglePatch (run e0) (run e1) (run e2) (run inside))) (now (out .exit)) w ⌝ }
+{
+    let r0 = row_of(table, e0);
+    let r1 = row_of(table, e1);
+    let r2 = row_of(table, e2);
+    let r3 = row_of(table, inside);
+    triangle_rows::write_small(out, at, r0, r1, r2, r3)
 }
 
 // A patch whose rows are filled in by division, one every 65 words.
@@ -58,6 +78,35 @@ fn write_divided(
     write_rows(out, at, r0, r1, r2, r3)
 }
 
+// A patch whose widest edge has `most` segments, or, where that is 65, an edge that is not of equal spacing. It is a function of its own so
+// that a small patch does not pay for the stack that the whole table takes.
+fn write_wide(
+    out: &mut [u32],
+    at: usize,
+    most: u32,
+    e0: Segments,
+    e1: Segments,
+    e2: Segments,
+    inside: Segments,
+) -> usize
+    requires { ⌜ AllValid (e0 ∷ e1 ∷ e2 ∷ inside ∷ []) × (2 ≤ inside .count) ⌝ ∗ ⌜ Widths 0 (e0 ∷ e1 ∷ e2 ∷ inside ∷ []) most ⌝ ∗ ⌜ at + 3 * length (trianglePatch (run e0) (run e1) (run e2) (run inside)) ≤ length (now out) ⌝ }
+    ensures { λ w. ⌜ Wrote (now (out .entry)) at (vertexWords (trianglePatch (run e0) (run e1) (run e2) (run inside))) (now (out .exit)) w ⌝ }
+{
+    if most <= 16 {
+        let table = stored_rows::rows_to_16();
+        return write_stored(out, at, &table, e0, e1, e2, inside);
+    }
+    if most <= 32 {
+        let table = stored_rows::rows_to_32();
+        return write_stored(out, at, &table, e0, e1, e2, inside);
+    }
+    if most <= 64 {
+        let table = stored_rows::rows_to_64();
+        return write_stored(out, at, &table, e0, e1, e2, inside);
+    }
+    write_divided(out, at, e0, e1, e2, inside)
+}
+
 // The outline, then the rings inside it.
 // Of equal spacing the places are the table's, of which no more rows are laid out than the edges need.
 pub fn write_triangle_patch(
@@ -77,21 +126,9 @@ pub fn write_triangle_patch(
     let most = widest(most, inside);
     if most <= 8 {
         let table = stored_rows::rows_to_8();
-        return write_stored(out, at, &table, e0, e1, e2, inside);
+        return write_small(out, at, &table, e0, e1, e2, inside);
     }
-    if most <= 16 {
-        let table = stored_rows::rows_to_16();
-        return write_stored(out, at, &table, e0, e1, e2, inside);
-    }
-    if most <= 32 {
-        let table = stored_rows::rows_to_32();
-        return write_stored(out, at, &table, e0, e1, e2, inside);
-    }
-    if most <= 64 {
-        let table = stored_rows::rows_to_64();
-        return write_stored(out, at, &table, e0, e1, e2, inside);
-    }
-    write_divided(out, at, e0, e1, e2, inside)
+    write_wide(out, at, most, e0, e1, e2, inside)
 }
 
 // The plain patch: its three corners.

@@ -11,7 +11,7 @@ use Rattle.edge.specs.Rows.{RowAt, Filled}
 use Rattle.stored_rows.specs.Stored.{rowsTo, Widest}
 use Rattle.edge.proofs.Rows.{row-kept}
 use Rattle.stored_rows.proofs.StoredRows.{row-stored}
-use Rattle.vertices.specs.Rows.{Stored, AllStored, AllValid}
+use Rattle.vertices.specs.Rows.{Stored, AllStored, AllValid, Widths, last, then}
 
 -- ---- filled in: a row stays where the row of s is filled in 65 words or more before it
 pub kept : (s : Segments) → s .count ≤ 64 → {xs ys : List ℕ} {from : ℕ} → Filled xs from (s .count) (s .scaled) ys → (k : ℕ) {n L : ℕ} → RowAt xs (from + 65 + k) n L
@@ -19,11 +19,6 @@ pub kept : (s : Segments) → s .count ≤ 64 → {xs ys : List ℕ} {from : ℕ
 kept s few f k r = row-kept f (inr (omega arith)) r
 
 -- ---- in the table, of which m rows are taken
--- the widest of each edge and those before it
-pub data Widths : ℕ → List Segments → ℕ → Type 0 where
-  last : {before r : ℕ} {s : Segments} → Widest before s r → Widths before (s ∷ []) r
-  then : {before r end : ℕ} {s : Segments} {ss : List Segments} → Widest before s r → Widths r ss end → Widths before (s ∷ ss) end
-
 module _ (m : ℕ) (few : m ≤ 64) where
   within : {before end : ℕ} {ss : List Segments} → end ≤ m → Widths before ss end → before ≤ m
   within k (last w) = omega (arith, w .past (omega arith))

@@ -4,7 +4,7 @@ use Prim.Native.Nat.{ℕ, _+_, _-_, _≤_, _<_}
 use mathlib.Core.List.{List, [], _∷_}
 use lib.ListN.{length, getD}
 use Rattle.edge.specs.Rows.{RowAt}
-use Rattle.stored_rows.specs.Stored.{start}
+use Rattle.stored_rows.specs.Stored.{start, Widest}
 use Rattle.level.specs.declared.Segments.{Segments}
 use Rattle.level.specs.Segments.{Valid}
 use Rattle.mesh.specs.Edge.{Run, GoodRun}
@@ -45,3 +45,8 @@ abbrev pub AllStored : List ℕ → List Segments → Type 0
 AllStored rows [] = Unit {0}
 AllStored rows (s ∷ []) = Stored rows s
 AllStored rows (s ∷ t ∷ ss) = Stored rows s × AllStored rows (t ∷ ss)
+
+-- how wide the edges are: the widest of each edge and those before it, down to the last one's
+pub data Widths : ℕ → List Segments → ℕ → Type 0 where
+  last : {before r : ℕ} {s : Segments} → Widest before s r → Widths before (s ∷ []) r
+  then : {before r end : ℕ} {s : Segments} {ss : List Segments} → Widest before s r → Widths r ss end → Widths before (s ∷ ss) end
