@@ -92,9 +92,29 @@ fn write_divided(
     write_rows(out, at, r0, r1, r2, r3, r4, r5)
 }
 
-// A patch whose widest edge has `most` segments, or, where that is 65, an edge that is not of equal spacing. It is a function of its own so
-// that a small patch does not pay for the stack that the whole table takes.
-fn write_wide(
+// The most segments of an edge, or 65 where an edge is not of equal spacing.
+fn width_of(
+    e0: Segments,
+    e1: Segments,
+    e2: Segments,
+    e3: Segments,
+    rows: Segments,
+    columns: Segments,
+) -> u32
+    requires { ⌜ AllValid (e0 ∷ e1 ∷ e2 ∷ e3 ∷ rows ∷ columns ∷ []) ⌝ }
+    ensures { λ r. ⌜ Widths 0 (e0 ∷ e1 ∷ e2 ∷ e3 ∷ rows ∷ columns ∷ []) r ⌝ }
+{
+    let most = widest(0, e0);
+    let most = widest(most, e1);
+    let most = widest(most, e2);
+    let most = widest(most, e3);
+    let most = widest(most, rows);
+    widest(most, columns)
+}
+
+// A patch whose widest edge has `most` segments, or, where that is 65, an edge that is not of equal spacing. Of equal spacing the places are the
+// table's, of which no more rows are laid out than the edges need.
+fn write_by_width(
     out: &mut [u32],
     at: usize,
     most: u32,
@@ -108,6 +128,10 @@ fn write_wide(
     requires { ⌜ AllValid (e0 ∷ e1 ∷ e2 ∷ e3 ∷ rows ∷ columns ∷ []) ⌝ ∗ ⌜ Widths 0 (e0 ∷ e1 ∷ e2 ∷ e3 ∷ rows ∷ columns ∷ []) most ⌝ ∗ ⌜ at + 3 * length (quadPatch (run e0) (run e1) (run e2) (run e3) (run rows) (run columns)) ≤ length (now out) ⌝ }
     ensures { λ w. ⌜ Wrote (now (out .entry)) at (vertexWords (quadPatch (run e0) (run e1) (run e2) (run e3) (run rows) (run columns))) (now (out .exit)) w ⌝ }
 {
+    if most <= 8 {
+        let table = stored_rows::rows_to_8();
+        return write_stored(out, at, &table, e0, e1, e2, e3, rows, columns);
+    }
     if most <= 16 {
         let table = stored_rows::rows_to_16();
         return write_stored(out, at, &table, e0, e1, e2, e3, rows, columns);
@@ -124,7 +148,6 @@ fn write_wide(
 }
 
 // The grid has m - 1 rows of n - 1 points, where `rows` has m segments and `columns` n.
-// Of equal spacing the places are the table's, of which no more rows are laid out than the edges need.
 pub fn write_quad_patch(
     out: &mut [u32],
     at: usize,
@@ -138,17 +161,30 @@ pub fn write_quad_patch(
     requires { ⌜ Valid (e0 .count) (e0 .scaled) × Valid (e1 .count) (e1 .scaled) × Valid (e2 .count) (e2 .scaled) × Valid (e3 .count) (e3 .scaled) ⌝ ∗ ⌜ Valid (rows .count) (rows .scaled) × Valid (columns .count) (columns .scaled) ⌝ ∗ ⌜ at + 3 * length (quadPatch (run e0) (run e1) (run e2) (run e3) (run rows) (run columns)) ≤ length (now out) ⌝ }
     ensures { λ w. ⌜ Wrote (now (out .entry)) at (vertexWords (quadPatch (run e0) (run e1) (run e2) (run e3) (run rows) (run columns))) (now (out .exit)) w ⌝ }
 {
-    let most = widest(0, e0);
-    let most = widest(most, e1);
-    let most = widest(most, e2);
-    let most = widest(most, e3);
-    let most = widest(most, rows);
-    let most = widest(most, columns);
-    if most <= 8 {
+    let most = width_of(e0, e1, e2, e3, rows, columns);
+    write_by_width(out, at, most, e0, e1, e2, e3, rows, columns)
+}
+
+// The same, with a way of its own for a small patch, which then takes no stack for the whole table: for drawing, where this is most of what a call does.
+pub fn write_drawn_quad(
+    out: &mut [u32],
+    at: usize,
+    e0: Segments,
+    e1: Segments,
+    e2: Segments,
+    e3: Segments,
+    rows: Segments,
+    columns: Segments,
+) -> usize
+    requires { ⌜ Valid (e0 .count) (e0 .scaled) × Valid (e1 .count) (e1 .scaled) × Valid (e2 .count) (e2 .scaled) × Valid (e3 .count) (e3 .scaled) ⌝ ∗ ⌜ Valid (rows .count) (rows .scaled) × Valid (columns .count) (columns .scaled) ⌝ ∗ ⌜ at + 3 * length (quadPatch (run e0) (run e1) (run e2) (run e3) (run rows) (run columns)) ≤ length (now out) ⌝ }
+    ensures { λ w. ⌜ Wrote (now (out .entry)) at (vertexWords (quadPatch (run e0) (run e1) (run e2) (run e3) (run rows) (run columns))) (now (out .exit)) w ⌝ }
+{
+    let most = width_of(e0, e1, e2, e3, rows, columns);
+    if most < 9 {
         let table = stored_rows::rows_to_8();
         return write_small(out, at, &table, e0, e1, e2, e3, rows, columns);
     }
-    write_wide(out, at, most, e0, e1, e2, e3, rows, columns)
+    write_by_width(out, at, most, e0, e1, e2, e3, rows, columns)
 }
 
 // The plain patch: its four corners.

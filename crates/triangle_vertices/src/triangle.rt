@@ -78,9 +78,20 @@ fn write_divided(
     write_rows(out, at, r0, r1, r2, r3)
 }
 
-// A patch whose widest edge has `most` segments, or, where that is 65, an edge that is not of equal spacing. It is a function of its own so
-// that a small patch does not pay for the stack that the whole table takes.
-fn write_wide(
+// The most segments of an edge, or 65 where an edge is not of equal spacing.
+fn width_of(e0: Segments, e1: Segments, e2: Segments, inside: Segments) -> u32
+    requires { ⌜ AllValid (e0 ∷ e1 ∷ e2 ∷ inside ∷ []) ⌝ }
+    ensures { λ r. ⌜ Widths 0 (e0 ∷ e1 ∷ e2 ∷ inside ∷ []) r ⌝ }
+{
+    let most = widest(0, e0);
+    let most = widest(most, e1);
+    let most = widest(most, e2);
+    widest(most, inside)
+}
+
+// A patch whose widest edge has `most` segments, or, where that is 65, an edge that is not of equal spacing. Of equal spacing the places are the
+// table's, of which no more rows are laid out than the edges need.
+fn write_by_width(
     out: &mut [u32],
     at: usize,
     most: u32,
@@ -92,6 +103,10 @@ fn write_wide(
     requires { ⌜ AllValid (e0 ∷ e1 ∷ e2 ∷ inside ∷ []) × (2 ≤ inside .count) ⌝ ∗ ⌜ Widths 0 (e0 ∷ e1 ∷ e2 ∷ inside ∷ []) most ⌝ ∗ ⌜ at + 3 * length (trianglePatch (run e0) (run e1) (run e2) (run inside)) ≤ length (now out) ⌝ }
     ensures { λ w. ⌜ Wrote (now (out .entry)) at (vertexWords (trianglePatch (run e0) (run e1) (run e2) (run inside))) (now (out .exit)) w ⌝ }
 {
+    if most <= 8 {
+        let table = stored_rows::rows_to_8();
+        return write_stored(out, at, &table, e0, e1, e2, inside);
+    }
     if most <= 16 {
         let table = stored_rows::rows_to_16();
         return write_stored(out, at, &table, e0, e1, e2, inside);
@@ -108,7 +123,6 @@ fn write_wide(
 }
 
 // The outline, then the rings inside it.
-// Of equal spacing the places are the table's, of which no more rows are laid out than the edges need.
 pub fn write_triangle_patch(
     out: &mut [u32],
     at: usize,
@@ -120,15 +134,28 @@ pub fn write_triangle_patch(
     requires { ⌜ Valid (e0 .count) (e0 .scaled) × Valid (e1 .count) (e1 .scaled) × Valid (e2 .count) (e2 .scaled) ⌝ ∗ ⌜ Valid (inside .count) (inside .scaled) × (2 ≤ inside .count) ⌝ ∗ ⌜ at + 3 * length (trianglePatch (run e0) (run e1) (run e2) (run inside)) ≤ length (now out) ⌝ }
     ensures { λ w. ⌜ Wrote (now (out .entry)) at (vertexWords (trianglePatch (run e0) (run e1) (run e2) (run inside))) (now (out .exit)) w ⌝ }
 {
-    let most = widest(0, e0);
-    let most = widest(most, e1);
-    let most = widest(most, e2);
-    let most = widest(most, inside);
-    if most <= 8 {
+    let most = width_of(e0, e1, e2, inside);
+    write_by_width(out, at, most, e0, e1, e2, inside)
+}
+
+// The same, with a way of its own for a small patch, which then takes no stack for the whole table: for drawing, where this is most of what a call does.
+pub fn write_drawn_triangle(
+    out: &mut [u32],
+    at: usize,
+    e0: Segments,
+    e1: Segments,
+    e2: Segments,
+    inside: Segments,
+) -> usize
+    requires { ⌜ Valid (e0 .count) (e0 .scaled) × Valid (e1 .count) (e1 .scaled) × Valid (e2 .count) (e2 .scaled) ⌝ ∗ ⌜ Valid (inside .count) (inside .scaled) × (2 ≤ inside .count) ⌝ ∗ ⌜ at + 3 * length (trianglePatch (run e0) (run e1) (run e2) (run inside)) ≤ length (now out) ⌝ }
+    ensures { λ w. ⌜ Wrote (now (out .entry)) at (vertexWords (trianglePatch (run e0) (run e1) (run e2) (run inside))) (now (out .exit)) w ⌝ }
+{
+    let most = width_of(e0, e1, e2, inside);
+    if most < 9 {
         let table = stored_rows::rows_to_8();
         return write_small(out, at, &table, e0, e1, e2, inside);
     }
-    write_wide(out, at, most, e0, e1, e2, inside)
+    write_by_width(out, at, most, e0, e1, e2, inside)
 }
 
 // The plain patch: its three corners.
