@@ -66,3 +66,27 @@ pub fn write_rows(
     let w = write_outline(out, at, &e0[0..n0], &e1[0..n1], &e2[0..n2], &e3[0..n3]);
     vertices::grid::write_grid(out, w, &rows[1..m], &columns[1..n])
 }
+
+// The same, with the grid written point by point, which is faster for a small one.
+pub fn write_small(
+    out: &mut [u32],
+    at: usize,
+    e0: &[u32],
+    e1: &[u32],
+    e2: &[u32],
+    e3: &[u32],
+    rows: &[u32],
+    columns: &[u32],
+) -> usize
+    requires { ⌜ GoodRow (now e0) × GoodRow (now e1) × GoodRow (now e2) × GoodRow (now e3) × GoodRow (now rows) × GoodRow (now columns) ⌝ ∗ ⌜ at + 3 * length (quadPatch (whole (now e0)) (whole (now e1)) (whole (now e2)) (whole (now e3)) (whole (now rows)) (whole (now columns))) ≤ length (now out) ⌝ }
+    ensures { λ w. ⌜ Wrote (now (out .entry)) at (vertexWords (quadPatch (whole (now (e0 .entry))) (whole (now (e1 .entry))) (whole (now (e2 .entry))) (whole (now (e3 .entry))) (whole (now (rows .entry))) (whole (now (columns .entry))))) (now (out .exit)) w ⌝ }
+{
+    let c0 = e0.len() - 1;
+    let c1 = e1.len() - 1;
+    let c2 = e2.len() - 1;
+    let c3 = e3.len() - 1;
+    let m = rows.len() - 1;
+    let n = columns.len() - 1;
+    let w = write_outline(out, at, &e0[0..c0], &e1[0..c1], &e2[0..c2], &e3[0..c3]);
+    vertices::grid::write_each(out, w, &rows[1..m], &columns[1..n])
+}

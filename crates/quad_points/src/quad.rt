@@ -7,7 +7,7 @@ ghost use Rattle.level.specs.Segments.{Valid};
 ghost use Rattle.mesh_geometry.specs.QuadPoints.{quadPatch, quadCorners};
 ghost use Rattle.mesh_geometry.specs.Segmented.{run};
 ghost use Rattle.mesh_geometry.specs.Words.{vertexWords};
-ghost use Rattle.vertices.specs.Rows.{AllValid, AllStored};
+ghost use Rattle.vertices.specs.Rows.{AllValid, AllStored, Widths};
 use edge_table::row_of;
 use edge_table::widest;
 use level::Segments;
@@ -35,6 +35,30 @@ fn write_stored(
     let r4 = row_of(table, rows);
     let r5 = row_of(table, columns);
     write_rows(out, at, r0, r1, r2, r3, r4, r5)
+}
+
+// The same, with the inside written point by point, which is faster for a small patch.
+fn write_small(
+    out: &mut [u32],
+    at: usize,
+    table: &[u32],
+    e0: Segments,
+    e1: Segments,
+    e2: Segments,
+    e3: Segments,
+    rows: Segments,
+    columns: Segments,
+) -> usize
+    requires { ⌜ AllValid (e0 ∷ e1 ∷ e2 ∷ e3 ∷ rows ∷ columns ∷ []) ⌝ ∗ ⌜ AllStored (now table) (e0 ∷ e1 ∷ e2 ∷ e3 ∷ rows ∷ columns ∷ []) ⌝ ∗ ⌜ at + 3 * length (quadPatch (run e0) (run e1) (run e2) (run e3) (run rows) (run columns)) ≤ length (now out) ⌝ }
+    ensures { λ w. ⌜ Wrote (now (out .entry)) at (vertexWords (quadPatch (run e0) (run e1) (run e2) (run e3) (run rows) (run columns))) (now (out .exit)) w ⌝ }
+{
+    let r0 = row_of(table, e0);
+    let r1 = row_of(table, e1);
+    let r2 = row_of(table, e2);
+    let r3 = row_of(table, e3);
+    let r4 = row_of(table, rows);
+    let r5 = row_of(table, columns);
+    quad_point_rows::write_small(out, at, r0, r1, r2, r3, r4, r5)
 }
 
 // Writes a patch whose rows are computed by division, one every 65 words.
@@ -68,11 +92,32 @@ fn write_divided(
     write_rows(out, at, r0, r1, r2, r3, r4, r5)
 }
 
-// Writes a patch; the grid has m - 1 rows of n - 1 points, where `rows` has m segments and `columns` n. For equal spacing the
-// places come from the table, of which no more rows are copied than the edges need.
-pub fn write_quad_patch(
+// Returns the greatest number of segments of an edge, or 65 if an edge is not equally spaced.
+fn width_of(
+    e0: Segments,
+    e1: Segments,
+    e2: Segments,
+    e3: Segments,
+    rows: Segments,
+    columns: Segments,
+) -> u32
+    requires { ⌜ AllValid (e0 ∷ e1 ∷ e2 ∷ e3 ∷ rows ∷ columns ∷ []) ⌝ }
+    ensures { λ r. ⌜ Widths 0 (e0 ∷ e1 ∷ e2 ∷ e3 ∷ rows ∷ columns ∷ []) r ⌝ }
+{
+    let most = widest(0, e0);
+    let most = widest(most, e1);
+    let most = widest(most, e2);
+    let most = widest(most, e3);
+    let most = widest(most, rows);
+    widest(most, columns)
+}
+
+// Writes a patch, given `most` of `width_of`. For equal spacing the places come from the table, of which no more rows are copied than the
+// edges need.
+fn write_by_width(
     out: &mut [u32],
     at: usize,
+    most: u32,
     e0: Segments,
     e1: Segments,
     e2: Segments,
@@ -80,15 +125,9 @@ pub fn write_quad_patch(
     rows: Segments,
     columns: Segments,
 ) -> usize
-    requires { ⌜ Valid (e0 .count) (e0 .scaled) × Valid (e1 .count) (e1 .scaled) × Valid (e2 .count) (e2 .scaled) × Valid (e3 .count) (e3 .scaled) ⌝ ∗ ⌜ Valid (rows .count) (rows .scaled) × Valid (columns .count) (columns .scaled) ⌝ ∗ ⌜ at + 3 * length (quadPatch (run e0) (run e1) (run e2) (run e3) (run rows) (run columns)) ≤ length (now out) ⌝ }
+    requires { ⌜ AllValid (e0 ∷ e1 ∷ e2 ∷ e3 ∷ rows ∷ columns ∷ []) ⌝ ∗ ⌜ Widths 0 (e0 ∷ e1 ∷ e2 ∷ e3 ∷ rows ∷ columns ∷ []) most ⌝ ∗ ⌜ at + 3 * length (quadPatch (run e0) (run e1) (run e2) (run e3) (run rows) (run columns)) ≤ length (now out) ⌝ }
     ensures { λ w. ⌜ Wrote (now (out .entry)) at (vertexWords (quadPatch (run e0) (run e1) (run e2) (run e3) (run rows) (run columns))) (now (out .exit)) w ⌝ }
 {
-    let most = widest(0, e0);
-    let most = widest(most, e1);
-    let most = widest(most, e2);
-    let most = widest(most, e3);
-    let most = widest(most, rows);
-    let most = widest(most, columns);
     if most <= 8 {
         let table = edge_table::rows_to_8();
         return write_stored(out, at, &table, e0, e1, e2, e3, rows, columns);
@@ -106,6 +145,46 @@ pub fn write_quad_patch(
         return write_stored(out, at, &table, e0, e1, e2, e3, rows, columns);
     }
     write_divided(out, at, e0, e1, e2, e3, rows, columns)
+}
+
+// Writes a patch; the grid has m - 1 rows of n - 1 points, where `rows` has m segments and `columns` n.
+pub fn write_quad_patch(
+    out: &mut [u32],
+    at: usize,
+    e0: Segments,
+    e1: Segments,
+    e2: Segments,
+    e3: Segments,
+    rows: Segments,
+    columns: Segments,
+) -> usize
+    requires { ⌜ Valid (e0 .count) (e0 .scaled) × Valid (e1 .count) (e1 .scaled) × Valid (e2 .count) (e2 .scaled) × Valid (e3 .count) (e3 .scaled) ⌝ ∗ ⌜ Valid (rows .count) (rows .scaled) × Valid (columns .count) (columns .scaled) ⌝ ∗ ⌜ at + 3 * length (quadPatch (run e0) (run e1) (run e2) (run e3) (run rows) (run columns)) ≤ length (now out) ⌝ }
+    ensures { λ w. ⌜ Wrote (now (out .entry)) at (vertexWords (quadPatch (run e0) (run e1) (run e2) (run e3) (run rows) (run columns))) (now (out .exit)) w ⌝ }
+{
+    let most = width_of(e0, e1, e2, e3, rows, columns);
+    write_by_width(out, at, most, e0, e1, e2, e3, rows, columns)
+}
+
+// The same for drawing, with a function of its own for a small patch, which then takes no stack for the whole table.
+pub fn write_drawn_quad(
+    out: &mut [u32],
+    at: usize,
+    e0: Segments,
+    e1: Segments,
+    e2: Segments,
+    e3: Segments,
+    rows: Segments,
+    columns: Segments,
+) -> usize
+    requires { ⌜ Valid (e0 .count) (e0 .scaled) × Valid (e1 .count) (e1 .scaled) × Valid (e2 .count) (e2 .scaled) × Valid (e3 .count) (e3 .scaled) ⌝ ∗ ⌜ Valid (rows .count) (rows .scaled) × Valid (columns .count) (columns .scaled) ⌝ ∗ ⌜ at + 3 * length (quadPatch (run e0) (run e1) (run e2) (run e3) (run rows) (run columns)) ≤ length (now out) ⌝ }
+    ensures { λ w. ⌜ Wrote (now (out .entry)) at (vertexWords (quadPatch (run e0) (run e1) (run e2) (run e3) (run rows) (run columns))) (now (out .exit)) w ⌝ }
+{
+    let most = width_of(e0, e1, e2, e3, rows, columns);
+    if most < 9 {
+        let table = edge_table::rows_to_8();
+        return write_small(out, at, &table, e0, e1, e2, e3, rows, columns);
+    }
+    write_by_width(out, at, most, e0, e1, e2, e3, rows, columns)
 }
 
 // Writes the plain patch: its four corners.

@@ -243,3 +243,23 @@ pub fn write_rows(
     let w = write_outline(out, at, &e0[0..n0], &e1[0..n1], &e2[0..n2]);
     write_inside(out, w, &inside[1..n])
 }
+
+// The same, with the rings written point by point, which is faster for small ones.
+pub fn write_small(
+    out: &mut [u32],
+    at: usize,
+    e0: &[u32],
+    e1: &[u32],
+    e2: &[u32],
+    inside: &[u32],
+) -> usize
+    requires { ⌜ GoodRow (now e0) × GoodRow (now e1) × GoodRow (now e2) × GoodRow (now inside) × (3 ≤ length (now inside)) ⌝ ∗ ⌜ at + 3 * length (trianglePatch (whole (now e0)) (whole (now e1)) (whole (now e2)) (whole (now inside))) ≤ length (now out) ⌝ }
+    ensures { λ w. ⌜ Wrote (now (out .entry)) at (vertexWords (trianglePatch (whole (now (e0 .entry))) (whole (now (e1 .entry))) (whole (now (e2 .entry))) (whole (now (inside .entry))))) (now (out .exit)) w ⌝ }
+{
+    let n0 = e0.len() - 1;
+    let n1 = e1.len() - 1;
+    let n2 = e2.len() - 1;
+    let n = inside.len() - 1;
+    let w = write_outline(out, at, &e0[0..n0], &e1[0..n1], &e2[0..n2]);
+    write_rings(out, w, &inside[1..n])
+}

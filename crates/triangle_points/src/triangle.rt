@@ -7,7 +7,7 @@ ghost use Rattle.level.specs.Segments.{Valid};
 ghost use Rattle.mesh_geometry.specs.TrianglePoints.{trianglePatch, triangleCorners};
 ghost use Rattle.mesh_geometry.specs.Segmented.{run};
 ghost use Rattle.mesh_geometry.specs.Words.{vertexWords};
-ghost use Rattle.vertices.specs.Rows.{AllValid, AllStored};
+ghost use Rattle.vertices.specs.Rows.{AllValid, AllStored, Widths};
 use edge_table::row_of;
 use edge_table::widest;
 use level::Segments;
@@ -31,6 +31,26 @@ fn write_stored(
     let r2 = row_of(table, e2);
     let r3 = row_of(table, inside);
     write_rows(out, at, r0, r1, r2, r3)
+}
+
+// The same, with the inside written point by point, which is faster for a small patch.
+fn write_small(
+    out: &mut [u32],
+    at: usize,
+    table: &[u32],
+    e0: Segments,
+    e1: Segments,
+    e2: Segments,
+    inside: Segments,
+) -> usize
+    requires { ⌜ AllValid (e0 ∷ e1 ∷ e2 ∷ inside ∷ []) × (2 ≤ inside .count) ⌝ ∗ ⌜ AllStored (now table) (e0 ∷ e1 ∷ e2 ∷ inside ∷ []) ⌝ ∗ ⌜ at + 3 * length (trianglePatch (run e0) (run e1) (run e2) (run inside)) ≤ length (now out) ⌝ }
+    ensures { λ w. ⌜ Wrote (now (out .entry)) at (vertexWords (trianglePatch (run e0) (run e1) (run e2) (run inside))) (now (out .exit)) w ⌝ }
+{
+    let r0 = row_of(table, e0);
+    let r1 = row_of(table, e1);
+    let r2 = row_of(table, e2);
+    let r3 = row_of(table, inside);
+    triangle_point_rows::write_small(out, at, r0, r1, r2, r3)
 }
 
 // Writes a patch whose rows are computed by division, one every 65 words.
@@ -58,23 +78,31 @@ fn write_divided(
     write_rows(out, at, r0, r1, r2, r3)
 }
 
-// Writes the outline, then the rings inside. For equal spacing the places come from the table, of which no more rows are copied
-// than the edges need.
-pub fn write_triangle_patch(
+// Returns the greatest number of segments of an edge, or 65 if an edge is not equally spaced.
+fn width_of(e0: Segments, e1: Segments, e2: Segments, inside: Segments) -> u32
+    requires { ⌜ AllValid (e0 ∷ e1 ∷ e2 ∷ inside ∷ []) ⌝ }
+    ensures { λ r. ⌜ Widths 0 (e0 ∷ e1 ∷ e2 ∷ inside ∷ []) r ⌝ }
+{
+    let most = widest(0, e0);
+    let most = widest(most, e1);
+    let most = widest(most, e2);
+    widest(most, inside)
+}
+
+// Writes a patch, given `most` of `width_of`. For equal spacing the places come from the table, of which no more rows are copied than the
+// edges need.
+fn write_by_width(
     out: &mut [u32],
     at: usize,
+    most: u32,
     e0: Segments,
     e1: Segments,
     e2: Segments,
     inside: Segments,
 ) -> usize
-    requires { ⌜ Valid (e0 .count) (e0 .scaled) × Valid (e1 .count) (e1 .scaled) × Valid (e2 .count) (e2 .scaled) ⌝ ∗ ⌜ Valid (inside .count) (inside .scaled) × (2 ≤ inside .count) ⌝ ∗ ⌜ at + 3 * length (trianglePatch (run e0) (run e1) (run e2) (run inside)) ≤ length (now out) ⌝ }
+    requires { ⌜ AllValid (e0 ∷ e1 ∷ e2 ∷ inside ∷ []) × (2 ≤ inside .count) ⌝ ∗ ⌜ Widths 0 (e0 ∷ e1 ∷ e2 ∷ inside ∷ []) most ⌝ ∗ ⌜ at + 3 * length (trianglePatch (run e0) (run e1) (run e2) (run inside)) ≤ length (now out) ⌝ }
     ensures { λ w. ⌜ Wrote (now (out .entry)) at (vertexWords (trianglePatch (run e0) (run e1) (run e2) (run inside))) (now (out .exit)) w ⌝ }
 {
-    let most = widest(0, e0);
-    let most = widest(most, e1);
-    let most = widest(most, e2);
-    let most = widest(most, inside);
     if most <= 8 {
         let table = edge_table::rows_to_8();
         return write_stored(out, at, &table, e0, e1, e2, inside);
@@ -92,6 +120,42 @@ pub fn write_triangle_patch(
         return write_stored(out, at, &table, e0, e1, e2, inside);
     }
     write_divided(out, at, e0, e1, e2, inside)
+}
+
+// Writes a patch: the outline, then the rings inside.
+pub fn write_triangle_patch(
+    out: &mut [u32],
+    at: usize,
+    e0: Segments,
+    e1: Segments,
+    e2: Segments,
+    inside: Segments,
+) -> usize
+    requires { ⌜ Valid (e0 .count) (e0 .scaled) × Valid (e1 .count) (e1 .scaled) × Valid (e2 .count) (e2 .scaled) ⌝ ∗ ⌜ Valid (inside .count) (inside .scaled) × (2 ≤ inside .count) ⌝ ∗ ⌜ at + 3 * length (trianglePatch (run e0) (run e1) (run e2) (run inside)) ≤ length (now out) ⌝ }
+    ensures { λ w. ⌜ Wrote (now (out .entry)) at (vertexWords (trianglePatch (run e0) (run e1) (run e2) (run inside))) (now (out .exit)) w ⌝ }
+{
+    let most = width_of(e0, e1, e2, inside);
+    write_by_width(out, at, most, e0, e1, e2, inside)
+}
+
+// The same for drawing, with a function of its own for a small patch, which then takes no stack for the whole table.
+pub fn write_drawn_triangle(
+    out: &mut [u32],
+    at: usize,
+    e0: Segments,
+    e1: Segments,
+    e2: Segments,
+    inside: Segments,
+) -> usize
+    requires { ⌜ Valid (e0 .count) (e0 .scaled) × Valid (e1 .count) (e1 .scaled) × Valid (e2 .count) (e2 .scaled) ⌝ ∗ ⌜ Valid (inside .count) (inside .scaled) × (2 ≤ inside .count) ⌝ ∗ ⌜ at + 3 * length (trianglePatch (run e0) (run e1) (run e2) (run inside)) ≤ length (now out) ⌝ }
+    ensures { λ w. ⌜ Wrote (now (out .entry)) at (vertexWords (trianglePatch (run e0) (run e1) (run e2) (run inside))) (now (out .exit)) w ⌝ }
+{
+    let most = width_of(e0, e1, e2, inside);
+    if most < 9 {
+        let table = edge_table::rows_to_8();
+        return write_small(out, at, &table, e0, e1, e2, inside);
+    }
+    write_by_width(out, at, most, e0, e1, e2, inside)
 }
 
 // Writes the plain patch: its three corners.

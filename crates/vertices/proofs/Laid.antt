@@ -10,7 +10,7 @@ use Rattle.edge.specs.Rows.{RowAt, Filled}
 use Rattle.edge_table.specs.Stored.{rowsTo, Widest}
 use Rattle.edge.proofs.Rows.{row-kept}
 use Rattle.edge_table.proofs.StoredRows.{row-stored}
-use Rattle.vertices.specs.Rows.{Stored, AllStored, AllValid}
+use Rattle.vertices.specs.Rows.{Stored, AllStored, AllValid, Widths, last, then}
 
 -- ---- computed rows: a row stays unchanged when the row of s is computed at least 65 words before it
 pub kept : (s : Segments) → s .count ≤ 64 → {xs ys : List ℕ} {from : ℕ} → Filled xs from (s .count) (s .scaled) ys → (k : ℕ) {n L : ℕ} → RowAt xs (from + 65 + k) n L
@@ -18,11 +18,6 @@ pub kept : (s : Segments) → s .count ≤ 64 → {xs ys : List ℕ} {from : ℕ
 kept s few f k r = row-kept f (inr (omega arith)) r
 
 -- ---- rows in the table, of which m are taken
--- the most segments of each edge and those before it
-pub data Widths : ℕ → List Segments → ℕ → Type 0 where
-  last : {before r : ℕ} {s : Segments} → Widest before s r → Widths before (s ∷ []) r
-  then : {before r end : ℕ} {s : Segments} {ss : List Segments} → Widest before s r → Widths r ss end → Widths before (s ∷ ss) end
-
 module _ (m : ℕ) (few : m ≤ 64) where
   within : {before end : ℕ} {ss : List Segments} → end ≤ m → Widths before ss end → before ≤ m
   within k (last w) = omega (arith, w .past (omega arith))

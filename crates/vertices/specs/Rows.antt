@@ -3,7 +3,7 @@ use Prim.Native.Nat.{ℕ, _+_, _-_, _≤_, _<_}
 use mathlib.Core.List.{List, [], _∷_}
 use lib.ListN.{length, getD}
 use Rattle.edge.specs.Rows.{RowAt}
-use Rattle.edge_table.specs.Stored.{start}
+use Rattle.edge_table.specs.Stored.{start, Widest}
 use Rattle.level.specs.declared.Segments.{Segments}
 use Rattle.level.specs.Segments.{Valid}
 use Rattle.mesh_geometry.specs.Edge.{Run, GoodRun}
@@ -44,3 +44,8 @@ abbrev pub AllStored : List ℕ → List Segments → Type 0
 AllStored rows [] = Unit {0}
 AllStored rows (s ∷ []) = Stored rows s
 AllStored rows (s ∷ t ∷ ss) = Stored rows s × AllStored rows (t ∷ ss)
+
+-- the widest edge so far: `before` is that of earlier edges, and the last number that of all
+pub data Widths : ℕ → List Segments → ℕ → Type 0 where
+  last : {before r : ℕ} {s : Segments} → Widest before s r → Widths before (s ∷ []) r
+  then : {before r end : ℕ} {s : Segments} {ss : List Segments} → Widest before s r → Widths r ss end → Widths before (s ∷ ss) end

@@ -47,7 +47,7 @@ pub fn copy_row(out: &mut [u32], at: usize, row: &[u32]) -> usize
 }
 
 // Writes a row for each place along v, point by point.
-fn write_each(out: &mut [u32], at: usize, rows: &[u32], columns: &[u32]) -> usize
+pub fn write_each(out: &mut [u32], at: usize, rows: &[u32], columns: &[u32]) -> usize
     requires { ⌜ at + 3 * (length (now rows) * length (now columns)) ≤ length (now out) ⌝ }
     ensures { λ w. ⌜ Wrote (now (out .entry)) at (vertexWords (gridPoints (now (rows .entry)) (now (columns .entry)))) (now (out .exit)) w ⌝ }
 {

@@ -24,9 +24,9 @@ write-plain-triangle-requires c κs = omega (arith, room-as (λ d. 3 * length (p
 enum-known-cut : tie.Need-enum-known-cut
 enum-known-cut c = search needs
 
-write-triangle-patch-requires : tie.Need-write-triangle-patch-requires
+write-drawn-triangle-requires : tie.Need-write-drawn-triangle-requires
 unfolding points
-write-triangle-patch-requires c κs =
+write-drawn-triangle-requires c κs =
     let start = c .before .before .before .before .before in
     let e = c .before .before .cut .given .1 in
     let v = valid-as (start .pre .0) e in
@@ -43,9 +43,9 @@ write-plain-quad-requires c κs = omega (arith, room-as (λ d. 3 * length (point
 enum-known-cut-2 : tie.Need-enum-known-cut-2
 enum-known-cut-2 c = search needs
 
-write-quad-patch-requires : tie.Need-write-quad-patch-requires
+write-drawn-quad-requires : tie.Need-write-drawn-quad-requires
 unfolding points
-write-quad-patch-requires c κs =
+write-drawn-quad-requires c κs =
     let start = c .before .before .before .before .before in
     let e = c .before .before .cut2 .given .1 in
     let v = valid-as (start .pre .0) e in
@@ -80,7 +80,7 @@ same-length-2 c = search needs
 
 returns-3 : tie.Need-returns-3
 unfolding points
-returns-3 c = as-cut (λ d. vertexWords (points d)) (c .before .before .before .before .before .cut .given .1) (c .before .before .write-triangle-patch .ensures)
+returns-3 c = as-cut (λ d. vertexWords (points d)) (c .before .before .before .before .before .cut .given .1) (c .before .before .write-drawn-triangle .ensures)
 
 same-length-3 : tie.Need-same-length-3
 same-length-3 c = search needs
@@ -94,7 +94,7 @@ same-length-4 c = search needs
 
 returns-5 : tie.Need-returns-5
 unfolding points
-returns-5 c = as-cut (λ d. vertexWords (points d)) (c .before .before .before .before .before .cut2 .given .1) (c .before .before .write-quad-patch .ensures)
+returns-5 c = as-cut (λ d. vertexWords (points d)) (c .before .before .before .before .before .cut2 .given .1) (c .before .before .write-drawn-quad .ensures)
 
 same-length-5 : tie.Need-same-length-5
 same-length-5 c = search needs
@@ -111,11 +111,11 @@ write-points-spec =
     enum-told-2
     write-plain-triangle-requires
     enum-known-cut
-    write-triangle-patch-requires
+    write-drawn-triangle-requires
     enum-told-3
     write-plain-quad-requires
     enum-known-cut-2
-    write-quad-patch-requires
+    write-drawn-quad-requires
     enum-known-cut-3
     write-isolines-requires
     returns

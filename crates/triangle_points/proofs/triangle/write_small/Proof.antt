@@ -1,0 +1,23 @@
+-- Meets its contract. Assumes nothing.
+use borrow.Author.Needs.{needs}
+use Rattle.triangle_points.proofs.Triangles.{rows-ready, rows-written}
+use Rattle.triangle_points.proofs.triangle.write_small.Statement.{statement}
+use Rattle.triangle_points.proofs.triangle.write_small.Tie as tie
+
+write-small-requires : tie.Need-write-small-requires
+write-small-requires c κs =
+    let s = c .before .before .before .before .before .before .before in
+    let a = s .args in
+    rows-ready (a .e0) (a .e1) (a .e2) (a .inside) (c .before .before .before .before .row-of .ensures) (c .before .before .before .row-of2 .ensures) (c .before .before .row-of3 .ensures) (c .before .row-of4 .ensures) (s .pre .0) (a .out .now) (a .at) (s .pre .1 .1)
+
+pub write-small-spec : {M : Type 1} → statement M
+write-small-spec =
+    tie.close
+    (tie.spec
+    (λ c κs. search needs)
+    (λ c κs. search needs)
+    (λ c κs. search needs)
+    (λ c κs. search needs)
+    write-small-requires
+    (λ c. search needs)
+    (λ c. search (rows-written, needs)))
