@@ -3,7 +3,7 @@
 #include "bare.h"
 #include "yoktvarim.h"
 
-enum { ROUNDS = 6400, ROUNDS_PER_LINE = 400 };
+enum { ROUNDS = 12800, ROUNDS_PER_LINE = 800 };
 
 /* ---------------------------------------------------------------- chance */
 
@@ -337,7 +337,9 @@ static void replay(void)
 static void share(const patch *p)
 {
     uint32_t vertex_words = below(900), index_words = below(900);
-    const uint64_t quotas[4] = {below(vertex_words + 1), below(index_words + 1), below(vertex_words + 1) / 2, below(index_words + 1) / 2};
+    const uint32_t part = one_in(8) ? 1 : 2;
+    const uint64_t quotas[4] = {below(vertex_words / part + 1), below(index_words / part + 1), below(vertex_words / part + 1),
+                                below(index_words / part + 1)};
     uint32_t *vertices = lend(4 * vertex_words);
     uint16_t *indices = lend(2 * index_words);
     yoktvarim_shared *state = lend(sizeof *state);

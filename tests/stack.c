@@ -88,7 +88,7 @@ static int job_on(const yoktvarim_settings *settings, const yoktvarim_levels *le
     yoktvarim_patterns patterns = yoktvarim_patterns_of(levels);
     yoktvarim_settings back;
     uint32_t version, place;
-    size_t next;
+    uint64_t next;
     return (int)yoktvarim_write_header(2, job, sizeof job, &counts[0]) +
            (int)yoktvarim_write_record(2, settings, &patterns, job + YOKTVARIM_HEADER_BYTES, YOKTVARIM_RECORD_BYTES, &counts[1]) +
            (int)yoktvarim_read_header(job, sizeof job, &version) +
@@ -106,7 +106,6 @@ static int replay_on(const yoktvarim_settings *settings, const yoktvarim_levels 
     return (int)yoktvarim_replay(recording, sizeof recording, &told);
 }
 
-static int none(int input) { return input < 0; }
 static int measure(int input) { return patch_call(input, measure_on); }
 static int drawing(int input) { return patch_call(input, draw_on); }
 static int floats(int input) { return patch_call(input, floats_on); }
@@ -116,7 +115,7 @@ static int replaying(int input) { return patch_call(input, replay_on); }
 
 /* How a mesh is spoilt: not at all, a triangle repeated, the first one missing, the last one missing, every second one missing, two points
  * equal, more points than the tables take, more triangles. */
-enum { SPOILT = 8 };
+enum { TOO_MANY_POINTS = 6, TOO_MANY_TRIANGLES, SPOILT };
 
 static void spoil(mesh *m, int how)
 {
@@ -142,13 +141,13 @@ static void spoil(mesh *m, int how)
         memcpy(m->points + m->point_words, m->points, 3 * sizeof *m->points);
         m->point_words += 3;
         break;
-    case 6:
+    case TOO_MANY_POINTS:
         for (; m->point_words < 3 * MANY_POINTS; m->point_words += 3) {
             m->points[m->point_words] = (uint32_t)m->point_words;
             m->points[m->point_words + 1] = m->points[m->point_words + 2] = 99999;
         }
         break;
-    case 7:
+    case TOO_MANY_TRIANGLES:
         for (; m->index_words < 3 * MANY_TRIANGLES; m->index_words += 3)
             memcpy(m->indices + m->index_words, m->indices, 3 * sizeof *m->indices);
         break;
@@ -176,10 +175,13 @@ static int checking(int input)
 
 static int comparing(int input)
 {
-    const int which = input % MESHES, other = input / MESHES % MESHES;
+    const int which = input % MESHES, other = input / MESHES % MESHES, how = input / MESHES / MESHES;
+    /* The search past the tables takes long, and no other stack for another pair. */
+    if (how >= TOO_MANY_POINTS && which != other)
+        return input + 1 < MESHES * MESHES * SPOILT;
     draw(&left, meshes[which].settings, &all_levels[meshes[which].levels]);
     draw(&right, meshes[other].settings, &all_levels[meshes[other].levels]);
-    spoil(&right, input / MESHES / MESHES);
+    spoil(&right, how);
     (void)!yoktvarim_compare_meshes(left.points, left.point_words, left.indices, left.index_words, right.points, right.point_words,
                                     right.indices, right.index_words, differences, sizeof differences / sizeof *differences, places);
     return input + 1 < MESHES * MESHES * SPOILT;
@@ -224,9 +226,8 @@ int run(void)
         {"checking", checking, YOKTVARIM_STACK_CHECK},     {"replaying", replaying, YOKTVARIM_STACK_REPLAY},
         {"shared lists", sharing, YOKTVARIM_STACK_SHARE},  {"comparing", comparing, YOKTVARIM_STACK_COMPARE},
     };
-    const size_t own = used(none);
     int failed = 0;
     for (size_t i = 0; i < sizeof cases / sizeof *cases; i++)
-        failed |= !is_right(cases[i].name, used(cases[i].on) - own, cases[i].limit);
+        failed |= !is_right(cases[i].name, used(cases[i].on), cases[i].limit);
     return failed;
 }

@@ -70,8 +70,6 @@ __attribute__((no_builtin)) void *memcpy(void *to, const void *from, size_t coun
 {
     unsigned char *t = to;
     const unsigned char *f = from;
-    for (; count >= 8; count -= 8, t += 8, f += 8)
-        *(__attribute__((aligned(1), may_alias)) uint64_t *)t = *(const __attribute__((aligned(1), may_alias)) uint64_t *)f;
     for (; count > 0; count--)
         *t++ = *f++;
     return to;
@@ -93,9 +91,6 @@ __attribute__((no_builtin)) void *memmove(void *to, const void *from, size_t cou
 __attribute__((no_builtin)) void *memset(void *to, int byte, size_t count)
 {
     unsigned char *t = to;
-    const uint64_t all = 0x0101010101010101u * (unsigned char)byte;
-    for (; count >= 8; count -= 8, t += 8)
-        *(__attribute__((aligned(1), may_alias)) uint64_t *)t = all;
     for (; count > 0; count--)
         *t++ = (unsigned char)byte;
     return to;
