@@ -20,6 +20,9 @@
 //! The top of the settings says how finely a patch can be cut at most: an even number from 2 to 64. Any other number is
 //! answered with `BadTop`, before everything else.
 
+#[cfg(not(target_pointer_width = "64"))]
+compile_error!("the library takes lengths of 64 bits, and usize has another size on this target");
+
 pub mod answers;
 pub mod check;
 mod clamps;
