@@ -14,8 +14,9 @@ const CASES = {
 };
 const KINDS = ['triangles', 'quads'];
 const ROUNDS = 301;
+const WARM_UP = 500_000_000;
 
-/** The least of many rounds of half a millisecond or more. */
+/** The least of many rounds of half a millisecond or more, once node has had the time to compile the calls well. */
 function nanoseconds(call) {
     const round = (times) => {
         const start = process.hrtime.bigint();
@@ -24,6 +25,7 @@ function nanoseconds(call) {
     };
     let times = 1;
     while (round(times) < 500_000) times *= 2;
+    for (let spent = 0; spent < WARM_UP; spent += round(times));
     let least = Infinity;
     for (let each = 0; each < ROUNDS; each++) least = Math.min(least, round(times) / times);
     return least;

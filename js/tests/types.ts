@@ -1,10 +1,15 @@
-// Compiles only if the declarations say what the module does.
+// Compiles only if the declarations are what the module does: an answer has the values of its name and no others, and a switch over the
+// names can be complete.
 import { isolines, load, quads, triangles, faultInWords, jobText, record, patchOf, type Yoktvarim } from '../index.js';
 
 export async function use(bytes: Uint8Array): Promise<string> {
     const yoktvarim: Yoktvarim = await load(bytes);
     const answer = yoktvarim.mesh(triangles([1, 1, 1], 2), { spacing: 'fractional odd' });
-    if (answer.is === 'drawn') return `${answer.vertices.length} ${answer.indices.length}`;
+    switch (answer.is) {
+        case 'drawn': return `${answer.vertices.length} ${answer.indices.length}`;
+        case 'discarded': case 'bad top': break;
+        default: { const none: never = answer; return none; }
+    }
     // @ts-expect-error a refusal has no vertices
     answer.vertices;
     const size = yoktvarim.measure(quads([1, 2, 3, 4], [1, 2]));
