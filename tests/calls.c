@@ -72,10 +72,13 @@ static void *lend_copy(const void *from, size_t size) { return memcpy(lend(size)
 
 /* ---------------------------------------------------------------- what came of the calls */
 
-enum { MEASURE, POINTS, INDICES, FLOATS, WRITE_HEADER, WRITE_RECORD, READ_HEADER, READ_RECORD, CHECK, COMPARE, REPLAY, START, DRAW, CLEAR, CALLS };
-static const char *const names[CALLS] = {"measure",     "draw_points", "draw_indices", "draw_with_floats", "write_header",
+enum {
+    MEASURE, POINTS, INDICES, FLOATS, WRITE_HEADER, WRITE_RECORD, READ_HEADER, READ_RECORD, CHECK, COMPARE, REPLAY, START, DRAW, CLEAR,
+    CALLS
+};
+static const char *const names[CALLS] = {"measure",      "draw_points", "draw_indices", "draw_with_floats", "write_header",
                                          "write_record", "read_header", "read_record",  "check_mesh",       "compare_meshes",
-                                         "replay",      "share_start", "share_draw",   "share_clear"};
+                                         "replay",       "share_start", "share_draw",   "share_clear"};
 static uint32_t met[CALLS][256];
 static uint64_t hash = 0xCBF29CE484222325u;
 static uint32_t calls;

@@ -153,7 +153,9 @@ test('two designers', () => {
     assert.deepEqual(shared.used('second'), { vertices: 0, indices: 0 });
     structuredClone(vertices, { transfer: [vertices.buffer] });
     assert.equal(shared.draw('first', patch).is, 'bad state');
-    const many = yoktvarim.Shared.start(new Uint32Array(3 * 66000), new Uint16Array(400_000), { vertices: 3 * 66000, indices: 400_000 }, { vertices: 0, indices: 0 });
+    const all = { vertices: 3 * 66000, indices: 400_000 };
+    const none = { vertices: 0, indices: 0 };
+    const many = yoktvarim.Shared.start(new Uint32Array(all.vertices), new Uint16Array(all.indices), all, none);
     const large = quads([64, 64, 64, 64], [64, 64]);
     for (let times = 0; times < 15; times++) assert.equal(many.draw('first', large).is, 'drawn');
     assert.equal(many.draw('first', large).is, 'too many points');
@@ -191,7 +193,8 @@ test('a memory that grows leaves no stale list', async () => {
     const fresh = await load();
     const before = fresh.mesh(patch);
     const words = [...before.vertices];
-    const shared = fresh.Shared.start(new Uint32Array(100), new Uint16Array(100), { vertices: 50, indices: 50 }, { vertices: 50, indices: 50 });
+    const half = { vertices: 50, indices: 50 };
+    const shared = fresh.Shared.start(new Uint32Array(100), new Uint16Array(100), half, half);
     assert.equal(shared.draw('first', patch).is, 'drawn');
     // Two meshes of this size do not fit the memory that the module starts with.
     const large = { vertices: new Uint32Array(3_000_000), indices: new Uint16Array(3) };

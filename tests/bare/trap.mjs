@@ -1,6 +1,6 @@
 /**
- * Compares two meshes with a module whose stack is too small for that: node trap.mjs MODULE STACK. The call has to trap, and no byte past the
- * stack may be written.
+ * Compares two meshes with a module whose stack is too small for that: node trap.mjs MODULE STACK. The call has to trap, and no byte
+ * past the stack may be written.
  */
 
 import { readFileSync } from 'node:fs';
@@ -13,11 +13,15 @@ memory.grow(16);
 const [settings, levels, counts, points, indices, differences] = [0, 64, 128, 4096, 65536, 131072].map((at) => __heap_base.value + at);
 new Uint8Array(memory.buffer, settings).set([1, 0, 1, 1, 0, 64]);
 new Float32Array(memory.buffer, levels).set([16, 16, 16, 16, 16, 16]);
-const drawn = [calls.yoktvarim_draw_points(settings, levels, points, 12675n, counts), calls.yoktvarim_draw_indices(settings, levels, indices, 24576n, counts + 4)];
+const drawn = [
+    calls.yoktvarim_draw_points(settings, levels, points, 12675n, counts),
+    calls.yoktvarim_draw_indices(settings, levels, indices, 24576n, counts + 4),
+];
 if (drawn.some((answer) => answer !== 0)) throw new Error('the patch is not drawn');
 const [pointCount, indexCount] = new Uint32Array(memory.buffer, counts, 2);
 
-const before = new Uint8Array(memory.buffer).slice(Number(stack));
+const past = new Uint8Array(memory.buffer, Number(stack));
+const before = past.slice();
 const left = [points, BigInt(3 * pointCount), indices, BigInt(indexCount)];
 const right = [points, BigInt(3 * pointCount), indices + 6, BigInt(indexCount - 3)];
 let trapped;
@@ -27,5 +31,5 @@ try {
     trapped = error;
 }
 if (!(trapped instanceof WebAssembly.RuntimeError)) throw new Error('the call does not trap');
-if (Buffer.compare(before, new Uint8Array(memory.buffer).subarray(Number(stack))) !== 0) throw new Error('a byte past the stack was written');
+if (Buffer.compare(before, past) !== 0) throw new Error('a byte past the stack was written');
 console.log(`a call without room for its stack traps: ${trapped.message}`);
