@@ -1,7 +1,8 @@
 /* Yoktvarim: tessellates a patch by the Vulkan rules, for C and C++.
  *
  * Link with target/staticlib/libyoktvarim.a, which `tools/library` proves and writes (x86-64 Linux); or, after `tools/install PREFIX`,
- * with what `pkg-config --cflags --libs yoktvarim` prints.
+ * with what `pkg-config --cflags --libs yoktvarim` prints. `tools/library aarch64` and `tools/library wasm32` write the same functions
+ * for ARM and for WebAssembly. Lengths have 64 bits on every target, also where pointers and size_t have 32.
  *
  * In this order: measuring a patch and drawing it, job files, drawing with floats, checking a mesh, replaying a recording, two
  * designers on shared lists, comparing two meshes. docs/rules.md has the numbers of all answers in one table. Comments leave the
@@ -20,7 +21,6 @@
 #ifndef YOKTVARIM_H
 #define YOKTVARIM_H
 
-#include <stddef.h>
 #include <stdint.h>
 #include <string.h>
 
@@ -126,16 +126,17 @@ enum {
     YOKTVARIM_INDEX_WORDS = 24576
 };
 
-/* The greatest stack of each call in bytes, on x86-64: a thread that makes the call needs so much beside its own. This is measured and
- * not proved: tests/stack makes each call on its largest inputs and on those that take other ways through it. */
+/* The greatest stack of each call in bytes, on x86-64 and aarch64: a thread that makes the call needs so much beside its own. This is
+ * measured and not proved: tests/stack and tests/aarch64 make each call on its largest inputs and on those that take other ways through
+ * it. The WebAssembly module has a stack of its own of 512 kB. */
 enum {
     YOKTVARIM_STACK_MEASURE = 4096,
-    YOKTVARIM_STACK_DRAW = 28672,     /* points, indices */
-    YOKTVARIM_STACK_FLOATS = 28672,   /* drawing with floats */
+    YOKTVARIM_STACK_DRAW = 20480,     /* points, indices */
+    YOKTVARIM_STACK_FLOATS = 20480,   /* drawing with floats */
     YOKTVARIM_STACK_JOB = 4096,       /* writing and reading job files */
     YOKTVARIM_STACK_CHECK = 143360,   /* checking a mesh */
-    YOKTVARIM_STACK_REPLAY = 126976,  /* replaying a recording */
-    YOKTVARIM_STACK_SHARE = 28672,    /* starting, drawing and clearing on shared lists */
+    YOKTVARIM_STACK_REPLAY = 118784,  /* replaying a recording */
+    YOKTVARIM_STACK_SHARE = 20480,    /* starting, drawing and clearing on shared lists */
     YOKTVARIM_STACK_COMPARE = 172032  /* comparing two meshes */
 };
 
@@ -180,7 +181,7 @@ YOKTVARIM_MUST_USE yoktvarim_answer yoktvarim_measure(const yoktvarim_settings *
 /* Writes the points of the patch as three words u, v, w each to vertices, which has vertex_words words; *count is how many points.
  * DRAWN, DISCARDED, NO_ROOM_FOR_VERTICES, UNKNOWN_SETTING or BAD_TOP. */
 YOKTVARIM_MUST_USE yoktvarim_answer yoktvarim_draw_points(const yoktvarim_settings *settings, const yoktvarim_levels *levels,
-                                                          uint32_t *vertices, size_t vertex_words, uint32_t *count);
+                                                          uint32_t *vertices, uint64_t vertex_words, uint32_t *count);
 
 /* Writes the indices of the patch, which number its points from 0, to indices, which has index_words words; *count is how many.
  * DRAWN, DISCARDED, NO_ROOM_FOR_INDICES, UNKNOWN_SETTING or BAD_TOP.
@@ -188,7 +189,7 @@ YOKTVARIM_MUST_USE yoktvarim_answer yoktvarim_draw_points(const yoktvarim_settin
  * discarded, have equal indices if both are the plain patch, which nothing divides, or if neither is and each level that counts
  * gives as many segments (an inner level's 1 raised as the rules say). */
 YOKTVARIM_MUST_USE yoktvarim_answer yoktvarim_draw_indices(const yoktvarim_settings *settings, const yoktvarim_levels *levels,
-                                                           uint16_t *indices, size_t index_words, uint32_t *count);
+                                                           uint16_t *indices, uint64_t index_words, uint32_t *count);
 
 /* 1 for YOKTVARIM_DRAWN, 0 for every other answer. */
 YOKTVARIM_MUST_USE static inline unsigned yoktvarim_is_drawn(yoktvarim_answer answer)
@@ -238,22 +239,22 @@ typedef struct yoktvarim_patterns {
 /* Writes the header of a job file of a version, 1 or 2, to the front of bytes, which has length bytes; *count is how many, 5.
  * WRITTEN; else what comes first of UNKNOWN_VERSION and NO_ROOM. Every answer but WRITTEN leaves all bytes as they were, and has the
  * count 0. */
-YOKTVARIM_MUST_USE yoktvarim_job_answer yoktvarim_write_header(uint32_t version, uint8_t *bytes, size_t length, uint32_t *count);
+YOKTVARIM_MUST_USE yoktvarim_job_answer yoktvarim_write_header(uint32_t version, uint8_t *bytes, uint64_t length, uint32_t *count);
 
 /* Writes a record in the form of a version to the front of bytes; *count is how many, 29 or 30. WRITTEN; else what comes first of
  * UNKNOWN_VERSION, BAD_TOP, UNKNOWN_SETTING and NO_ROOM, in this order. Every answer but WRITTEN leaves all bytes as they were; beside
  * UNKNOWN_SETTING *count is the place, 0 to 4, of the first setting that is out of range, else it is 0. */
 YOKTVARIM_MUST_USE yoktvarim_job_answer yoktvarim_write_record(uint32_t version, const yoktvarim_settings *settings,
-                                                               const yoktvarim_patterns *patterns, uint8_t *bytes, size_t length,
+                                                               const yoktvarim_patterns *patterns, uint8_t *bytes, uint64_t length,
                                                                uint32_t *count);
 
 /* Reads the header of a job file of length bytes. READ; else what comes first of NOT_A_JOB and UNKNOWN_VERSION. *version is 1 or 2 beside
  * READ, else 0. The first record is at byte 5. */
-YOKTVARIM_MUST_USE yoktvarim_job_answer yoktvarim_read_header(const uint8_t *bytes, size_t length, uint32_t *version);
+YOKTVARIM_MUST_USE yoktvarim_job_answer yoktvarim_read_header(const uint8_t *bytes, uint64_t length, uint32_t *version);
 
 /* Reads the record at a place of a job file whose header said this version:
  *
- *     for (size_t at = YOKTVARIM_HEADER_BYTES;; at = next) {
+ *     for (uint64_t at = YOKTVARIM_HEADER_BYTES;; at = next) {
  *         answer = yoktvarim_read_record(bytes, length, version, at, &settings, &patterns, &next, &place);
  *         if (answer == YOKTVARIM_JOB_END)
  *             break;
@@ -266,8 +267,8 @@ YOKTVARIM_MUST_USE yoktvarim_job_answer yoktvarim_read_header(const uint8_t *byt
  * UNKNOWN_SETTING, else length, so that every answer but END moves on and a loop like the above ends. *place is the place of the first
  * unknown setting, 0 to 4, or 5 for the top, else 0. settings and patterns are the record's beside READ, with the top 64 in version 1.
  * Else all of them are 0: a caller who takes those for a record gets BAD_TOP from every call that takes settings. */
-YOKTVARIM_MUST_USE yoktvarim_job_answer yoktvarim_read_record(const uint8_t *bytes, size_t length, uint32_t version, size_t at,
-                                                              yoktvarim_settings *settings, yoktvarim_patterns *patterns, size_t *next,
+YOKTVARIM_MUST_USE yoktvarim_job_answer yoktvarim_read_record(const uint8_t *bytes, uint64_t length, uint32_t version, uint64_t at,
+                                                              yoktvarim_settings *settings, yoktvarim_patterns *patterns, uint64_t *next,
                                                               uint32_t *place);
 
 /* 1 for YOKTVARIM_JOB_WRITTEN, 0 for every other answer. */
@@ -310,8 +311,8 @@ YOKTVARIM_ASSERT(sizeof(yoktvarim_patterns) == sizeof(yoktvarim_levels), "a patt
  * counts has two words. Beside DRAWN counts[0] is the number of points and counts[1] that of indices; 3 * counts[0] floats were written.
  * DRAWN, DISCARDED, NO_ROOM_FOR_VERTICES, NO_ROOM_FOR_INDICES, UNKNOWN_SETTING, NO_ROOM_FOR_FLOATS or BAD_TOP. */
 YOKTVARIM_MUST_USE yoktvarim_answer yoktvarim_draw_with_floats(const yoktvarim_settings *settings, const yoktvarim_levels *levels,
-                                                               uint32_t *vertices, size_t vertex_words, uint16_t *indices,
-                                                               size_t index_words, float *floats, size_t float_words,
+                                                               uint32_t *vertices, uint64_t vertex_words, uint16_t *indices,
+                                                               uint64_t index_words, float *floats, uint64_t float_words,
                                                                uint32_t *counts);
 
 /* Checking a mesh that anybody made for a patch. */
@@ -340,8 +341,8 @@ typedef enum yoktvarim_verdict {
 /* Whether points, three words u, v, w each, and indices, three to a triangle, are a right mesh of the patch. Lists of any length and
  * content may be given; they are only read. places has two words, both always written; what is not told is 0. */
 YOKTVARIM_MUST_USE yoktvarim_verdict yoktvarim_check_mesh(const yoktvarim_settings *settings, const yoktvarim_levels *levels,
-                                                          const uint32_t *points, size_t point_words,
-                                                          const uint16_t *indices, size_t index_words, uint64_t *places);
+                                                          const uint32_t *points, uint64_t point_words,
+                                                          const uint16_t *indices, uint64_t index_words, uint64_t *places);
 
 /* 1 for YOKTVARIM_ACCEPTED, 0 for every fault. */
 YOKTVARIM_MUST_USE static inline unsigned yoktvarim_is_accepted(yoktvarim_verdict verdict)
@@ -379,7 +380,7 @@ typedef struct yoktvarim_replay_told {
  * each a job record of version 1, the number of the answer in a byte, and points and indices in two bytes each, low byte first.
  * Draws each record into full-size lists of its own, on the stack, and compares number and counts. A record with a
  * setting out of range agrees exactly if it carries 8 and zero counts. *told is always written; whatever is not told is 0. */
-YOKTVARIM_MUST_USE yoktvarim_replay_answer yoktvarim_replay(const uint8_t *bytes, size_t byte_count, yoktvarim_replay_told *told);
+YOKTVARIM_MUST_USE yoktvarim_replay_answer yoktvarim_replay(const uint8_t *bytes, uint64_t byte_count, yoktvarim_replay_told *told);
 
 /* 1 for YOKTVARIM_ALL_AGREE, 0 for every other answer. */
 YOKTVARIM_MUST_USE static inline unsigned yoktvarim_all_agree(yoktvarim_replay_answer answer)
@@ -440,8 +441,8 @@ typedef struct yoktvarim_shared {
 
 /* Gives the designers their quotas of both lists, quotas[0] to designer 0 and quotas[1] to designer 1, with nothing used. Of the lists
  * only the lengths are looked at. DONE or QUOTAS_TOO_LARGE. */
-YOKTVARIM_MUST_USE yoktvarim_share_answer yoktvarim_share_start(const uint32_t *vertices, size_t vertex_words, const uint16_t *indices,
-                                                                size_t index_words, const yoktvarim_quota *quotas,
+YOKTVARIM_MUST_USE yoktvarim_share_answer yoktvarim_share_start(const uint32_t *vertices, uint64_t vertex_words, const uint16_t *indices,
+                                                                uint64_t index_words, const yoktvarim_quota *quotas,
                                                                 yoktvarim_shared *state);
 
 /* Appends the points and the indices of a patch to the part of each list that designer 0 or 1 has. DONE; else what comes first of BAD_TOP,
@@ -450,13 +451,13 @@ YOKTVARIM_MUST_USE yoktvarim_share_answer yoktvarim_share_start(const uint32_t *
  * beside UNKNOWN_SETTING, else 0 and 0. */
 YOKTVARIM_MUST_USE yoktvarim_share_answer yoktvarim_share_draw(yoktvarim_shared *state, uint32_t designer,
                                                                const yoktvarim_settings *settings, const yoktvarim_levels *levels,
-                                                               uint32_t *vertices, size_t vertex_words, uint16_t *indices,
-                                                               size_t index_words, uint32_t *counts);
+                                                               uint32_t *vertices, uint64_t vertex_words, uint16_t *indices,
+                                                               uint64_t index_words, uint32_t *counts);
 
 /* Gives the room of the designer's part back; its words stay until they are written over. Of the lists only the lengths are looked at.
  * DONE; else what comes first of BAD_STATE and UNKNOWN_DESIGNER. */
 YOKTVARIM_MUST_USE yoktvarim_share_answer yoktvarim_share_clear(yoktvarim_shared *state, uint32_t designer, const uint32_t *vertices,
-                                                                size_t vertex_words, const uint16_t *indices, size_t index_words);
+                                                                uint64_t vertex_words, const uint16_t *indices, uint64_t index_words);
 
 YOKTVARIM_ASSERT(sizeof(yoktvarim_share_answer) == 4, "an answer is 32 bits: compile without -fshort-enums");
 YOKTVARIM_ASSERT(sizeof(yoktvarim_quota) == 16, "two 64-bit numbers");
@@ -493,11 +494,11 @@ typedef struct yoktvarim_difference {
  * one has not, then the right one's, then the left mesh's triangles, then the right one's, each in the order of its own list and
  * each once. *count is always written: how many there are beside COMPARED and NO_ROOM, else 0. A list of 0 words counts them. The
  * list may be an array of yoktvarim_difference. */
-YOKTVARIM_MUST_USE yoktvarim_comparison yoktvarim_compare_meshes(const uint32_t *left_points, size_t left_point_words,
-                                                                 const uint16_t *left_indices, size_t left_index_words,
-                                                                 const uint32_t *right_points, size_t right_point_words,
-                                                                 const uint16_t *right_indices, size_t right_index_words,
-                                                                 uint64_t *differences, size_t difference_words,
+YOKTVARIM_MUST_USE yoktvarim_comparison yoktvarim_compare_meshes(const uint32_t *left_points, uint64_t left_point_words,
+                                                                 const uint16_t *left_indices, uint64_t left_index_words,
+                                                                 const uint32_t *right_points, uint64_t right_point_words,
+                                                                 const uint16_t *right_indices, uint64_t right_index_words,
+                                                                 uint64_t *differences, uint64_t difference_words,
                                                                  uint64_t *count);
 
 YOKTVARIM_ASSERT(sizeof(yoktvarim_comparison) == 4, "an answer is 32 bits: compile without -fshort-enums");
@@ -511,7 +512,6 @@ YOKTVARIM_ASSERT(sizeof(yoktvarim_levels) == 24, "six 32-bit floats");
 YOKTVARIM_ASSERT(sizeof(yoktvarim_clamps) == 6, "a byte for each level");
 YOKTVARIM_ASSERT(sizeof(yoktvarim_replay_answer) == 4, "an answer is 32 bits: compile without -fshort-enums");
 YOKTVARIM_ASSERT(sizeof(yoktvarim_replay_told) == 56, "seven 64-bit words");
-YOKTVARIM_ASSERT(sizeof(size_t) == 8, "64-bit lengths");
 #undef YOKTVARIM_ASSERT
 
 #ifdef __cplusplus

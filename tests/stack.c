@@ -1,13 +1,9 @@
-/* The greatest stack of each call, measured in a thread whose stack is painted first. */
-#define _GNU_SOURCE
-#include <pthread.h>
-#include <stdio.h>
-#include <stdlib.h>
-#include <string.h>
-
+/* The greatest stack of each call, measured on a stack that is painted first, against the figures of include/yoktvarim.h. It needs no C
+ * library; tests/bare has what it uses. */
+#include "bare.h"
 #include "yoktvarim.h"
 
-enum { STACK = 1 << 20, PAINT = 0xA5, MANY_POINTS = 8200, MANY_TRIANGLES = 8500 };
+enum { MANY_POINTS = 8200, MANY_TRIANGLES = 8500 };
 
 static const yoktvarim_settings triangles = {YOKTVARIM_TRIANGLES, YOKTVARIM_EQUAL, YOKTVARIM_COUNTER_CLOCKWISE,
                                              YOKTVARIM_LOWER_LEFT, YOKTVARIM_PRIMITIVES, YOKTVARIM_GREATEST_TOP};
@@ -37,14 +33,6 @@ static uint64_t places[2];
 static uint32_t counts[2];
 static uint64_t differences[3 * 2 * (MANY_POINTS + MANY_TRIANGLES)];
 
-static void must(int holds, const char *what)
-{
-    if (!holds) {
-        fprintf(stderr, "stack: %s\n", what);
-        exit(1);
-    }
-}
-
 /* The mesh of a patch. */
 static void draw(mesh *m, const yoktvarim_settings *settings, const yoktvarim_levels *levels)
 {
@@ -55,8 +43,8 @@ static void draw(mesh *m, const yoktvarim_settings *settings, const yoktvarim_le
     m->index_words = corners;
 }
 
-/* The call that is measured, on one input after another; `input` counts them, and the call says whether there are more. */
-typedef int call(int input);
+/* What is measured, on one input after another: `input` counts them. Returns whether there are more. */
+typedef int inputs(int input);
 
 static int patch_call(int input, int (*on)(const yoktvarim_settings *, const yoktvarim_levels *))
 {
@@ -100,7 +88,7 @@ static int job_on(const yoktvarim_settings *settings, const yoktvarim_levels *le
     yoktvarim_patterns patterns = yoktvarim_patterns_of(levels);
     yoktvarim_settings back;
     uint32_t version, place;
-    size_t next;
+    uint64_t next;
     return (int)yoktvarim_write_header(2, job, sizeof job, &counts[0]) +
            (int)yoktvarim_write_record(2, settings, &patterns, job + YOKTVARIM_HEADER_BYTES, YOKTVARIM_RECORD_BYTES, &counts[1]) +
            (int)yoktvarim_read_header(job, sizeof job, &version) +
@@ -118,7 +106,6 @@ static int replay_on(const yoktvarim_settings *settings, const yoktvarim_levels 
     return (int)yoktvarim_replay(recording, sizeof recording, &told);
 }
 
-static int none(int input) { return input < 0; }
 static int measure(int input) { return patch_call(input, measure_on); }
 static int drawing(int input) { return patch_call(input, draw_on); }
 static int floats(int input) { return patch_call(input, floats_on); }
@@ -128,7 +115,7 @@ static int replaying(int input) { return patch_call(input, replay_on); }
 
 /* How a mesh is spoilt: not at all, a triangle repeated, the first one missing, the last one missing, every second one missing, two points
  * equal, more points than the tables take, more triangles. */
-enum { SPOILT = 8 };
+enum { TOO_MANY_POINTS = 6, TOO_MANY_TRIANGLES, SPOILT };
 
 static void spoil(mesh *m, int how)
 {
@@ -154,13 +141,13 @@ static void spoil(mesh *m, int how)
         memcpy(m->points + m->point_words, m->points, 3 * sizeof *m->points);
         m->point_words += 3;
         break;
-    case 6:
+    case TOO_MANY_POINTS:
         for (; m->point_words < 3 * MANY_POINTS; m->point_words += 3) {
             m->points[m->point_words] = (uint32_t)m->point_words;
             m->points[m->point_words + 1] = m->points[m->point_words + 2] = 99999;
         }
         break;
-    case 7:
+    case TOO_MANY_TRIANGLES:
         for (; m->index_words < 3 * MANY_TRIANGLES; m->index_words += 3)
             memcpy(m->indices + m->index_words, m->indices, 3 * sizeof *m->indices);
         break;
@@ -188,45 +175,50 @@ static int checking(int input)
 
 static int comparing(int input)
 {
-    const int which = input % MESHES, other = input / MESHES % MESHES;
+    const int which = input % MESHES, other = input / MESHES % MESHES, how = input / MESHES / MESHES;
+    /* The search past the tables takes long, and no other stack for another pair. */
+    if (how >= TOO_MANY_POINTS && which != other)
+        return input + 1 < MESHES * MESHES * SPOILT;
     draw(&left, meshes[which].settings, &all_levels[meshes[which].levels]);
     draw(&right, meshes[other].settings, &all_levels[meshes[other].levels]);
-    spoil(&right, input / MESHES / MESHES);
+    spoil(&right, how);
     (void)!yoktvarim_compare_meshes(left.points, left.point_words, left.indices, left.index_words, right.points, right.point_words,
                                     right.indices, right.index_words, differences, sizeof differences / sizeof *differences, places);
     return input + 1 < MESHES * MESHES * SPOILT;
 }
 
-static void *run(void *what)
+static inputs *measured;
+
+static void all_inputs(void)
 {
-    call *on = *(call **)what;
-    for (int input = 0; on(input); input++)
+    for (int input = 0; measured(input); input++)
         ;
-    return NULL;
 }
 
-/* How much of a painted stack the thread used. */
-static size_t used(call *on)
+static size_t used(inputs *on)
 {
-    unsigned char *stack;
-    pthread_attr_t attributes;
-    pthread_t thread;
-    size_t clean = 0;
-    must(posix_memalign((void **)&stack, 4096, STACK) == 0, "no memory");
-    memset(stack, PAINT, STACK);
-    must(pthread_attr_init(&attributes) == 0 && pthread_attr_setstack(&attributes, stack, STACK) == 0, "no stack");
-    must(pthread_create(&thread, &attributes, run, &on) == 0 && pthread_join(thread, NULL) == 0, "no thread");
-    while (clean < STACK && stack[clean] == PAINT)
-        clean++;
-    free(stack);
-    return STACK - clean;
+    measured = on;
+    return stack_of(all_inputs);
 }
 
-int main(void)
+/* Whether a figure is right: enough, and less than 8 kB too high. Prints both. */
+static int is_right(const char *name, size_t bytes, size_t limit)
+{
+    const int right_figure = bytes <= limit && limit < bytes + 8192;
+    say(name);
+    say(": ");
+    say_decimal(bytes);
+    say(" bytes of stack, the header says ");
+    say_decimal(limit);
+    say(right_figure ? "\n" : ": WRONG\n");
+    return right_figure;
+}
+
+int run(void)
 {
     static const struct {
         const char *name;
-        call *on;
+        inputs *on;
         size_t limit;
     } cases[] = {
         {"measuring", measure, YOKTVARIM_STACK_MEASURE},   {"drawing", drawing, YOKTVARIM_STACK_DRAW},
@@ -234,14 +226,8 @@ int main(void)
         {"checking", checking, YOKTVARIM_STACK_CHECK},     {"replaying", replaying, YOKTVARIM_STACK_REPLAY},
         {"shared lists", sharing, YOKTVARIM_STACK_SHARE},  {"comparing", comparing, YOKTVARIM_STACK_COMPARE},
     };
-    const size_t thread = used(none);
     int failed = 0;
-    for (size_t i = 0; i < sizeof cases / sizeof *cases; i++) {
-        const size_t bytes = used(cases[i].on) - thread;
-        const int right_figure = bytes <= cases[i].limit && cases[i].limit < bytes + 8192;
-        printf("%-20s %8zu bytes of stack, the header says %8zu%s\n", cases[i].name, bytes, cases[i].limit,
-               right_figure ? "" : ": WRONG");
-        failed |= !right_figure;
-    }
+    for (size_t i = 0; i < sizeof cases / sizeof *cases; i++)
+        failed |= !is_right(cases[i].name, used(cases[i].on), cases[i].limit);
     return failed;
 }

@@ -49,7 +49,8 @@ static void show(const yoktvarim_settings *settings, const yoktvarim_patterns *p
 static size_t copy(const uint8_t *file, size_t length, uint8_t *bytes, size_t room)
 {
     uint32_t version, count, place;
-    size_t next, written;
+    uint64_t next;
+    size_t written;
     if (!yoktvarim_is_read(yoktvarim_read_header(file, length, &version))) {
         printf("no job\n");
         return 0;
@@ -57,7 +58,7 @@ static size_t copy(const uint8_t *file, size_t length, uint8_t *bytes, size_t ro
     if (!yoktvarim_is_written(yoktvarim_write_header(version, bytes, room, &count)))
         return 0;
     written = count;
-    for (size_t at = YOKTVARIM_HEADER_BYTES;; at = next) {
+    for (uint64_t at = YOKTVARIM_HEADER_BYTES;; at = next) {
         yoktvarim_settings settings;
         yoktvarim_patterns patterns;
         switch (yoktvarim_read_record(file, length, version, at, &settings, &patterns, &next, &place)) {

@@ -22,6 +22,9 @@
 
 #![deny(unsafe_code)]
 
+#[cfg(not(target_pointer_width = "64"))]
+compile_error!("the library takes lengths of 64 bits, and usize has another size on this target");
+
 pub mod answers;
 pub mod check;
 mod clamps;
