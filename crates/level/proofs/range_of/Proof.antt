@@ -13,27 +13,6 @@ held : (n : ℕ) → n ≤ 64 → T (inFloat binary32 (pos n))
 unfolding inFloat
 held n h = le→leb n (2 ^ 24) (omega arith)
 
-enum-told : tie.Need-enum-told
-enum-told c = search needs
-
-int-to-float-t4 : tie.Need-int-to-float-t4
-int-to-float-t4 c = held _ (omega arith)
-
-enum-told-2 : tie.Need-enum-told-2
-enum-told-2 c = search needs
-
-int-to-float-t5 : tie.Need-int-to-float-t5
-int-to-float-t5 c = held _ (omega arith)
-
-enum-told-3 : tie.Need-enum-told-3
-enum-told-3 c = search needs
-
-sub-t6 : tie.Need-sub-t6
-sub-t6 c = search needs
-
-int-to-float-t7 : tie.Need-int-to-float-t7
-int-to-float-t7 c = held _ (omega arith)
-
 returns : tie.Need-returns
 unfolding ofBits
 returns c = rw (c .before .enum-told .given .1)
@@ -50,13 +29,13 @@ pub range-of-spec : {M : Type 1} → statement M
 range-of-spec =
     tie.close
     (tie.spec
-    enum-told
-    int-to-float-t4
-    enum-told-2
-    int-to-float-t5
-    enum-told-3
-    sub-t6
-    int-to-float-t7
+    (λ c. search needs)
+    (λ c. held _ (omega arith))
+    (λ c. search needs)
+    (λ c. held _ (omega arith))
+    (λ c. search needs)
+    (λ c. search needs)
+    (λ c. held _ (omega arith))
     returns
     returns-2
     returns-3)

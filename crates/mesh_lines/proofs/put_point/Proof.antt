@@ -10,38 +10,11 @@ use Rattle.decimal_text.proofs.Lines.{part-three, line-last-length, line-more-l
 use Rattle.mesh_lines.proofs.put_point.Statement.{statement}
 use Rattle.mesh_lines.proofs.put_point.Tie as tie
 
-mul-put-line3 : tie.Need-mul-put-line3
-mul-put-line3 c = search needs
-
-shared-slice-read-put-line3 : tie.Need-shared-slice-read-put-line3
-shared-slice-read-put-line3 c = search needs
-
-add-put-line3 : tie.Need-add-put-line3
-add-put-line3 c = search needs
-
-mul-put-line3-2 : tie.Need-mul-put-line3-2
-mul-put-line3-2 c = search needs
-
-shared-slice-read-put-line3-2 : tie.Need-shared-slice-read-put-line3-2
-shared-slice-read-put-line3-2 c = search needs
-
-add-put-line3-2 : tie.Need-add-put-line3-2
-add-put-line3-2 c = search needs
-
-mul-put-line3-3 : tie.Need-mul-put-line3-3
-mul-put-line3-3 c = search needs
-
-shared-slice-read-put-line3-3 : tie.Need-shared-slice-read-put-line3-3
-shared-slice-read-put-line3-3 c = search needs
-
 put-line3-requires : tie.Need-put-line3-requires
 put-line3-requires c κs =
     let a = c .before .before .before .before .before .before .args in
     let e = ap (λ (l : List ℕ). length (line l)) (part-three (a .vertices .now) (a .k) (omega arith)) in
     simp (line-more-length, line-last-length) (omega (arith, simp (line-more-length, line-last-length) at e))
-
-same-length : tie.Need-same-length
-same-length c = search needs
 
 returns : tie.Need-returns
 returns c =
@@ -52,14 +25,6 @@ pub put-point-spec : {M : Type 1} → statement M
 put-point-spec =
     tie.close
     (tie.spec
-    mul-put-line3
-    shared-slice-read-put-line3
-    add-put-line3
-    mul-put-line3-2
-    shared-slice-read-put-line3-2
-    add-put-line3-2
-    mul-put-line3-3
-    shared-slice-read-put-line3-3
-    put-line3-requires
-    same-length
+    (λ c. search needs) (λ c. search needs) (λ c. search needs) (λ c. search needs) (λ c. search needs)
+    (λ c. search needs) (λ c. search needs) (λ c. search needs) put-line3-requires (λ c. search needs)
     returns)

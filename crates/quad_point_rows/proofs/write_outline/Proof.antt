@@ -46,19 +46,9 @@ write-edge-requires-4 c κs =
     let l2 = edges-step (c .before .before .before .write-edge3 .ensures) l1 in
     (omega arith, (s .pre .0 .3, edges-fits l2))
 
-same-length : tie.Need-same-length
-same-length c = search needs
-
-returns : tie.Need-returns
-returns c = search (four-edges, needs)
-
 pub write-outline-spec : {M : Type 1} → statement M
 write-outline-spec =
     tie.close
     (tie.spec
-    write-edge-requires
-    write-edge-requires-2
-    write-edge-requires-3
-    write-edge-requires-4
-    same-length
-    returns)
+    write-edge-requires write-edge-requires-2 write-edge-requires-3 write-edge-requires-4 (λ c. search needs)
+    (λ c. search (four-edges, needs)))

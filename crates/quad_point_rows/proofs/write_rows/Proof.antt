@@ -26,72 +26,15 @@ sub-m c = row-some (c .before .before .before .before .before .before .before .p
 sub-n : tie.Need-sub-n
 sub-n c = row-some (c .before .before .before .before .before .before .before .pre .0 .5)
 
-sub-write-outline : tie.Need-sub-write-outline
-sub-write-outline c = zero-le
-
-part-write-outline-start : tie.Need-part-write-outline-start
-part-write-outline-start c = zero-le
-
-part-write-outline-end : tie.Need-part-write-outline-end
-part-write-outline-end c = sub-le _ 1
-
-sub-write-outline-2 : tie.Need-sub-write-outline-2
-sub-write-outline-2 c = zero-le
-
-part-write-outline-start-2 : tie.Need-part-write-outline-start-2
-part-write-outline-start-2 c = zero-le
-
-part-write-outline-end-2 : tie.Need-part-write-outline-end-2
-part-write-outline-end-2 c = sub-le _ 1
-
-sub-write-outline-3 : tie.Need-sub-write-outline-3
-sub-write-outline-3 c = zero-le
-
-part-write-outline-start-3 : tie.Need-part-write-outline-start-3
-part-write-outline-start-3 c = zero-le
-
-part-write-outline-end-3 : tie.Need-part-write-outline-end-3
-part-write-outline-end-3 c = sub-le _ 1
-
-sub-write-outline-4 : tie.Need-sub-write-outline-4
-sub-write-outline-4 c = zero-le
-
-part-write-outline-start-4 : tie.Need-part-write-outline-start-4
-part-write-outline-start-4 c = zero-le
-
-part-write-outline-end-4 : tie.Need-part-write-outline-end-4
-part-write-outline-end-4 c = sub-le _ 1
-
 write-outline-requires : tie.Need-write-outline-requires
 write-outline-requires c κs =
     let s = c .before .before .before .before .before .before .before .before .before .before .before .before in
     outline-ready (s .pre .0) (s .args .out .now) (s .args .at) (s .pre .1)
 
-sub-write-grid : tie.Need-sub-write-grid
-sub-write-grid c = omega arith
-
-part-write-grid-start : tie.Need-part-write-grid-start
-part-write-grid-start c = omega arith
-
-part-write-grid-end : tie.Need-part-write-grid-end
-part-write-grid-end c = omega arith
-
-sub-write-grid-2 : tie.Need-sub-write-grid-2
-sub-write-grid-2 c = omega arith
-
-part-write-grid-start-2 : tie.Need-part-write-grid-start-2
-part-write-grid-start-2 c = omega arith
-
-part-write-grid-end-2 : tie.Need-part-write-grid-end-2
-part-write-grid-end-2 c = omega arith
-
 write-grid-requires : tie.Need-write-grid-requires
 write-grid-requires c κs =
     let s = c .before .before .before .before .before .before .before .before .before .before .before .before .before .before .before .before .before .before in
     grid-ready (s .pre .0) (s .args .out .now) (s .args .at) (s .pre .1) (c .before .before .before .before .before .write-outline .ensures)
-
-same-length : tie.Need-same-length
-same-length c = search needs
 
 returns : tie.Need-returns
 returns c =
@@ -102,31 +45,8 @@ pub write-rows-spec : {M : Type 1} → statement M
 write-rows-spec =
     tie.close
     (tie.spec
-    sub-n0
-    sub-n1
-    sub-n2
-    sub-n3
-    sub-m
-    sub-n
-    sub-write-outline
-    part-write-outline-start
-    part-write-outline-end
-    sub-write-outline-2
-    part-write-outline-start-2
-    part-write-outline-end-2
-    sub-write-outline-3
-    part-write-outline-start-3
-    part-write-outline-end-3
-    sub-write-outline-4
-    part-write-outline-start-4
-    part-write-outline-end-4
-    write-outline-requires
-    sub-write-grid
-    part-write-grid-start
-    part-write-grid-end
-    sub-write-grid-2
-    part-write-grid-start-2
-    part-write-grid-end-2
-    write-grid-requires
-    same-length
-    returns)
+    sub-n0 sub-n1 sub-n2 sub-n3 sub-m sub-n (λ c. zero-le) (λ c. zero-le) (λ c. sub-le _ 1) (λ c. zero-le)
+    (λ c. zero-le) (λ c. sub-le _ 1) (λ c. zero-le) (λ c. zero-le) (λ c. sub-le _ 1) (λ c. zero-le)
+    (λ c. zero-le) (λ c. sub-le _ 1) write-outline-requires (λ c. omega arith) (λ c. omega arith)
+    (λ c. omega arith) (λ c. omega arith) (λ c. omega arith) (λ c. omega arith) write-grid-requires
+    (λ c. search needs) returns)

@@ -9,67 +9,10 @@ use Rattle.strip_blocks.proofs.Blocks.{pairs-size, line-on, long-wrote}
 use Rattle.strip_blocks.proofs.write_long.Statement.{statement}
 use Rattle.strip_blocks.proofs.write_long.Tie as tie
 
-add-write-run : tie.Need-add-write-run
-add-write-run c = search needs
-
-write-run-requires : tie.Need-write-run-requires
-write-run-requires c κs = search needs
-
-add-u : tie.Need-add-u
-add-u c = search needs
-
-cast-u : tie.Need-cast-u
-cast-u c = search needs
-
-add-u-2 : tie.Need-add-u-2
-add-u-2 c = search needs
-
-cast-v : tie.Need-cast-v
-cast-v c = search needs
-
-add-v : tie.Need-add-v
-add-v c = search needs
-
-cast-write-run : tie.Need-cast-write-run
-cast-write-run c = search needs
-
-mul-write-run : tie.Need-mul-write-run
-mul-write-run c = search needs
-
-add-write-run-2 : tie.Need-add-write-run-2
-add-write-run-2 c = search needs
-
-add-write-run-3 : tie.Need-add-write-run-3
-add-write-run-3 c = search needs
-
-sub-write-run : tie.Need-sub-write-run
-sub-write-run c = search needs
-
-sub-write-run-2 : tie.Need-sub-write-run-2
-sub-write-run-2 c = search needs
-
 write-run-requires-2 : tie.Need-write-run-requires-2
 write-run-requires-2 c κs =
     let s = c .before .before .before .before .before .before in
     (s .pre .0, (omega arith, omega (arith, c .before .before .before .write-run .kept .0)))
-
-add-write-last : tie.Need-add-write-last
-add-write-last c = search needs
-
-cast-write-last : tie.Need-cast-write-last
-cast-write-last c = search needs
-
-add-write-last-2 : tie.Need-add-write-last-2
-add-write-last-2 c = search needs
-
-sub-write-last : tie.Need-sub-write-last
-sub-write-last c = search needs
-
-cast-write-last-2 : tie.Need-cast-write-last-2
-cast-write-last-2 c = search needs
-
-add-write-last-3 : tie.Need-add-write-last-3
-add-write-last-3 c = search needs
 
 write-last-requires : tie.Need-write-last-requires
 write-last-requires c κs =
@@ -92,9 +35,6 @@ write-last-requires c κs =
       ),
     )
 
-same-length : tie.Need-same-length
-same-length c = search needs
-
 returns : tie.Need-returns
 returns c =
     let a = c .before .before .before .before .before .before .before .before .before .before .before .before .before .args in
@@ -106,26 +46,8 @@ pub write-long-spec : {M : Type 1} → statement M
 write-long-spec =
     tie.close
     (tie.spec
-    add-write-run
-    write-run-requires
-    add-u
-    cast-u
-    add-u-2
-    cast-v
-    add-v
-    cast-write-run
-    mul-write-run
-    add-write-run-2
-    add-write-run-3
-    sub-write-run
-    sub-write-run-2
-    write-run-requires-2
-    add-write-last
-    cast-write-last
-    add-write-last-2
-    sub-write-last
-    cast-write-last-2
-    add-write-last-3
-    write-last-requires
-    same-length
-    returns)
+    (λ c. search needs) (λ c κs. search needs) (λ c. search needs) (λ c. search needs) (λ c. search needs)
+    (λ c. search needs) (λ c. search needs) (λ c. search needs) (λ c. search needs) (λ c. search needs)
+    (λ c. search needs) (λ c. search needs) (λ c. search needs) write-run-requires-2 (λ c. search needs)
+    (λ c. search needs) (λ c. search needs) (λ c. search needs) (λ c. search needs) (λ c. search needs)
+    write-last-requires (λ c. search needs) returns)

@@ -6,48 +6,6 @@ use Rattle.strip_blocks.proofs.Blocks.{run-wrote}
 use Rattle.strip_blocks.proofs.write_run.Statement.{statement}
 use Rattle.strip_blocks.proofs.write_run.Tie as tie
 
-sub-k : tie.Need-sub-k
-sub-k c = search needs
-
-mul-m : tie.Need-mul-m
-mul-m c = search needs
-
-sub-m : tie.Need-sub-m
-sub-m c = search needs
-
-block-requires : tie.Need-block-requires
-block-requires c κs = search needs
-
-slice-aggregate-put-block : tie.Need-slice-aggregate-put-block
-slice-aggregate-put-block c = search needs
-
-put-block-requires : tie.Need-put-block-requires
-put-block-requires c κs = search needs
-
-slice-aggregate-raise : tie.Need-slice-aggregate-raise
-slice-aggregate-raise c = search needs
-
-raise-requires : tie.Need-raise-requires
-raise-requires c κs = search needs
-
-cast-write-blocks : tie.Need-cast-write-blocks
-cast-write-blocks c = search needs
-
-mul-write-blocks : tie.Need-mul-write-blocks
-mul-write-blocks c = search needs
-
-add-write-blocks : tie.Need-add-write-blocks
-add-write-blocks c = search needs
-
-slice-aggregate-write-blocks : tie.Need-slice-aggregate-write-blocks
-slice-aggregate-write-blocks c = search needs
-
-write-blocks-requires : tie.Need-write-blocks-requires
-write-blocks-requires c κs = search needs
-
-same-length : tie.Need-same-length
-same-length c = search needs
-
 returns : tie.Need-returns
 returns c =
     let a = c .before .before .before .before .before .before .before .before .before .before .before .before .before .before .before .before .args in
@@ -58,18 +16,6 @@ pub write-run-spec : {M : Type 1} → statement M
 write-run-spec =
     tie.close
     (tie.spec
-    sub-k
-    mul-m
-    sub-m
-    block-requires
-    slice-aggregate-put-block
-    put-block-requires
-    slice-aggregate-raise
-    raise-requires
-    cast-write-blocks
-    mul-write-blocks
-    add-write-blocks
-    slice-aggregate-write-blocks
-    write-blocks-requires
-    same-length
-    returns)
+    (λ c. search needs) (λ c. search needs) (λ c. search needs) (λ c κs. search needs) (λ c. search needs)
+    (λ c κs. search needs) (λ c. search needs) (λ c κs. search needs) (λ c. search needs) (λ c. search needs)
+    (λ c. search needs) (λ c. search needs) (λ c κs. search needs) (λ c. search needs) returns)

@@ -12,26 +12,11 @@ use Rattle.strip.proofs.Strips.{indices-length}
 use Rattle.strip_pairs.proofs.write_last.Statement.{statement}
 use Rattle.strip_pairs.proofs.write_last.Tie as tie
 
-next-requires : tie.Need-next-requires
-next-requires c κs = search needs
-
-sub-after : tie.Need-sub-after
-sub-after c = search needs
-
-after-requires : tie.Need-after-requires
-after-requires c κs = search needs
-
-add-after : tie.Need-add-after
-add-after c = search needs
-
 after-requires-2 : tie.Need-after-requires-2
 after-requires-2 c κs =
     let a = c .before .before .before .args in
     let e : suc (a .inner .count) ≡ a .inner .count + 1 = omega arith in
     (omega arith, c .before .next .ensures ∙ ap (vertex (a .outer)) e)
-
-put-two-requires : tie.Need-put-two-requires
-put-two-requires c κs = search needs
 
 put-triangle-requires : tie.Need-put-triangle-requires
 put-triangle-requires c κs =
@@ -39,9 +24,6 @@ put-triangle-requires c κs =
     let u = c .before .before .before .before .before .before .before .next .result in
     let two : List Triangle = record { a = a .x; b = u; c = a .y } ∷ record { a = u; b = c .before .before .before .before .before .before .after .result; c = a .y } ∷ [] in
     omega (arith, indices-length (a .positive) two, c .before .before .before .put-two .kept .0)
-
-same-length : tie.Need-same-length
-same-length c = search needs
 
 returns : tie.Need-returns
 unfolding indices
@@ -61,12 +43,5 @@ pub write-last-spec : {M : Type 1} → statement M
 write-last-spec =
     tie.close
     (tie.spec
-    next-requires
-    sub-after
-    after-requires
-    add-after
-    after-requires-2
-    put-two-requires
-    put-triangle-requires
-    same-length
-    returns)
+    (λ c κs. search needs) (λ c. search needs) (λ c κs. search needs) (λ c. search needs) after-requires-2
+    (λ c κs. search needs) put-triangle-requires (λ c. search needs) returns)

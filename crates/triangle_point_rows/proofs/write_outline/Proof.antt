@@ -35,18 +35,9 @@ write-edge-requires-3 c κs =
     let l1 = edges-step (c .before .before .before .write-edge2 .ensures) l0 in
     (omega arith, (s .pre .0 .2, edges-fits l1))
 
-same-length : tie.Need-same-length
-same-length c = search needs
-
-returns : tie.Need-returns
-returns c = search (three-edges, needs)
-
 pub write-outline-spec : {M : Type 1} → statement M
 write-outline-spec =
     tie.close
     (tie.spec
-    write-edge-requires
-    write-edge-requires-2
-    write-edge-requires-3
-    same-length
-    returns)
+    write-edge-requires write-edge-requires-2 write-edge-requires-3 (λ c. search needs)
+    (λ c. search (three-edges, needs)))

@@ -8,9 +8,6 @@ use Rattle.vertices.proofs.Edges.{edges-start, edges-fits, edges-step, three-ed
 use Rattle.triangle_point_rows.proofs.write_ring.Statement.{statement}
 use Rattle.triangle_point_rows.proofs.write_ring.Tie as tie
 
-shared-slice-read-depth : tie.Need-shared-slice-read-depth
-shared-slice-read-depth c = omega arith
-
 sub-high : tie.Need-sub-high
 sub-high c = omega (arith, c .before .before .before .pre .1 .0 0 (omega arith))
 
@@ -44,20 +41,10 @@ write-edge-requires-3 c κs =
     let l1 = edges-step (c .before .before .before .write-edge2 .ensures) l0 in
     (omega (arith, s .pre .1 .0 0 (omega arith)), (s .pre .1 .0, edges-fits l1))
 
-same-length : tie.Need-same-length
-same-length c = search needs
-
-returns : tie.Need-returns
-returns c = search (three-edges, needs)
-
 pub write-ring-spec : {M : Type 1} → statement M
 write-ring-spec =
     tie.close
     (tie.spec
-    shared-slice-read-depth
-    sub-high
-    write-edge-requires
-    write-edge-requires-2
-    write-edge-requires-3
-    same-length
-    returns)
+    (λ c. omega arith) sub-high write-edge-requires write-edge-requires-2 write-edge-requires-3
+    (λ c. search needs)
+    (λ c. search (three-edges, needs)))

@@ -13,15 +13,6 @@ use Rattle.triangle_point_rows.proofs.Wide.{ring-size, front-size, ring
 use Rattle.triangle_point_rows.proofs.write_wide_ring.Statement.{statement}
 use Rattle.triangle_point_rows.proofs.write_wide_ring.Tie as tie
 
-sub-n : tie.Need-sub-n
-sub-n c = search needs
-
-shared-slice-read-d : tie.Need-shared-slice-read-d
-shared-slice-read-d c = search needs
-
-negative-requires : tie.Need-negative-requires
-negative-requires c κs = search needs
-
 mul-more : tie.Need-mul-more
 mul-more c =
     let s = c .before .before .before .before .before .before in
@@ -57,9 +48,6 @@ write-run-requires-3 c κs =
     let v = c .before .before .before .write-run2 in
     (omega (arith, s .pre .0, s .pre .1 .0 .room), omega (arith, ring-size (take (length row - 1) row), front-size row (omega arith), s .pre .1 .1 .1, w .ensures .next, w .kept .0, sums-size (a .base .now) (a .from) (2 * d) less less 0 (length row - 1), v .ensures .next, v .kept .0, sums-size (a .other .now) (a .from) less (2 * d) less 0 (length row - 1)))
 
-same-length : tie.Need-same-length
-same-length c = search needs
-
 returns : tie.Need-returns
 returns c =
     let s = c .before .before .before .before .before .before .before .before .before .before .before .before .before .before .before .before .before .before in
@@ -78,13 +66,5 @@ pub write-wide-ring-spec : {M : Type 1} → statement M
 write-wide-ring-spec =
     tie.close
     (tie.spec
-    sub-n
-    shared-slice-read-d
-    negative-requires
-    mul-more
-    write-run-requires
-    write-run-requires-2
-    add-write-run
-    write-run-requires-3
-    same-length
-    returns)
+    (λ c. search needs) (λ c. search needs) (λ c κs. search needs) mul-more write-run-requires
+    write-run-requires-2 add-write-run write-run-requires-3 (λ c. search needs) returns)

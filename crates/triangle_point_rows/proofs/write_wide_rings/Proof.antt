@@ -5,49 +5,24 @@ use Rattle.triangle_point_rows.proofs.Wide.{inward-clear, laid-first}
 use Rattle.triangle_point_rows.proofs.write_wide_rings.Statement.{statement}
 use Rattle.triangle_point_rows.proofs.write_wide_rings.Tie as tie
 
-slice-aggregate-write-edge : tie.Need-slice-aggregate-write-edge
-slice-aggregate-write-edge c = search needs
-
 write-edge-requires : tie.Need-write-edge-requires
 write-edge-requires c κs =
     let s = c .before .before .before in
     (omega arith, (inward-clear (s .pre .0 .0), search needs))
-
-slice-aggregate-write-edge-2 : tie.Need-slice-aggregate-write-edge-2
-slice-aggregate-write-edge-2 c = search needs
 
 write-edge-requires-2 : tie.Need-write-edge-requires-2
 write-edge-requires-2 c κs =
     let s = c .before .before .before .before .before .before in
     (omega arith, (inward-clear (s .pre .0 .0), search needs))
 
-slice-aggregate-write-laid-rings : tie.Need-slice-aggregate-write-laid-rings
-slice-aggregate-write-laid-rings c = search needs
-
-slice-aggregate-write-laid-rings-2 : tie.Need-slice-aggregate-write-laid-rings-2
-slice-aggregate-write-laid-rings-2 c = search needs
-
 write-laid-rings-requires : tie.Need-write-laid-rings-requires
 write-laid-rings-requires c κs =
     let s = c .before .before .before .before .before .before .before .before .before .before .before in
     (s .pre .0 .0, (laid-first (s .args .row .now) (c .before .before .before .before .before .before .before .write-edge .ensures) (c .before .before .before .before .write-edge2 .ensures), s .pre .1))
 
-same-length : tie.Need-same-length
-same-length c = search needs
-
-returns : tie.Need-returns
-returns c = search needs
-
 pub write-wide-rings-spec : {M : Type 1} → statement M
 write-wide-rings-spec =
     tie.close
     (tie.spec
-    slice-aggregate-write-edge
-    write-edge-requires
-    slice-aggregate-write-edge-2
-    write-edge-requires-2
-    slice-aggregate-write-laid-rings
-    slice-aggregate-write-laid-rings-2
-    write-laid-rings-requires
-    same-length
-    returns)
+    (λ c. search needs) write-edge-requires (λ c. search needs) write-edge-requires-2 (λ c. search needs)
+    (λ c. search needs) write-laid-rings-requires (λ c. search needs) (λ c. search needs))

@@ -19,9 +19,5 @@ pub has-earlier-spec : {M : Type 1} → statement M
 has-earlier-spec =
     tie.close
     (tie.spec
-    (λ c. search needs)
-    (λ c. search needs)
-    (λ c. search needs)
-    (λ c κs. search needs)
-    walk-requires
+    (λ c. search needs) (λ c. search needs) (λ c. search needs) (λ c κs. search needs) walk-requires
     (λ c. search needs))

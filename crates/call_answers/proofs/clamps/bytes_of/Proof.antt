@@ -5,24 +5,6 @@ use Rattle.level_clamps.specs.Numbers.{clampNumbers}
 use Rattle.call_answers.proofs.clamps.bytes_of.Statement.{statement}
 use Rattle.call_answers.proofs.clamps.bytes_of.Tie as tie
 
-enum-known-clamps : tie.Need-enum-known-clamps
-enum-known-clamps c = search needs
-
-triangle-bytes-requires : tie.Need-triangle-bytes-requires
-triangle-bytes-requires c κs = search needs
-
-enum-known-clamps-2 : tie.Need-enum-known-clamps-2
-enum-known-clamps-2 c = search needs
-
-quad-bytes-requires : tie.Need-quad-bytes-requires
-quad-bytes-requires c κs = search needs
-
-enum-known-clamps-3 : tie.Need-enum-known-clamps-3
-enum-known-clamps-3 c = search needs
-
-isoline-bytes-requires : tie.Need-isoline-bytes-requires
-isoline-bytes-requires c κs = search needs
-
 returns : tie.Need-returns
 returns c = c .triangle-bytes .ensures ∙ ap clampNumbers (sym (c .before .before .clamps .given .1))
 
@@ -36,12 +18,5 @@ pub bytes-of-spec : {M : Type 1} → statement M
 bytes-of-spec =
     tie.close
     (tie.spec
-    enum-known-clamps
-    triangle-bytes-requires
-    enum-known-clamps-2
-    quad-bytes-requires
-    enum-known-clamps-3
-    isoline-bytes-requires
-    returns
-    returns-2
-    returns-3)
+    (λ c. search needs) (λ c κs. search needs) (λ c. search needs) (λ c κs. search needs) (λ c. search needs)
+    (λ c κs. search needs) returns returns-2 returns-3)

@@ -5,27 +5,12 @@ use Rattle.call_inputs.proofs.Reading.{asked-bad, asked-unknown, asked-
 use Rattle.call_inputs.proofs.asked.read_call.Statement.{statement}
 use Rattle.call_inputs.proofs.asked.read_call.Tie as tie
 
-top-in-requires : tie.Need-top-in-requires
-top-in-requires c κs = search needs
-
-is-top-requires : tie.Need-is-top-requires
-is-top-requires c κs = search needs
-
-bad-top-requires : tie.Need-bad-top-requires
-bad-top-requires c κs = search needs
-
 returns : tie.Need-returns
 returns c =
     let test = c .before .before in
     let read = test .before in
     let a = read .before .before .args in
     asked-bad (a .settings .now) (a .levels .now) (read .top-in .ensures) (bad (test .is-top .result) (test .is-top .ensures) (c .before .if1 .taken)) (c .bad-top .ensures)
-
-first-unknown-requires : tie.Need-first-unknown-requires
-first-unknown-requires c κs = search needs
-
-unknown-setting-requires : tie.Need-unknown-setting-requires
-unknown-setting-requires c κs = search needs
 
 returns-2 : tie.Need-returns-2
 returns-2 c =
@@ -36,12 +21,6 @@ returns-2 c =
     let a = read .before .before .args in
     asked-unknown (a .settings .now) (a .levels .now) (read .top-in .ensures) (good (test .is-top .result) (test .is-top .ensures) (left .if1 .left)) (first .first-unknown .ensures) (c .before .if2 .taken)
     (c .unknown-setting .ensures)
-
-read-settings-requires : tie.Need-read-settings-requires
-read-settings-requires c κs = search needs
-
-patch-in-requires : tie.Need-patch-in-requires
-patch-in-requires c κs = search needs
 
 returns-3 : tie.Need-returns-3
 returns-3 c =
@@ -58,13 +37,5 @@ pub read-call-spec : {M : Type 1} → statement M
 read-call-spec =
     tie.close
     (tie.spec
-    top-in-requires
-    is-top-requires
-    bad-top-requires
-    returns
-    first-unknown-requires
-    unknown-setting-requires
-    returns-2
-    read-settings-requires
-    patch-in-requires
-    returns-3)
+    (λ c κs. search needs) (λ c κs. search needs) (λ c κs. search needs) returns (λ c κs. search needs)
+    (λ c κs. search needs) returns-2 (λ c κs. search needs) (λ c κs. search needs) returns-3)

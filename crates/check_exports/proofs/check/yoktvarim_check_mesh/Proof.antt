@@ -4,30 +4,6 @@ use Rattle.check_exports.proofs.Calls.{check-refused, check-known}
 use Rattle.check_exports.proofs.check.yoktvarim_check_mesh.Statement.{statement}
 use Rattle.check_exports.proofs.check.yoktvarim_check_mesh.Tie as tie
 
-read-call-requires : tie.Need-read-call-requires
-read-call-requires c κs = search needs
-
-enum-known-reply : tie.Need-enum-known-reply
-enum-known-reply c = search needs
-
-of-reply-requires : tie.Need-of-reply-requires
-of-reply-requires c κs = search needs
-
-say-requires : tie.Need-say-requires
-say-requires c κs = search needs
-
-enum-known-set : tie.Need-enum-known-set
-enum-known-set c = search needs
-
-check-mesh-requires : tie.Need-check-mesh-requires
-check-mesh-requires c κs = search needs
-
-of-verdict-requires : tie.Need-of-verdict-requires
-of-verdict-requires c κs = search needs
-
-say-requires-2 : tie.Need-say-requires-2
-say-requires-2 c κs = search needs
-
 returns : tie.Need-returns
 returns c =
     let found = c .before .before in
@@ -50,13 +26,6 @@ pub yoktvarim-check-mesh-spec : {M : Type 1} → statement M
 yoktvarim-check-mesh-spec =
     tie.close
     (tie.spec
-    read-call-requires
-    enum-known-reply
-    of-reply-requires
-    say-requires
-    enum-known-set
-    check-mesh-requires
-    of-verdict-requires
-    say-requires-2
-    returns
+    (λ c κs. search needs) (λ c. search needs) (λ c κs. search needs) (λ c κs. search needs)
+    (λ c. search needs) (λ c κs. search needs) (λ c κs. search needs) (λ c κs. search needs) returns
     returns-2)

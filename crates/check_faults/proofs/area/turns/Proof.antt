@@ -6,24 +6,15 @@ use borrow.Author.Needs.{needs}
 use Rattle.check_faults.proofs.area.turns.Statement.{statement}
 use Rattle.check_faults.proofs.area.turns.Tie as tie
 
-cast-point-at : tie.Need-cast-point-at
-cast-point-at c = search needs
-
 point-at-requires : tie.Need-point-at-requires
 point-at-requires c κs =
     let x = c .before .before in
     omega (arith, points-count (x .args .points .now), x .pre .0 .a)
 
-cast-point-at-2 : tie.Need-cast-point-at-2
-cast-point-at-2 c = search needs
-
 point-at-requires-2 : tie.Need-point-at-requires-2
 point-at-requires-2 c κs =
     let x = c .before .before .before .before in
     omega (arith, points-count (x .args .points .now), x .pre .0 .b)
-
-cast-point-at-3 : tie.Need-cast-point-at-3
-cast-point-at-3 c = search needs
 
 point-at-requires-3 : tie.Need-point-at-requires-3
 point-at-requires-3 c κs =
@@ -40,9 +31,6 @@ twice-area-requires c κs =
       (rw (c .before .before .point-at2 .ensures) (h .at (t .b) (n .b)), rw (c .point-at3 .ensures) (h .at (t .c) (n .c))),
     )
 
-has-sign-requires : tie.Need-has-sign-requires
-has-sign-requires c κs = search needs
-
 returns : tie.Need-returns
 returns c =
     let area = c .before .twice-area in
@@ -53,12 +41,5 @@ pub turns-spec : {M : Type 1} → statement M
 turns-spec =
     tie.close
     (tie.spec
-    cast-point-at
-    point-at-requires
-    cast-point-at-2
-    point-at-requires-2
-    cast-point-at-3
-    point-at-requires-3
-    twice-area-requires
-    has-sign-requires
-    returns)
+    (λ c. search needs) point-at-requires (λ c. search needs) point-at-requires-2 (λ c. search needs)
+    point-at-requires-3 twice-area-requires (λ c κs. search needs) returns)

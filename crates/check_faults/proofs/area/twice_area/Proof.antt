@@ -9,23 +9,11 @@ use borrow.Author.Needs.{needs}
 use Rattle.check_faults.proofs.area.twice_area.Statement.{statement}
 use Rattle.check_faults.proofs.area.twice_area.Tie as tie
 
-minus-requires : tie.Need-minus-requires
-minus-requires c κs = search needs
-
-minus-requires-2 : tie.Need-minus-requires-2
-minus-requires-2 c κs = search needs
-
 times-requires : tie.Need-times-requires
 times-requires c κs =
     let x = c .before .before in
     rw (word-back (c .before .minus .result) (c .before .minus .ok), word-back (c .minus2 .result) (c .minus2 .ok), c .before .minus .ensures, c .minus2 .ensures)
     (product-fits _ _ _ _ (x .pre .1 .0 .u) (x .pre .0 .u) (x .pre .1 .1 .v) (x .pre .0 .v))
-
-minus-requires-3 : tie.Need-minus-requires-3
-minus-requires-3 c κs = search needs
-
-minus-requires-4 : tie.Need-minus-requires-4
-minus-requires-4 c κs = search needs
 
 times-requires-2 : tie.Need-times-requires-2
 times-requires-2 c κs =
@@ -54,11 +42,5 @@ pub twice-area-spec : {M : Type 1} → statement M
 twice-area-spec =
     tie.close
     (tie.spec
-    minus-requires
-    minus-requires-2
-    times-requires
-    minus-requires-3
-    minus-requires-4
-    times-requires-2
-    less-requires
-    returns)
+    (λ c κs. search needs) (λ c κs. search needs) times-requires (λ c κs. search needs) (λ c κs. search needs)
+    times-requires-2 less-requires returns)

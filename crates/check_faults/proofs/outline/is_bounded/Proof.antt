@@ -5,38 +5,20 @@ use borrow.Author.Needs.{needs}
 use Rattle.check_faults.proofs.outline.is_bounded.Statement.{statement}
 use Rattle.check_faults.proofs.outline.is_bounded.Tie as tie
 
-cast-point-at : tie.Need-cast-point-at
-cast-point-at c = search needs
-
 point-at-requires : tie.Need-point-at-requires
 point-at-requires c κs =
     let x = c .before .before in
     omega (arith, points-count (x .args .points .now), x .pre .a)
-
-cast-point-at-2 : tie.Need-cast-point-at-2
-cast-point-at-2 c = search needs
 
 point-at-requires-2 : tie.Need-point-at-requires-2
 point-at-requires-2 c κs =
     let x = c .before .before .before .before in
     omega (arith, points-count (x .args .points .now), x .pre .b)
 
-cast-point-at-3 : tie.Need-cast-point-at-3
-cast-point-at-3 c = search needs
-
 point-at-requires-3 : tie.Need-point-at-requires-3
 point-at-requires-3 c κs =
     let x = c .before .before .before .before .before .before in
     omega (arith, points-count (x .args .points .now), x .pre .c)
-
-same-ends-requires : tie.Need-same-ends-requires
-same-ends-requires c κs = search needs
-
-same-ends-requires-2 : tie.Need-same-ends-requires-2
-same-ends-requires-2 c κs = search needs
-
-same-ends-requires-3 : tie.Need-same-ends-requires-3
-same-ends-requires-3 c κs = search needs
 
 returns : tie.Need-returns
 returns c =
@@ -47,13 +29,5 @@ pub is-bounded-spec : {M : Type 1} → statement M
 is-bounded-spec =
     tie.close
     (tie.spec
-    cast-point-at
-    point-at-requires
-    cast-point-at-2
-    point-at-requires-2
-    cast-point-at-3
-    point-at-requires-3
-    same-ends-requires
-    same-ends-requires-2
-    same-ends-requires-3
-    returns)
+    (λ c. search needs) point-at-requires (λ c. search needs) point-at-requires-2 (λ c. search needs)
+    point-at-requires-3 (λ c κs. search needs) (λ c κs. search needs) (λ c κs. search needs) returns)

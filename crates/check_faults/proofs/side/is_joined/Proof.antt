@@ -6,9 +6,6 @@ use borrow.Author.Needs.{needs}
 use Rattle.check_faults.proofs.side.is_joined.Statement.{statement}
 use Rattle.check_faults.proofs.side.is_joined.Tie as tie
 
-has-side-near-requires : tie.Need-has-side-near-requires
-has-side-near-requires c κs = search needs
-
 returns : tie.Need-returns
 returns c = sym (rw (← c .before .has-side-near .ensures, c .if1 .taken))
 
@@ -22,9 +19,6 @@ point-at-requires-2 c κs =
     let x = c .before .before .before .before .before .before in
     omega (arith, points-count (x .args .points .now), x .pre .1 .1)
 
-is-piece-requires : tie.Need-is-piece-requires
-is-piece-requires c κs = search needs
-
 returns-2 : tie.Need-returns-2
 returns-2 c = rw (← c .before .before .before .before .has-side-near .ensures, c .before .before .before .if1 .left, ← c .before .before .point-at .ensures, ← c .before .point-at2 .ensures) (c .is-piece .ensures)
 
@@ -32,9 +26,4 @@ pub is-joined-spec : {M : Type 1} → statement M
 is-joined-spec =
     tie.close
     (tie.spec
-    has-side-near-requires
-    returns
-    point-at-requires
-    point-at-requires-2
-    is-piece-requires
-    returns-2)
+    (λ c κs. search needs) returns point-at-requires point-at-requires-2 (λ c κs. search needs) returns-2)

@@ -17,17 +17,11 @@ use Rattle.patch.proofs.settings.turns_positive.Reads as turns-positive-reads
 use Rattle.patch.proofs.subdivision.is_discarded.Reads as is-discarded-reads
 use Rattle.patch.proofs.subdivision.subdivide.Reads as subdivide-reads
 
-is-top-requires : tie.Need-is-top-requires
-is-top-requires c κs = search needs
-
 returns : tie.Need-returns
 unfolding verdict
 returns c =
     let a = c .before .before .before .before .args in
     checked (a .settings) (a .patch) _ _ (rw (bad _ (c .before .is-top .ensures) (c .if1 .taken)))
-
-is-isolines-requires : tie.Need-is-isolines-requires
-is-isolines-requires c κs = search needs
 
 returns-2 : tie.Need-returns-2
 unfolding verdict
@@ -43,12 +37,6 @@ returns-3 c =
 
 subdivide-requires : tie.Need-subdivide-requires
 subdivide-requires c κs = top-as _ (good _ (c .before .before .before .before .is-top .ensures) (c .before .before .before .if1 .left))
-
-is-discarded-requires : tie.Need-is-discarded-requires
-is-discarded-requires c κs = search needs
-
-is-empty-requires : tie.Need-is-empty-requires
-is-empty-requires c κs = search needs
 
 returns-4 : tie.Need-returns-4
 unfolding verdict
@@ -68,9 +56,6 @@ returns-5 c =
     let top = good _ (d .before .before .before .before .before .is-top .ensures) (d .before .before .before .before .if1 .left) in
     checked (a .settings) (a .patch) _ _ (rw (top, ← d .before .before .before .is-isolines .ensures, d .before .before .if2 .left, d .before .if3 .left, flag (a .settings) (a .patch) (d .subdivide .ensures) (e .before .is-discarded .ensures) (e .if4 .taken), ← c .before .is-empty .ensures, c .if5 .left))
 
-turns-positive-requires : tie.Need-turns-positive-requires
-turns-positive-requires c κs = search needs
-
 patch-fault-requires : tie.Need-patch-fault-requires
 patch-fault-requires c κs =
     let d = c .before .before .before in
@@ -89,16 +74,6 @@ pub check-mesh-spec : {M : Type 1} → statement M
 check-mesh-spec =
     tie.close
     (tie.spec
-    is-top-requires
-    returns
-    is-isolines-requires
-    returns-2
-    returns-3
-    subdivide-requires
-    is-discarded-requires
-    is-empty-requires
-    returns-4
-    returns-5
-    turns-positive-requires
-    patch-fault-requires
-    returns-6)
+    (λ c κs. search needs) returns (λ c κs. search needs) returns-2 returns-3 subdivide-requires
+    (λ c κs. search needs) (λ c κs. search needs) returns-4 returns-5 (λ c κs. search needs)
+    patch-fault-requires returns-6)

@@ -10,23 +10,11 @@ use borrow.Author.Needs.{needs}
 use Rattle.check_verdict.proofs.fault.point_fault.Statement.{statement}
 use Rattle.check_verdict.proofs.fault.point_fault.Tie as tie
 
-first-outside-requires : tie.Need-first-outside-requires
-first-outside-requires c κs = search needs
-
 returns : tie.Need-returns
 unfolding pointFault
 returns c =
     let n = points-count (c .before .before .before .before .before .args .points .now) in
     found Outside _ (c .before .first-outside .ensures) n (c .if1 .taken)
-
-first-repeated-requires : tie.Need-first-repeated-requires
-first-repeated-requires c κs = search needs
-
-point-at-requires : tie.Need-point-at-requires
-point-at-requires c κs = search needs
-
-first-equal-requires : tie.Need-first-equal-requires
-first-equal-requires c κs = search needs
 
 returns-2 : tie.Need-returns-2
 unfolding pointFault
@@ -53,11 +41,5 @@ pub point-fault-spec : {M : Type 1} → statement M
 point-fault-spec =
     tie.close
     (tie.spec
-    first-outside-requires
-    returns
-    first-repeated-requires
-    point-at-requires
-    first-equal-requires
-    returns-2
-    side-fault-requires
-    returns-3)
+    (λ c κs. search needs) returns (λ c κs. search needs) (λ c κs. search needs) (λ c κs. search needs)
+    returns-2 side-fault-requires returns-3)

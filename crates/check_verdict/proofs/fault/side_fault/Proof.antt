@@ -17,28 +17,16 @@ use Rattle.check_searches.proofs.triangle.triangle_at.Reads as triangle-at-read
 use Rattle.check_side_searches.proofs.pair.first_reused.Reads as first-reused-reads
 use Rattle.check_side_searches.proofs.pair.first_sharing.Reads as first-sharing-reads
 
-first-turned-requires : tie.Need-first-turned-requires
-first-turned-requires c κs = search needs
-
 returns : tie.Need-returns
 unfolding sideFault
 returns c =
     let n = triangles-count (c .before .before .before .before .before .args .indices .now) in
     found Turned _ (c .before .first-turned .ensures) n (c .if1 .taken)
 
-reach-requires : tie.Need-reach-requires
-reach-requires c κs = search needs
-
 first-reused-requires : tie.Need-first-reused-requires
 first-reused-requires c κs =
     let n = triangles-count (c .before .before .before .before .before .before .args .indices .now) in
     (omega (arith, c .reach .ensures .once-most), c .reach .ensures .once)
-
-triangle-at-requires : tie.Need-triangle-at-requires
-triangle-at-requires c κs = search needs
-
-first-sharing-requires : tie.Need-first-sharing-requires
-first-sharing-requires c κs = search needs
 
 returns-2 : tie.Need-returns-2
 unfolding sideFault
@@ -67,12 +55,5 @@ pub side-fault-spec : {M : Type 1} → statement M
 side-fault-spec =
     tie.close
     (tie.spec
-    first-turned-requires
-    returns
-    reach-requires
-    first-reused-requires
-    triangle-at-requires
-    first-sharing-requires
-    returns-2
-    outline-fault-requires
-    returns-3)
+    (λ c κs. search needs) returns (λ c κs. search needs) first-reused-requires (λ c κs. search needs)
+    (λ c κs. search needs) returns-2 outline-fault-requires returns-3)

@@ -22,15 +22,6 @@ fill-requires c κs =
     let p = c .before .before .before .before .before .before .before .before .before .before .before .pre in
     (p .0, (numbered-wider (p .1 .1 .0) (p .1 .1 .1 .0), (p .1 .0, p .1 .1 .1 .1 .0)))
 
-same-length : tie.Need-same-length
-same-length c = search needs
-
-same-length-2 : tie.Need-same-length-2
-same-length-2 c = search needs
-
-same-length-3 : tie.Need-same-length-3
-same-length-3 c = search needs
-
 returns : tie.Need-returns
 returns c = shown-once _ _ _ _ _ (c .before .before .before .before .before .before .before .fill .ensures .most) (c .before .before .before .before .before .before .before .fill .ensures .once)
 
@@ -43,18 +34,6 @@ open-sides-requires c κs =
     let e : c .before .before .before .before .before .before .before .before .before .before .before .fill .result ≡ length (readTriangles ws) = omega (arith, f .most, c .before .before .before .before .if1 .left, triangles-count ws) in
     (f .all e .table, (numbered-as _ _ _ _ (c .before .before .before .before .before .before .before .before .heads .given) (numbered-wider (p .1 .1 .0) (p .1 .1 .1 .0)), p .1 .1 .1 .1 .0))
 
-same-length-4 : tie.Need-same-length-4
-same-length-4 c = search needs
-
-same-length-5 : tie.Need-same-length-5
-same-length-5 c = search needs
-
-same-length-6 : tie.Need-same-length-6
-same-length-6 c = search needs
-
-same-length-7 : tie.Need-same-length-7
-same-length-7 c = search needs
-
 returns-2 : tie.Need-returns-2
 returns-2 c = shown-once _ _ _ _ _ (c .before .before .before .before .before .before .before .before .before .before .before .before .before .before .before .fill .ensures .most) (c .before .before .before .before .before .before .before .before .before .before .before .before .before .before .before .fill .ensures .once)
 
@@ -62,24 +41,6 @@ all-pieces-requires : tie.Need-all-pieces-requires
 all-pieces-requires c κs =
     let p = c .before .before .before .before .before .before .before .before .before .before .before .before .before .before .before .before .before .before .before .before .before .before .before .before .before .before .before .before .before .pre in
     (p .1 .1 .0, (c .before .before .if2 .left, (c .before .before .before .before .before .open-sides .ensures .listed (c .before .before .if2 .left), marked-none _ _ _ _ _ (p .1 .1 .1 .1 .1))))
-
-first-unmarked-requires : tie.Need-first-unmarked-requires
-first-unmarked-requires c κs = search needs
-
-same-length-8 : tie.Need-same-length-8
-same-length-8 c = search needs
-
-same-length-9 : tie.Need-same-length-9
-same-length-9 c = search needs
-
-same-length-10 : tie.Need-same-length-10
-same-length-10 c = search needs
-
-same-length-11 : tie.Need-same-length-11
-same-length-11 c = search needs
-
-same-length-12 : tie.Need-same-length-12
-same-length-12 c = search needs
 
 returns-3 : tie.Need-returns-3
 returns-3 c =
@@ -93,22 +54,7 @@ pub reach-by-spec : {M : Type 1} → statement M
 reach-by-spec =
     tie.close
     (tie.spec
-    fill-requires
-    same-length
-    same-length-2
-    same-length-3
-    returns
-    open-sides-requires
-    same-length-4
-    same-length-5
-    same-length-6
-    same-length-7
-    returns-2
-    all-pieces-requires
-    first-unmarked-requires
-    same-length-8
-    same-length-9
-    same-length-10
-    same-length-11
-    same-length-12
-    returns-3)
+    fill-requires (λ c. search needs) (λ c. search needs) (λ c. search needs) returns open-sides-requires
+    (λ c. search needs) (λ c. search needs) (λ c. search needs) (λ c. search needs) returns-2
+    all-pieces-requires (λ c κs. search needs) (λ c. search needs) (λ c. search needs) (λ c. search needs)
+    (λ c. search needs) (λ c. search needs) returns-3)

@@ -11,37 +11,14 @@ use Rattle.check_watertight.proofs.closing.reach_large.Reads as reads
 use Rattle.check_watertight.proofs.closing.reach_large.Lts as lts
 use Rattle.check_watertight.proofs.closing.reach_by.Reads as reach-by-reads
 
-slice-aggregate-reach-by : tie.Need-slice-aggregate-reach-by
-slice-aggregate-reach-by c = search needs
-
-slice-aggregate-reach-by-2 : tie.Need-slice-aggregate-reach-by-2
-slice-aggregate-reach-by-2 c = search needs
-
-slice-aggregate-reach-by-3 : tie.Need-slice-aggregate-reach-by-3
-slice-aggregate-reach-by-3 c = search needs
-
-slice-aggregate-reach-by-4 : tie.Need-slice-aggregate-reach-by-4
-slice-aggregate-reach-by-4 c = search needs
-
-slice-aggregate-reach-by-5 : tie.Need-slice-aggregate-reach-by-5
-slice-aggregate-reach-by-5 c = search needs
-
 reach-by-requires : tie.Need-reach-by-requires
 reach-by-requires c κs =
     let s = c .before .before .before .before .before .before .before .before in
     (chains-cleared _ _ (zeros-all 8192), (chains-room _ _ (s .pre .1 .1) (omega arith), (s .pre .0, (chains-vertices _ _ (omega (arith, points-count (s .args .points .now), s .pre .1 .0)), (omega (arith, s .pre .1 .1), blank-all 256)))))
 
-returns : tie.Need-returns
-returns c = search needs
-
 pub reach-large-spec : {M : Type 1} → statement M
 reach-large-spec =
     tie.close
     (tie.spec
-    slice-aggregate-reach-by
-    slice-aggregate-reach-by-2
-    slice-aggregate-reach-by-3
-    slice-aggregate-reach-by-4
-    slice-aggregate-reach-by-5
-    reach-by-requires
-    returns)
+    (λ c. search needs) (λ c. search needs) (λ c. search needs) (λ c. search needs) (λ c. search needs)
+    reach-by-requires (λ c. search needs))

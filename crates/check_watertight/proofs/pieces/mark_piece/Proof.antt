@@ -10,12 +10,6 @@ use borrow.Author.Needs.{needs}
 use Rattle.check_watertight.proofs.pieces.mark_piece.Statement.{statement}
 use Rattle.check_watertight.proofs.pieces.mark_piece.Tie as tie
 
-mul-point-at : tie.Need-mul-point-at
-mul-point-at c = search needs
-
-shared-slice-read-point-at : tie.Need-shared-slice-read-point-at
-shared-slice-read-point-at c = search needs
-
 cast-point-at : tie.Need-cast-point-at
 cast-point-at c =
     let s = c .before .before .before .before .before in
@@ -26,26 +20,11 @@ point-at-requires c κs =
     let s = c .before .before .before .before .before in
     omega (arith, s .pre .0 .at (s .args .m) (omega arith), points-count (s .args .points .now))
 
-end-at-requires : tie.Need-end-at-requires
-end-at-requires c κs = search needs
-
-cast-point-at-2 : tie.Need-cast-point-at-2
-cast-point-at-2 c = search needs
-
 point-at-requires-2 : tie.Need-point-at-requires-2
 point-at-requires-2 c κs =
     let s = c .before .before .before .before .before .before .before in
     let a = s .args in
     omega (arith, c .end-at .ensures, end-known _ (a .indices .now) (a .m) (s .pre .0) (s .pre .1 .0), points-count (a .points .now))
-
-find-piece-requires : tie.Need-find-piece-requires
-find-piece-requires c κs = search needs
-
-set-mark-requires : tie.Need-set-mark-requires
-set-mark-requires c κs = search needs
-
-same-length : tie.Need-same-length
-same-length c = search needs
 
 returns : tie.Need-returns
 returns c =
@@ -68,15 +47,6 @@ pub mark-piece-spec : {M : Type 1} → statement M
 mark-piece-spec =
     tie.close
     (tie.spec
-    mul-point-at
-    shared-slice-read-point-at
-    cast-point-at
-    point-at-requires
-    end-at-requires
-    cast-point-at-2
-    point-at-requires-2
-    find-piece-requires
-    set-mark-requires
-    same-length
-    returns
-    returns-2)
+    (λ c. search needs) (λ c. search needs) cast-point-at point-at-requires (λ c κs. search needs)
+    (λ c. search needs) point-at-requires-2 (λ c κs. search needs) (λ c κs. search needs) (λ c. search needs)
+    returns returns-2)

@@ -11,20 +11,8 @@ use Rattle.compare_differences.proofs.window.window_end.Reads as window
 use Rattle.compare_differences.proofs.window.window_start.Reads as window-start-reads
 use Rattle.check_side_searches.proofs.same.has_triangle_in.Reads as has-triangle-in-reads
 
-window-start-requires : tie.Need-window-start-requires
-window-start-requires c κs = search needs
-
-window-end-requires : tie.Need-window-end-requires
-window-end-requires c κs = search needs
-
-has-triangle-in-requires : tie.Need-has-triangle-in-requires
-has-triangle-in-requires c κs = search needs
-
 returns : tie.Need-returns
 returns c = held-near _ _ _ _ _ (c .before .has-triangle-in .ensures) (omega (arith, c .before .before .window-end .ensures, triangles-count (c .before .before .before .before .before .args .indices .now))) (c .if1 .taken)
-
-has-triangle-in-requires-2 : tie.Need-has-triangle-in-requires-2
-has-triangle-in-requires-2 c κs = search needs
 
 returns-2 : tie.Need-returns-2
 returns-2 c = rw (triangles-count (c .before .before .before .before .before .before .args .indices .now)) (held-all _ _ _ _ (c .has-triangle-in2 .ensures))
@@ -33,9 +21,5 @@ pub has-triangle-spec : {M : Type 1} → statement M
 has-triangle-spec =
     tie.close
     (tie.spec
-    window-start-requires
-    window-end-requires
-    has-triangle-in-requires
-    returns
-    has-triangle-in-requires-2
+    (λ c κs. search needs) (λ c κs. search needs) (λ c κs. search needs) returns (λ c κs. search needs)
     returns-2)

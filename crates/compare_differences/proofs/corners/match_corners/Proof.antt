@@ -10,53 +10,14 @@ use Rattle.compare_differences.proofs.corners.numbered.Reads as numbere
 use Rattle.compare_differences.proofs.point.find_point.Reads as find-point-reads
 use Rattle.check_searches.proofs.point.point_at.Reads as point-at-reads
 
-numbered-requires : tie.Need-numbered-requires
-numbered-requires c κs = search needs
-
-cast-a : tie.Need-cast-a
-cast-a c = search needs
-
-point-at-requires : tie.Need-point-at-requires
-point-at-requires c κs = search needs
-
-find-point-requires : tie.Need-find-point-requires
-find-point-requires c κs = search needs
-
 returns : tie.Need-returns
 returns c = missing-p _ _ _ (c .before .before .before .before .numbered .ensures .2) _ _ (c .before .find-point .ensures) (c .if1 .taken) (c .before .before .point-at .ensures)
-
-cast-b : tie.Need-cast-b
-cast-b c = search needs
-
-point-at-requires-2 : tie.Need-point-at-requires-2
-point-at-requires-2 c κs = search needs
-
-find-point-requires-2 : tie.Need-find-point-requires-2
-find-point-requires-2 c κs = search needs
 
 returns-2 : tie.Need-returns-2
 returns-2 c = missing-q _ _ _ (c .before .before .before .before .before .before .before .before .numbered .ensures .2) _ _ (c .before .find-point2 .ensures) (c .if2 .taken) (c .before .before .point-at2 .ensures)
 
-cast-c : tie.Need-cast-c
-cast-c c = search needs
-
-point-at-requires-3 : tie.Need-point-at-requires-3
-point-at-requires-3 c κs = search needs
-
-find-point-requires-3 : tie.Need-find-point-requires-3
-find-point-requires-3 c κs = search needs
-
 returns-3 : tie.Need-returns-3
 returns-3 c = missing-r _ _ _ (c .before .before .before .before .before .before .before .before .before .before .before .before .numbered .ensures .2) _ _ (c .before .find-point3 .ensures) (c .if3 .taken) (c .before .before .point-at3 .ensures)
-
-cast-t13 : tie.Need-cast-t13
-cast-t13 c = search needs
-
-cast-t14 : tie.Need-cast-t14
-cast-t14 c = search needs
-
-cast-t15 : tie.Need-cast-t15
-cast-t15 c = search needs
 
 returns-4 : tie.Need-returns-4
 returns-4 c =
@@ -70,20 +31,7 @@ pub match-corners-spec : {M : Type 1} → statement M
 match-corners-spec =
     tie.close
     (tie.spec
-    numbered-requires
-    cast-a
-    point-at-requires
-    find-point-requires
-    returns
-    cast-b
-    point-at-requires-2
-    find-point-requires-2
-    returns-2
-    cast-c
-    point-at-requires-3
-    find-point-requires-3
-    returns-3
-    cast-t13
-    cast-t14
-    cast-t15
-    returns-4)
+    (λ c κs. search needs) (λ c. search needs) (λ c κs. search needs) (λ c κs. search needs) returns
+    (λ c. search needs) (λ c κs. search needs) (λ c κs. search needs) returns-2 (λ c. search needs)
+    (λ c κs. search needs) (λ c κs. search needs) returns-3 (λ c. search needs) (λ c. search needs)
+    (λ c. search needs) returns-4)

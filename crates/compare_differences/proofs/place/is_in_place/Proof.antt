@@ -9,12 +9,6 @@ use Rattle.compare_differences.proofs.Numbers.{ranged}
 use Rattle.compare_differences.proofs.place.is_in_place.Statement.{statement}
 use Rattle.compare_differences.proofs.place.is_in_place.Tie as tie
 
-triangle-at-requires : tie.Need-triangle-at-requires
-triangle-at-requires c κs = search needs
-
-triangle-at-requires-2 : tie.Need-triangle-at-requires-2
-triangle-at-requires-2 c κs = search needs
-
 same-place-requires : tie.Need-same-place-requires
 same-place-requires c κs =
     let x = c .before .before .before .before .before .before .before in
@@ -48,17 +42,10 @@ returns c =
     rw (← c .before .before .before .before .triangle-at .ensures, ← c .before .before .before .triangle-at2 .ensures, c .before .before .same-place .ensures, c .before .same-place2 .ensures, c .same-place3 .ensures) in
     λ h. record { number = omega (arith, triangles-count (a .other-indices .now)); same = e ∙ h }
 
-returns-2 : tie.Need-returns-2
-returns-2 c = λ h. absurd (true≢false (sym h))
-
 pub is-in-place-spec : {M : Type 1} → statement M
 is-in-place-spec =
     tie.close
     (tie.spec
-    triangle-at-requires
-    triangle-at-requires-2
-    same-place-requires
-    same-place-requires-2
-    same-place-requires-3
-    returns
-    returns-2)
+    (λ c κs. search needs) (λ c κs. search needs) same-place-requires same-place-requires-2
+    same-place-requires-3 returns
+    (λ c. λ h. absurd (true≢false (sym h))))

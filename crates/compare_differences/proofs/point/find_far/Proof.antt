@@ -10,31 +10,12 @@ use Rattle.compare_differences.proofs.point.first_in.Reads as first-in-
 use Rattle.compare_differences.proofs.window.window_end.Reads as window-end-reads
 use Rattle.compare_differences.proofs.window.window_start.Reads as window-start-reads
 
-window-start-requires : tie.Need-window-start-requires
-window-start-requires c κs = search needs
-
-window-end-requires : tie.Need-window-end-requires
-window-end-requires c κs = search needs
-
-first-in-requires : tie.Need-first-in-requires
-first-in-requires c κs = search needs
-
 returns : tie.Need-returns
 returns c = found-at _ _ _ _ (omega (arith, c .before .before .window-end .ensures)) (c .before .first-in .ensures .there (c .if1 .taken))
-
-first-in-requires-2 : tie.Need-first-in-requires-2
-first-in-requires-2 c κs = search needs
-
-returns-2 : tie.Need-returns-2
-returns-2 c = found-all _ _ _ _ (c .first-in2 .ensures)
 
 pub find-far-spec : {M : Type 1} → statement M
 find-far-spec =
     tie.close
     (tie.spec
-    window-start-requires
-    window-end-requires
-    first-in-requires
-    returns
-    first-in-requires-2
-    returns-2)
+    (λ c κs. search needs) (λ c κs. search needs) (λ c κs. search needs) returns (λ c κs. search needs)
+    (λ c. found-all _ _ _ _ (c .first-in2 .ensures)))

@@ -9,22 +9,10 @@ use Rattle.compare_differences.proofs.side.has_face.Lts as lts
 use Rattle.compare_differences.proofs.corners.has_triangle.Reads as has-triangle-reads
 use Rattle.compare_differences.proofs.corners.match_corners.Reads as match-corners-reads
 
-match-corners-requires : tie.Need-match-corners-requires
-match-corners-requires c κs = search needs
-
-enum-known-found : tie.Need-enum-known-found
-enum-known-found c = search needs
-
-has-triangle-requires : tie.Need-has-triangle-requires
-has-triangle-requires c κs = search needs
-
 returns : tie.Need-returns
 returns c =
     let x = c .before .before .before .before .before .before .before .before in
     has-found _ _ (x .pre .1 .indexed) (λ k. omega (arith, c .before .before .before .before .before .shared-slice-known3 .given k)) _ _ _ _ (c .before .before .before .before .match-corners .ensures) (c .before .before .found .given .1) (c .has-triangle .ensures)
-
-enum-told : tie.Need-enum-told
-enum-told c = search needs
 
 returns-2 : tie.Need-returns-2
 returns-2 c =
@@ -35,9 +23,4 @@ pub has-face-spec : {M : Type 1} → statement M
 has-face-spec =
     tie.close
     (tie.spec
-    match-corners-requires
-    enum-known-found
-    has-triangle-requires
-    returns
-    enum-told
-    returns-2)
+    (λ c κs. search needs) (λ c. search needs) (λ c κs. search needs) returns (λ c. search needs) returns-2)

@@ -15,16 +15,10 @@ use Rattle.compare_differences.proofs.side.has_face.Reads as has-face-r
 use Rattle.check_side_searches.proofs.same.has_triangle_in.Reads as has-triangle-in-reads
 use Rattle.check_searches.proofs.triangle.triangle_at.Reads as triangle-at-reads
 
-is-in-place-requires : tie.Need-is-in-place-requires
-is-in-place-requires c κs = search needs
-
 returns : tie.Need-returns
 returns c =
     let a = c .before .before .before .before .before .before .args in
     sym (in-place-found (facesIn (a .points .now) (a .indices .now)) (facesIn (a .other-points .now) (a .other-indices .now)) (a .k) (c .before .is-in-place .ensures (c .if1 .taken)))
-
-triangle-at-requires : tie.Need-triangle-at-requires
-triangle-at-requires c κs = search needs
 
 has-face-requires : tie.Need-has-face-requires
 has-face-requires c κs =
@@ -35,9 +29,6 @@ has-face-requires c κs =
 returns-2 : tie.Need-returns-2
 returns-2 c = sym (face-found _ _ _ _ _ _ (c .before .before .triangle-at .ensures) _ (c .before .has-face .ensures) (c .if2 .taken))
 
-has-triangle-in-requires : tie.Need-has-triangle-in-requires
-has-triangle-in-requires c κs = search needs
-
 returns-3 : tie.Need-returns-3
 returns-3 c =
     let x = c .before .before .before .before .before .before .before .before .before .before in
@@ -47,10 +38,5 @@ pub lacks-face-spec : {M : Type 1} → statement M
 lacks-face-spec =
     tie.close
     (tie.spec
-    is-in-place-requires
-    returns
-    triangle-at-requires
-    has-face-requires
-    returns-2
-    has-triangle-in-requires
+    (λ c κs. search needs) returns (λ c κs. search needs) has-face-requires returns-2 (λ c κs. search needs)
     returns-3)

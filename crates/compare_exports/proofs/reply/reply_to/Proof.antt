@@ -13,26 +13,8 @@ use Rattle.compare_exports.proofs.reply.reply_to.Reads as reads
 use Rattle.compare_exports.proofs.reply.reply_to.Lts as lts
 use Rattle.compare_exports.proofs.reply.shift_of.Reads as shift-of-reads
 
-enum-known-answer : tie.Need-enum-known-answer
-enum-known-answer c = search needs
-
-enum-known-answer-2 : tie.Need-enum-known-answer-2
-enum-known-answer-2 c = search needs
-
-enum-known-answer-3 : tie.Need-enum-known-answer-3
-enum-known-answer-3 c = search needs
-
-shift-of-requires : tie.Need-shift-of-requires
-shift-of-requires c κs = search needs
-
 add-t10 : tie.Need-add-t10
 add-t10 c = omega (arith, c .shift-of .ensures, shift-most (c .before .before .answer3 .given .0 .0))
-
-enum-known-answer-4 : tie.Need-enum-known-answer-4
-enum-known-answer-4 c = search needs
-
-shift-of-requires-2 : tie.Need-shift-of-requires-2
-shift-of-requires-2 c κs = search needs
 
 add-t12 : tie.Need-add-t12
 add-t12 c = omega (arith, c .shift-of2 .ensures, shift-most (c .before .before .answer4 .given .0 .0))
@@ -53,15 +35,5 @@ pub reply-to-spec : {M : Type 1} → statement M
 reply-to-spec =
     tie.close
     (tie.spec
-    enum-known-answer
-    enum-known-answer-2
-    enum-known-answer-3
-    shift-of-requires
-    add-t10
-    enum-known-answer-4
-    shift-of-requires-2
-    add-t12
-    returns
-    returns-2
-    returns-3
-    returns-4)
+    (λ c. search needs) (λ c. search needs) (λ c. search needs) (λ c κs. search needs) add-t10
+    (λ c. search needs) (λ c κs. search needs) add-t12 returns returns-2 returns-3 returns-4)

@@ -27,15 +27,6 @@ pub flag-by-few-spec : {M : Type 1} → statement M
 flag-by-few-spec =
     tie.close
     (tie.spec
-    (λ c. search needs)
-    (λ c. search needs)
-    fill-requires
-    (λ c. search needs)
-    (λ c. search needs)
-    flag-missing-requires
-    (λ c. search needs)
-    (λ c. search needs)
-    flag-first-requires
-    (λ c. search needs)
-    (λ c. search needs)
-    (λ c. search needs))
+    (λ c. search needs) (λ c. search needs) fill-requires (λ c. search needs) (λ c. search needs)
+    flag-missing-requires (λ c. search needs) (λ c. search needs) flag-first-requires (λ c. search needs)
+    (λ c. search needs) (λ c. search needs))

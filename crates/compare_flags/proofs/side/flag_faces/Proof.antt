@@ -13,12 +13,5 @@ pub flag-faces-spec : {M : Type 1} → statement M
 flag-faces-spec =
     tie.close
     (tie.spec
-    (λ c κs. search needs)
-    flag-by-few-requires
-    (λ c κs. search needs)
-    (λ c. search needs)
-    (λ c. search needs)
-    (λ c. search needs)
-    (λ c. search needs)
-    (λ c. search needs)
-    (λ c. search needs))
+    (λ c κs. search needs) flag-by-few-requires (λ c κs. search needs) (λ c. search needs) (λ c. search needs)
+    (λ c. search needs) (λ c. search needs) (λ c. search needs) (λ c. search needs))

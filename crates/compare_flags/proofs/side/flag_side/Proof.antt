@@ -13,13 +13,5 @@ pub flag-side-spec : {M : Type 1} → statement M
 flag-side-spec =
     tie.close
     (tie.spec
-    (λ c. search needs)
-    (λ c κs. search needs)
-    (λ c. search needs)
-    (λ c κs. search needs)
-    (λ c. search needs)
-    flag-faces-requires
-    (λ c. search needs)
-    (λ c. search needs)
-    (λ c. search needs)
-    (λ c. search needs))
+    (λ c. search needs) (λ c κs. search needs) (λ c. search needs) (λ c κs. search needs) (λ c. search needs)
+    flag-faces-requires (λ c. search needs) (λ c. search needs) (λ c. search needs) (λ c. search needs))

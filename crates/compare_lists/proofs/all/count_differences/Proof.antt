@@ -26,11 +26,6 @@ pub count-differences-spec : {M : Type 1} → statement M
 count-differences-spec =
     tie.close
     (tie.spec
-    (λ c κs. search needs)
-    (λ c κs. search needs)
-    (λ c κs. search needs)
-    (λ c κs. search needs)
-    (λ c. let f = few-counted c in omega arith)
-    (λ c. let f = few-counted c in omega arith)
-    (λ c. let f = few-counted c in omega arith)
-    returns)
+    (λ c κs. search needs) (λ c κs. search needs) (λ c κs. search needs) (λ c κs. search needs)
+    (λ c. let f = few-counted c in omega arith) (λ c. let f = few-counted c in omega arith)
+    (λ c. let f = few-counted c in omega arith) returns)

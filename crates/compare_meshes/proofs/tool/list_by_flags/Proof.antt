@@ -29,9 +29,4 @@ pub list-by-flags-spec : {M : Type 1} → statement M
 list-by-flags-spec =
     tie.close
     (tie.spec
-    (λ c κs. search needs)
-    returns
-    returns-2
-    write-differences-requires
-    (λ c. search needs)
-    returns-3)
+    (λ c κs. search needs) returns returns-2 write-differences-requires (λ c. search needs) returns-3)

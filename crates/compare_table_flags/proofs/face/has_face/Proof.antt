@@ -47,20 +47,6 @@ pub has-face-spec : {M : Type 1} → statement M
 has-face-spec =
     tie.close
     (tie.spec
-    (λ c. search needs)
-    (λ c. search needs)
-    (λ c. search needs)
-    cast-if1
-    returns
-    (λ c. search needs)
-    (λ c. search needs)
-    (λ c. search needs)
-    cast-if2
-    returns-2
-    (λ c. search needs)
-    (λ c. search needs)
-    (λ c. search needs)
-    cast-if3
-    returns-3
-    has-triangle-requires
-    returns-4)
+    (λ c. search needs) (λ c. search needs) (λ c. search needs) cast-if1 returns (λ c. search needs)
+    (λ c. search needs) (λ c. search needs) cast-if2 returns-2 (λ c. search needs) (λ c. search needs)
+    (λ c. search needs) cast-if3 returns-3 has-triangle-requires returns-4)

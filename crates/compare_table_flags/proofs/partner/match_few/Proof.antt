@@ -19,9 +19,5 @@ pub match-few-spec : {M : Type 1} → statement M
 match-few-spec =
     tie.close
     (tie.spec
-    (λ c. search needs)
-    fill-requires
-    (λ c. search needs)
-    match-by-requires
-    (λ c. search needs)
+    (λ c. search needs) fill-requires (λ c. search needs) match-by-requires (λ c. search needs)
     (λ c. search needs))

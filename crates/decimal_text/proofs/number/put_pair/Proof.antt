@@ -7,33 +7,6 @@ use Rattle.buffer.proofs.Laws.{over-two}
 use Rattle.decimal_text.proofs.number.put_pair.Statement.{statement}
 use Rattle.decimal_text.proofs.number.put_pair.Tie as tie
 
-cast-out : tie.Need-cast-out
-cast-out c = search needs
-
-add-out : tie.Need-add-out
-add-out c = search needs
-
-slice-write-out : tie.Need-slice-write-out
-slice-write-out c = search needs
-
-cast-out-2 : tie.Need-cast-out-2
-cast-out-2 c = search needs
-
-add-out-2 : tie.Need-add-out-2
-add-out-2 c = search needs
-
-add-out-3 : tie.Need-add-out-3
-add-out-3 c = search needs
-
-slice-write-out-2 : tie.Need-slice-write-out-2
-slice-write-out-2 c = simp length-set (omega arith)
-
-add-result : tie.Need-add-result
-add-result c = search needs
-
-same-length : tie.Need-same-length
-same-length c = search needs
-
 returns : tie.Need-returns
 returns c = let a = c .args in record { is = over-two (a .out .now) (a .at) _ _ (c .pre .1); next = refl }
 
@@ -41,13 +14,9 @@ pub put-pair-spec : {M : Type 1} → statement M
 put-pair-spec =
     tie.close
     (tie.spec
-    cast-out
-    add-out
-    slice-write-out
-    cast-out-2
-    add-out-2
-    add-out-3
-    slice-write-out-2
-    add-result
-    same-length
+    (λ c. search needs) (λ c. search needs) (λ c. search needs) (λ c. search needs) (λ c. search needs)
+    (λ c. search needs)
+    (λ c. simp length-set (omega arith))
+    (λ c. search needs)
+    (λ c. search needs)
     returns)

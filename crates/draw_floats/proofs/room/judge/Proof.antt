@@ -5,21 +5,6 @@ use borrow.Author.Needs.{needs}
 use Rattle.draw_floats.proofs.room.judge.Statement.{statement}
 use Rattle.draw_floats.proofs.room.judge.Tie as tie
 
-measure-requires : tie.Need-measure-requires
-measure-requires c κs = search needs
-
-enum-known-size : tie.Need-enum-known-size
-enum-known-size c = search needs
-
-find-room-requires : tie.Need-find-room-requires
-find-room-requires c κs = search needs
-
-enum-told : tie.Need-enum-told
-enum-told c = search needs
-
-enum-told-2 : tie.Need-enum-told-2
-enum-told-2 c = search needs
-
 returns : tie.Need-returns
 returns c = judged _ _ _ _ _ (c .before .before .before .before .measure .ensures) (c .before .before .size .given .1) (c .find-room .ensures)
 
@@ -33,11 +18,5 @@ pub judge-spec : {M : Type 1} → statement M
 judge-spec =
     tie.close
     (tie.spec
-    measure-requires
-    enum-known-size
-    find-room-requires
-    enum-told
-    enum-told-2
-    returns
-    returns-2
-    returns-3)
+    (λ c κs. search needs) (λ c. search needs) (λ c κs. search needs) (λ c. search needs) (λ c. search needs)
+    returns returns-2 returns-3)

@@ -16,15 +16,6 @@ mul-if1 c =
     let fits = c .before .pre .0 in
     omega (arith, mul-le-mul (fits .rows) (fits .columns))
 
-write-each-requires : tie.Need-write-each-requires
-write-each-requires c κs = search needs
-
-same-length : tie.Need-same-length
-same-length c = search needs
-
-returns : tie.Need-returns
-returns c = search needs
-
 write-row-requires : tie.Need-write-row-requires
 write-row-requires c κs =
     let a = c .before .before .before .args in
@@ -32,27 +23,12 @@ write-row-requires c κs =
     let some = some-rows (g .a) (g .b) (omega arith) in
     (omega (arith, mul-le-mul-right (g .width) some), omega (arith, mul-le-mul-right (g .b) some))
 
-cast-n : tie.Need-cast-n
-cast-n c = search needs
-
-mul-n : tie.Need-mul-n
-mul-n c = search needs
-
-cast-write-copies : tie.Need-cast-write-copies
-cast-write-copies c = search needs
-
-cast-write-copies-2 : tie.Need-cast-write-copies-2
-cast-write-copies-2 c = search needs
-
 write-copies-requires : tie.Need-write-copies-requires
 write-copies-requires c κs =
     let a = c .before .before .before .before .before .before .before .args in
     let g = a .grid in
     let some = some-rows (g .a) (g .b) (omega arith) in
     search needs
-
-same-length-2 : tie.Need-same-length-2
-same-length-2 c = search needs
 
 returns-2 : tie.Need-returns-2
 unfolding copy
@@ -71,15 +47,6 @@ pub write-cells-spec : {M : Type 1} → statement M
 write-cells-spec =
     tie.close
     (tie.spec
-    mul-if1
-    write-each-requires
-    same-length
-    returns
-    write-row-requires
-    cast-n
-    mul-n
-    cast-write-copies
-    cast-write-copies-2
-    write-copies-requires
-    same-length-2
-    returns-2)
+    mul-if1 (λ c κs. search needs) (λ c. search needs) (λ c. search needs) write-row-requires
+    (λ c. search needs) (λ c. search needs) (λ c. search needs) (λ c. search needs) write-copies-requires
+    (λ c. search needs) returns-2)

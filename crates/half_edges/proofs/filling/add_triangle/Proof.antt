@@ -8,33 +8,12 @@ use borrow.Author.Needs.{needs}
 use Rattle.half_edges.proofs.filling.add_triangle.Statement.{statement}
 use Rattle.half_edges.proofs.filling.add_triangle.Tie as tie
 
-triangle-at-requires : tie.Need-triangle-at-requires
-triangle-at-requires c κs = search needs
-
-mul-m : tie.Need-mul-m
-mul-m c = search needs
-
 add-new-requires : tie.Need-add-new-requires
 add-new-requires c κs =
     let t = c .before .before .before in
     let s = t .before .before .before .before .before in
     let p = s .pre in
     (p .0, (side-at _ _ _ (s .args .k) 0 _ _ (p .1 .0) (p .1 .1 .1 .0) (t .triangle-at .ensures) (omega arith) (omega arith), room-as (p .1 .1 .0) (omega (arith, p .1 .1 .1 .0)) refl))
-
-same-length : tie.Need-same-length
-same-length c = search needs
-
-same-length-2 : tie.Need-same-length-2
-same-length-2 c = search needs
-
-same-length-3 : tie.Need-same-length-3
-same-length-3 c = search needs
-
-returns : tie.Need-returns
-returns c = λ h. absurd (true≢false (sym h))
-
-add-add-new : tie.Need-add-add-new
-add-add-new c = search needs
 
 add-new-requires-2 : tie.Need-add-new-requires-2
 add-new-requires-2 c κs =
@@ -45,18 +24,6 @@ add-new-requires-2 c κs =
     let p = s .pre in
     let f = a .add-new .ensures (not-false _ (e .if1 .left)) in
     (f, (side-at _ _ _ (s .args .k) 1 _ _ (numbered-as _ _ _ _ (e .before .before .before .before .heads .given) (p .1 .0)) (p .1 .1 .1 .0) (t .triangle-at .ensures) (omega arith) (omega arith), room-as (p .1 .1 .0) (omega (arith, p .1 .1 .1 .0)) (e .before .before .links .given)))
-
-same-length-4 : tie.Need-same-length-4
-same-length-4 c = search needs
-
-same-length-5 : tie.Need-same-length-5
-same-length-5 c = search needs
-
-same-length-6 : tie.Need-same-length-6
-same-length-6 c = search needs
-
-returns-2 : tie.Need-returns-2
-returns-2 c = λ h. absurd (true≢false (sym h))
 
 add-add-new-2 : tie.Need-add-add-new-2
 add-add-new-2 c =
@@ -74,15 +41,6 @@ add-new-requires-3 c κs =
     let p = s .pre in
     (filled-as (omega arith) (a2 .add-new2 .ensures (not-false _ (e2 .if2 .left))), (side-at _ _ _ (s .args .k) 2 _ _ (numbered-as _ _ _ _ (e2 .before .before .before .before .heads2 .given ∙ e .before .before .before .before .heads .given) (p .1 .0)) (p .1 .1 .1 .0) (t .triangle-at .ensures) (omega arith) (omega arith), room-as (p .1 .1 .0) (omega (arith, p .1 .1 .1 .0)) (e2 .before .before .links2 .given ∙ e .before .before .links .given)))
 
-same-length-7 : tie.Need-same-length-7
-same-length-7 c = search needs
-
-same-length-8 : tie.Need-same-length-8
-same-length-8 c = search needs
-
-same-length-9 : tie.Need-same-length-9
-same-length-9 c = search needs
-
 returns-3 : tie.Need-returns-3
 returns-3 c = λ h. filled-as (omega arith) (c .before .before .before .before .before .before .add-new3 .ensures h)
 
@@ -90,22 +48,18 @@ pub add-triangle-spec : {M : Type 1} → statement M
 add-triangle-spec =
     tie.close
     (tie.spec
-    triangle-at-requires
-    mul-m
-    add-new-requires
-    same-length
-    same-length-2
-    same-length-3
-    returns
-    add-add-new
+    (λ c κs. search needs) (λ c. search needs) add-new-requires (λ c. search needs) (λ c. search needs)
+    (λ c. search needs)
+    (λ c. λ h. absurd (true≢false (sym h)))
+    (λ c. search needs)
     add-new-requires-2
-    same-length-4
-    same-length-5
-    same-length-6
-    returns-2
+    (λ c. search needs)
+    (λ c. search needs)
+    (λ c. search needs)
+    (λ c. λ h. absurd (true≢false (sym h)))
     add-add-new-2
     add-new-requires-3
-    same-length-7
-    same-length-8
-    same-length-9
+    (λ c. search needs)
+    (λ c. search needs)
+    (λ c. search needs)
     returns-3)

@@ -6,21 +6,12 @@ use borrow.Author.Needs.{needs}
 use Rattle.half_edges.proofs.opens.list_triangle.Statement.{statement}
 use Rattle.half_edges.proofs.opens.list_triangle.Tie as tie
 
-triangle-at-requires : tie.Need-triangle-at-requires
-triangle-at-requires c κs = search needs
-
-mul-m : tie.Need-mul-m
-mul-m c = search needs
-
 list-open-requires : tie.Need-list-open-requires
 list-open-requires c κs =
     let t = c .before in
     let s = t .before .before .before .before .before .before in
     let p = s .pre in
     (p .0, (side-at _ _ _ (s .args .k) 0 _ _ (p .1 .0) (p .1 .1 .1 .0) (t .triangle-at .ensures) (omega arith) (omega arith), (p .1 .1 .0, (omega arith, omega arith))))
-
-add-list-open : tie.Need-add-list-open
-add-list-open c = search needs
 
 list-open-requires-2 : tie.Need-list-open-requires-2
 list-open-requires-2 c κs =
@@ -44,9 +35,6 @@ list-open-requires-3 c κs =
     let p = s .pre in
     (p .0, (side-at _ _ _ (s .args .k) 2 _ _ (p .1 .0) (p .1 .1 .1 .0) (t .triangle-at .ensures) (omega arith) (omega arith), (opens-as (omega arith) (b .list-open2 .ensures), (omega arith, omega arith))))
 
-same-length : tie.Need-same-length
-same-length c = search needs
-
 returns : tie.Need-returns
 returns c = opens-as (omega arith) (c .before .before .list-open3 .ensures)
 
@@ -54,12 +42,5 @@ pub list-triangle-spec : {M : Type 1} → statement M
 list-triangle-spec =
     tie.close
     (tie.spec
-    triangle-at-requires
-    mul-m
-    list-open-requires
-    add-list-open
-    list-open-requires-2
-    add-list-open-2
-    list-open-requires-3
-    same-length
-    returns)
+    (λ c κs. search needs) (λ c. search needs) list-open-requires (λ c. search needs) list-open-requires-2
+    add-list-open-2 list-open-requires-3 (λ c. search needs) returns)

@@ -18,19 +18,10 @@ add-side-requires-2 c κs =
     let h = c .before .before .if1 .left in
     (s .pre .0 .chains h, (p .start, (p .end, (below-chains _ _ _ (p .start-fits) h, room-chains (s .pre .1 .1) h))))
 
-same-length : tie.Need-same-length
-same-length c = search needs
-
 returns : tie.Need-returns
 returns c =
     let a = c .before .before in
     of-bits (a .before .before .if1 .taken) (a .add-side .ensures)
-
-same-length-2 : tie.Need-same-length-2
-same-length-2 c = search needs
-
-same-length-3 : tie.Need-same-length-3
-same-length-3 c = search needs
 
 returns-2 : tie.Need-returns-2
 returns-2 c =
@@ -41,10 +32,5 @@ pub add-side-spec : {M : Type 1} → statement M
 add-side-spec =
     tie.close
     (tie.spec
-    add-side-requires
-    add-side-requires-2
-    same-length
-    returns
-    same-length-2
-    same-length-3
+    add-side-requires add-side-requires-2 (λ c. search needs) returns (λ c. search needs) (λ c. search needs)
     returns-2)

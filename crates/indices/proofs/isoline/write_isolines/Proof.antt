@@ -26,21 +26,6 @@ write-line-requires c κs =
     let some : 1 ≤ a .m = omega arith in
     (omega arith, omega (arith, mul-le-mul-right (a .n) some))
 
-mul-words : tie.Need-mul-words
-mul-words c = search needs
-
-add-write-copies : tie.Need-add-write-copies
-add-write-copies c = search needs
-
-cast-write-copies : tie.Need-cast-write-copies
-cast-write-copies c = search needs
-
-write-copies-requires : tie.Need-write-copies-requires
-write-copies-requires c κs = search needs
-
-same-length : tie.Need-same-length
-same-length c = search needs
-
 returns-2 : tie.Need-returns-2
 returns-2 c =
     let a = c .before .before .before .before .before .before .before .before .before .before .args in
@@ -55,11 +40,5 @@ pub write-isolines-spec : {M : Type 1} → statement M
 write-isolines-spec =
     tie.close
     (tie.spec
-    returns
-    write-line-requires
-    mul-words
-    add-write-copies
-    cast-write-copies
-    write-copies-requires
-    same-length
-    returns-2)
+    returns write-line-requires (λ c. search needs) (λ c. search needs) (λ c. search needs)
+    (λ c κs. search needs) (λ c. search needs) returns-2)

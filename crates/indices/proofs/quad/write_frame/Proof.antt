@@ -11,34 +11,10 @@ use Rattle.ring_indices.proofs.Bands.{side-next, band-step, band-last}
 use Rattle.indices.proofs.quad.write_frame.Statement.{statement}
 use Rattle.indices.proofs.quad.write_frame.Tie as tie
 
-add-write-strip : tie.Need-add-write-strip
-add-write-strip c = search needs
-
-add-write-strip-2 : tie.Need-add-write-strip-2
-add-write-strip-2 c = search needs
-
-add-write-strip-3 : tie.Need-add-write-strip-3
-add-write-strip-3 c = search needs
-
-left-requires : tie.Need-left-requires
-left-requires c κs = search needs
-
-write-strip-requires : tie.Need-write-strip-requires
-write-strip-requires c κs = search needs
-
-bottom-requires : tie.Need-bottom-requires
-bottom-requires c κs = search needs
-
 write-strip-requires-2 : tie.Need-write-strip-requires-2
 write-strip-requires-2 c κs =
     let a = c .before .before .before .before .before .before .before .before .args in
     omega (arith, c .before .before .before .before .before .before .before .before .pre .0, c .before .before .before .before .before .before .before .before .pre .1 .0, c .before .before .before .before .before .before .before .before .pre .1 .1, side-next (a .positive) (from 0 (ringAt 0 (a .c0 + a .c1 + a .c2 + a .c3))) (a .c0) (c .before .before .before .before .before .left .result) (c .before .before .before .before .write-strip .ensures), c .before .before .before .before .write-strip .kept .1 .0, c .before .before .before .before .before .left .ensures .count, c .bottom .ensures .count)
-
-add-write-strip-4 : tie.Need-add-write-strip-4
-add-write-strip-4 c = search needs
-
-right-requires : tie.Need-right-requires
-right-requires c κs = search needs
 
 write-strip-requires-3 : tie.Need-write-strip-requires-3
 write-strip-requires-3 c κs =
@@ -58,9 +34,6 @@ write-strip-requires-4 : tie.Need-write-strip-requires-4
 write-strip-requires-4 c κs =
     let a = c .before .before .before .before .before .before .before .before .before .before .before .before .before .before .before .before .before .before .args in
     omega (arith, c .before .before .before .before .before .before .before .before .before .before .before .before .before .before .before .before .before .before .pre .0, c .before .before .before .before .before .before .before .before .before .before .before .before .before .before .before .before .before .before .pre .1 .0, c .before .before .before .before .before .before .before .before .before .before .before .before .before .before .before .before .before .before .pre .1 .1, side-next (a .positive) (from 0 (ringAt 0 (a .c0 + a .c1 + a .c2 + a .c3))) (a .c0) (c .before .before .before .before .before .before .before .before .before .before .before .before .before .before .before .left .result) (c .before .before .before .before .before .before .before .before .before .before .before .before .before .before .write-strip .ensures), c .before .before .before .before .before .before .before .before .before .before .before .before .before .before .write-strip .kept .1 .0, c .before .before .before .before .before .before .before .before .before .before .before .before .before .before .before .left .ensures .count, side-next (a .positive) (from (a .c0) (ringAt 0 (a .c0 + a .c1 + a .c2 + a .c3))) (a .c1) (c .before .before .before .before .before .before .before .before .before .before .bottom .result) (c .before .before .before .before .before .before .before .before .before .write-strip2 .ensures), c .before .before .before .before .before .before .before .before .before .write-strip2 .kept .1 .0, c .before .before .before .before .before .before .before .before .before .before .bottom .ensures .count, side-next (a .positive) (from (a .c0 + a .c1) (ringAt 0 (a .c0 + a .c1 + a .c2 + a .c3))) (a .c2) (c .before .before .before .before .before .right .result) (c .before .before .before .before .write-strip3 .ensures), c .before .before .before .before .write-strip3 .kept .1 .0, c .before .before .before .before .before .right .ensures .count, c .top .ensures .count)
-
-same-length : tie.Need-same-length
-same-length c = search needs
 
 returns : tie.Need-returns
 returns c =
@@ -93,19 +66,7 @@ pub write-frame-spec : {M : Type 1} → statement M
 write-frame-spec =
     tie.close
     (tie.spec
-    add-write-strip
-    add-write-strip-2
-    add-write-strip-3
-    left-requires
-    write-strip-requires
-    bottom-requires
-    write-strip-requires-2
-    add-write-strip-4
-    right-requires
-    write-strip-requires-3
-    add-write-strip-5
-    add-write-strip-6
-    top-requires
-    write-strip-requires-4
-    same-length
-    returns)
+    (λ c. search needs) (λ c. search needs) (λ c. search needs) (λ c κs. search needs) (λ c κs. search needs)
+    (λ c κs. search needs) write-strip-requires-2 (λ c. search needs) (λ c κs. search needs)
+    write-strip-requires-3 add-write-strip-5 add-write-strip-6 top-requires write-strip-requires-4
+    (λ c. search needs) returns)

@@ -25,10 +25,7 @@ pub write-along-spec : {M : Type 1} → statement M
 write-along-spec =
     tie.close
     (tie.spec
-    (λ c. search needs)
-    row-of-requires
-    write-rows-requires
-    (λ c. search needs)
+    (λ c. search needs) row-of-requires write-rows-requires (λ c. search needs)
     (λ c. search (rows-written, needs))
     (λ c. search needs)
     (λ c κs. search needs)

@@ -37,25 +37,9 @@ pub write-isolines-spec : {M : Type 1} → statement M
 write-isolines-spec =
     tie.close
     (tie.spec
-    (λ c κs. search needs)
-    (λ c κs. search needs)
-    (λ c κs. search needs)
-    (λ c. search needs)
-    write-by-spacing-requires
-    (λ c. search needs)
-    (λ c. search needs)
-    (λ c κs. search needs)
-    (λ c. search needs)
-    write-by-spacing-requires-2
-    (λ c. search needs)
-    (λ c. search needs)
-    (λ c κs. search needs)
-    (λ c. search needs)
-    write-by-spacing-requires-3
-    (λ c. search needs)
-    (λ c. search needs)
-    (λ c κs. search needs)
-    (λ c. search needs)
-    write-by-spacing-requires-4
-    (λ c. search needs)
-    (λ c. search needs))
+    (λ c κs. search needs) (λ c κs. search needs) (λ c κs. search needs) (λ c. search needs)
+    write-by-spacing-requires (λ c. search needs) (λ c. search needs) (λ c κs. search needs)
+    (λ c. search needs) write-by-spacing-requires-2 (λ c. search needs) (λ c. search needs)
+    (λ c κs. search needs) (λ c. search needs) write-by-spacing-requires-3 (λ c. search needs)
+    (λ c. search needs) (λ c κs. search needs) (λ c. search needs) write-by-spacing-requires-4
+    (λ c. search needs) (λ c. search needs))

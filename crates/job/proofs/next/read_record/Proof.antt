@@ -6,26 +6,8 @@ use Rattle.job.proofs.Records.{record-read, record-end, record-cut, rec
 use Rattle.job.proofs.next.read_record.Statement.{statement}
 use Rattle.job.proofs.next.read_record.Tie as tie
 
-returns : tie.Need-returns
-returns c = record-read _ _ _ (record-end _ _ _ (c .if1 .taken))
-
-record-size-requires : tie.Need-record-size-requires
-record-size-requires c κs = search needs
-
-sub-if2 : tie.Need-sub-if2
-sub-if2 c = search needs
-
 returns-2 : tie.Need-returns-2
 returns-2 c = record-read _ _ _ (record-cut _ _ _ (c .before .before .if1 .left) (omega (arith, c .before .record-size .ensures, c .if2 .taken)))
-
-add-t9 : tie.Need-add-t9
-add-t9 c = search needs
-
-unknown-place-requires : tie.Need-unknown-place-requires
-unknown-place-requires c κs = search needs
-
-setting-bytes-requires : tie.Need-setting-bytes-requires
-setting-bytes-requires c κs = search needs
 
 returns-3 : tie.Need-returns-3
 returns-3 c =
@@ -35,9 +17,6 @@ returns-3 c =
     record-read _ _ _
     (record-unknown _ _ _ (omega (arith, size, found .before .if2 .left)) (omega (arith, place, c .before .setting-bytes .ensures, c .if3 .taken))
     ∙ rw (sym place, sym size))
-
-read-whole-requires : tie.Need-read-whole-requires
-read-whole-requires c κs = search needs
 
 returns-4 : tie.Need-returns-4
 returns-4 c =
@@ -52,13 +31,13 @@ pub read-record-spec : {M : Type 1} → statement M
 read-record-spec =
     tie.close
     (tie.spec
-    returns
-    record-size-requires
-    sub-if2
+    (λ c. record-read _ _ _ (record-end _ _ _ (c .if1 .taken)))
+    (λ c κs. search needs)
+    (λ c. search needs)
     returns-2
-    add-t9
-    unknown-place-requires
-    setting-bytes-requires
+    (λ c. search needs)
+    (λ c κs. search needs)
+    (λ c κs. search needs)
     returns-3
-    read-whole-requires
+    (λ c κs. search needs)
     returns-4)

@@ -3,24 +3,6 @@ use borrow.Author.Needs.{needs}
 use Rattle.job_bytes.proofs.level_bits.bits_of.Statement.{statement}
 use Rattle.job_bytes.proofs.level_bits.bits_of.Tie as tie
 
-bits-of-level-requires : tie.Need-bits-of-level-requires
-bits-of-level-requires c κs = search needs
-
-bits-of-level-requires-2 : tie.Need-bits-of-level-requires-2
-bits-of-level-requires-2 c κs = search needs
-
-bits-of-level-requires-3 : tie.Need-bits-of-level-requires-3
-bits-of-level-requires-3 c κs = search needs
-
-bits-of-level-requires-4 : tie.Need-bits-of-level-requires-4
-bits-of-level-requires-4 c κs = search needs
-
-bits-of-level-requires-5 : tie.Need-bits-of-level-requires-5
-bits-of-level-requires-5 c κs = search needs
-
-bits-of-level-requires-6 : tie.Need-bits-of-level-requires-6
-bits-of-level-requires-6 c κs = search needs
-
 returns : tie.Need-returns
 returns c =
     let half = c .before .before .before in
@@ -31,10 +13,5 @@ pub bits-of-spec : {M : Type 1} → statement M
 bits-of-spec =
     tie.close
     (tie.spec
-    bits-of-level-requires
-    bits-of-level-requires-2
-    bits-of-level-requires-3
-    bits-of-level-requires-4
-    bits-of-level-requires-5
-    bits-of-level-requires-6
-    returns)
+    (λ c κs. search needs) (λ c κs. search needs) (λ c κs. search needs) (λ c κs. search needs)
+    (λ c κs. search needs) (λ c κs. search needs) returns)

@@ -10,9 +10,6 @@ use lib.ListN.{length}
 use Rattle.job_bytes.proofs.record_bytes.put_levels.Statement.{statement}
 use Rattle.job_bytes.proofs.record_bytes.put_levels.Tie as tie
 
-put-u32-requires : tie.Need-put-u32-requires
-put-u32-requires c κs = search needs
-
 put-u32-requires-2 : tie.Need-put-u32-requires-2
 unfolding lowBytes
 put-u32-requires-2 c κs = omega arith
@@ -32,9 +29,6 @@ put-u32-requires-5 c κs = omega arith
 put-u32-requires-6 : tie.Need-put-u32-requires-6
 unfolding lowBytes
 put-u32-requires-6 c κs = omega arith
-
-same-length : tie.Need-same-length
-same-length c = search needs
 
 returns : tie.Need-returns
 unfolding levelBytes
@@ -59,11 +53,5 @@ pub put-levels-spec : {M : Type 1} → statement M
 put-levels-spec =
     tie.close
     (tie.spec
-    put-u32-requires
-    put-u32-requires-2
-    put-u32-requires-3
-    put-u32-requires-4
-    put-u32-requires-5
-    put-u32-requires-6
-    same-length
-    returns)
+    (λ c κs. search needs) put-u32-requires-2 put-u32-requires-3 put-u32-requires-4 put-u32-requires-5
+    put-u32-requires-6 (λ c. search needs) returns)

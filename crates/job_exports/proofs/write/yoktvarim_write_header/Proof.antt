@@ -7,35 +7,11 @@ use Rattle.job_exports.proofs.Calls.{kept, done, header-other, header-k
 use Rattle.job_exports.proofs.write.yoktvarim_write_header.Statement.{statement}
 use Rattle.job_exports.proofs.write.yoktvarim_write_header.Tie as tie
 
-is-version-requires : tie.Need-is-version-requires
-is-version-requires c κs = search needs
-
-refusal-requires : tie.Need-refusal-requires
-refusal-requires c κs = search needs
-
-say-one-requires : tie.Need-say-one-requires
-say-one-requires c κs = search needs
-
 returns : tie.Need-returns
 returns c =
     let version = c .before .before .before .before in
     kept (header-other _ _ (bad (version .is-version .result) (version .is-version .ensures) (c .before .before .before .if1 .taken))) 5 refl
     (said-one (c .before .before .refusal .ensures) (c .say-one .ensures))
-
-version-in-requires : tie.Need-version-in-requires
-version-in-requires c κs = search needs
-
-write-header-requires : tie.Need-write-header-requires
-write-header-requires c κs = search needs
-
-of-written-header-requires : tie.Need-of-written-header-requires
-of-written-header-requires c κs = search needs
-
-say-one-requires-2 : tie.Need-say-one-requires-2
-say-one-requires-2 c κs = search needs
-
-same-length : tie.Need-same-length
-same-length c = search needs
 
 returns-2 : tie.Need-returns-2
 returns-2 c =
@@ -49,13 +25,5 @@ pub yoktvarim-write-header-spec : {M : Type 1} → statement M
 yoktvarim-write-header-spec =
     tie.close
     (tie.spec
-    is-version-requires
-    refusal-requires
-    say-one-requires
-    returns
-    version-in-requires
-    write-header-requires
-    of-written-header-requires
-    say-one-requires-2
-    same-length
-    returns-2)
+    (λ c κs. search needs) (λ c κs. search needs) (λ c κs. search needs) returns (λ c κs. search needs)
+    (λ c κs. search needs) (λ c κs. search needs) (λ c κs. search needs) (λ c. search needs) returns-2)

@@ -9,35 +9,11 @@ use Rattle.job_exports.proofs.Calls.{kept, done, record-other, record-t
 use Rattle.job_exports.proofs.write.yoktvarim_write_record.Statement.{statement}
 use Rattle.job_exports.proofs.write.yoktvarim_write_record.Tie as tie
 
-is-version-requires : tie.Need-is-version-requires
-is-version-requires c κs = search needs
-
-refusal-requires : tie.Need-refusal-requires
-refusal-requires c κs = search needs
-
-say-one-requires : tie.Need-say-one-requires
-say-one-requires c κs = search needs
-
 returns : tie.Need-returns
 returns c =
     let version = c .before .before .before .before in
     kept (record-other _ _ _ (bad (version .is-version .result) (version .is-version .ensures) (c .before .before .before .if1 .taken))) 5 refl
     (said-one (c .before .before .refusal .ensures) (c .say-one .ensures))
-
-version-in-requires : tie.Need-version-in-requires
-version-in-requires c κs = search needs
-
-top-in-requires : tie.Need-top-in-requires
-top-in-requires c κs = search needs
-
-takes-top-requires : tie.Need-takes-top-requires
-takes-top-requires c κs = search needs
-
-bad-top-requires : tie.Need-bad-top-requires
-bad-top-requires c κs = search needs
-
-say-one-requires-2 : tie.Need-say-one-requires-2
-say-one-requires-2 c κs = search needs
 
 returns-2 : tie.Need-returns-2
 returns-2 c =
@@ -49,15 +25,6 @@ returns-2 c =
     kept
     (record-top _ _ _ (good (version .is-version .result) (version .is-version .ensures) (known .before .if1 .left)) (bad (takes .takes-top .result) taken (c .before .before .before .if2 .taken)))
     10 refl (said-one (c .before .before .bad-top .ensures) (c .say-one2 .ensures))
-
-first-unknown-requires : tie.Need-first-unknown-requires
-first-unknown-requires c κs = search needs
-
-unknown-setting-requires : tie.Need-unknown-setting-requires
-unknown-setting-requires c κs = search needs
-
-say-one-requires-3 : tie.Need-say-one-requires-3
-say-one-requires-3 c κs = search needs
 
 returns-3 : tie.Need-returns-3
 returns-3 c =
@@ -72,21 +39,6 @@ returns-3 c =
     (record-unknown _ _ _ (good (version .is-version .result) (version .is-version .ensures) (known .before .if1 .left)) (good (takes .takes-top .result) taken (first .before .before .if2 .left))
     (omega (arith, is, c .before .before .before .if3 .taken)))
     7 refl (said-one (tells-as (ap unknownSetting (sym is)) (c .before .before .unknown-setting .ensures)) (c .say-one3 .ensures))
-
-record-in-requires : tie.Need-record-in-requires
-record-in-requires c κs = search needs
-
-write-record-requires : tie.Need-write-record-requires
-write-record-requires c κs = search needs
-
-of-written-record-requires : tie.Need-of-written-record-requires
-of-written-record-requires c κs = search needs
-
-say-one-requires-4 : tie.Need-say-one-requires-4
-say-one-requires-4 c κs = search needs
-
-same-length : tie.Need-same-length
-same-length c = search needs
 
 returns-4 : tie.Need-returns-4
 returns-4 c =
@@ -108,23 +60,7 @@ pub yoktvarim-write-record-spec : {M : Type 1} → statement M
 yoktvarim-write-record-spec =
     tie.close
     (tie.spec
-    is-version-requires
-    refusal-requires
-    say-one-requires
-    returns
-    version-in-requires
-    top-in-requires
-    takes-top-requires
-    bad-top-requires
-    say-one-requires-2
-    returns-2
-    first-unknown-requires
-    unknown-setting-requires
-    say-one-requires-3
-    returns-3
-    record-in-requires
-    write-record-requires
-    of-written-record-requires
-    say-one-requires-4
-    same-length
-    returns-4)
+    (λ c κs. search needs) (λ c κs. search needs) (λ c κs. search needs) returns (λ c κs. search needs)
+    (λ c κs. search needs) (λ c κs. search needs) (λ c κs. search needs) (λ c κs. search needs) returns-2
+    (λ c κs. search needs) (λ c κs. search needs) (λ c κs. search needs) returns-3 (λ c κs. search needs)
+    (λ c κs. search needs) (λ c κs. search needs) (λ c κs. search needs) (λ c. search needs) returns-4)

@@ -19,21 +19,6 @@ decides c t e =
     let top = rw (two .enum-told2 .given .1) at (c .is-top .ensures ∙ ap isTop (c .before .read-top .ensures)) in
     rw (two .enum-told2 .given .1) (sym (place-top _ _ (omega (arith, first, c .before .before .if1 .left)) t (sym top ∙ e)))
 
-first-unknown-requires : tie.Need-first-unknown-requires
-first-unknown-requires c κs = search needs
-
-enum-told : tie.Need-enum-told
-enum-told c = search needs
-
-enum-told-2 : tie.Need-enum-told-2
-enum-told-2 c = search needs
-
-read-top-requires : tie.Need-read-top-requires
-read-top-requires c κs = search needs
-
-is-top-requires : tie.Need-is-top-requires
-is-top-requires c κs = search needs
-
 returns : tie.Need-returns
 unfolding unknownPlace
 returns c = rw (c .enum-told .given .1) (c .before .before .first-unknown .ensures)
@@ -43,22 +28,11 @@ returns-2 c =
     let first = c .before .before .before .first-unknown .ensures in
     rw (c .before .enum-told2 .given .1) (first ∙ sym (place-setting _ _ (omega (arith, first, c .if1 .taken))))
 
-returns-3 : tie.Need-returns-3
-returns-3 c = decides (c .before) true (c .if2 .taken)
-
-returns-4 : tie.Need-returns-4
-returns-4 c = decides (c .before) false (c .if2 .left)
-
 pub unknown-place-spec : {M : Type 1} → statement M
 unknown-place-spec =
     tie.close
     (tie.spec
-    first-unknown-requires
-    enum-told
-    enum-told-2
-    read-top-requires
-    is-top-requires
-    returns
-    returns-2
-    returns-3
-    returns-4)
+    (λ c κs. search needs) (λ c. search needs) (λ c. search needs) (λ c κs. search needs)
+    (λ c κs. search needs) returns returns-2
+    (λ c. decides (c .before) true (c .if2 .taken))
+    (λ c. decides (c .before) false (c .if2 .left)))

@@ -6,17 +6,8 @@ use Rattle.job_fields.specs.Bytes.{word}
 use Rattle.job_fields.proofs.word.read_u16.Statement.{statement}
 use Rattle.job_fields.proofs.word.read_u16.Tie as tie
 
-shared-slice-read-low : tie.Need-shared-slice-read-low
-shared-slice-read-low c = search needs
-
 cast-low : tie.Need-cast-low
 cast-low c = omega (arith, c .shared-slice-known .given (c .before .args .at))
-
-add-high : tie.Need-add-high
-add-high c = search needs
-
-shared-slice-read-high : tie.Need-shared-slice-read-high
-shared-slice-read-high c = search needs
 
 cast-high : tie.Need-cast-high
 cast-high c = omega (arith, c .shared-slice-known2 .given (c .before .before .args .at + 1))
@@ -35,11 +26,5 @@ pub read-u16-spec : {M : Type 1} → statement M
 read-u16-spec =
     tie.close
     (tie.spec
-    shared-slice-read-low
-    cast-low
-    add-high
-    shared-slice-read-high
-    cast-high
-    mul-result
-    add-result
+    (λ c. search needs) cast-low (λ c. search needs) (λ c. search needs) cast-high mul-result add-result
     returns)

@@ -6,31 +6,13 @@ use Rattle.job_words.proofs.Places.{number-small, found-end, found-othe
 use Rattle.job_words.proofs.found.found_at.Statement.{statement}
 use Rattle.job_words.proofs.found.found_at.Tie as tie
 
-nothing-read-requires : tie.Need-nothing-read-requires
-nothing-read-requires c κs = search needs
-
 returns : tie.Need-returns
 returns c = c .nothing-read .ensures ∙ sym (found-end _ _ _ (c .before .if1 .taken))
-
-is-version-requires : tie.Need-is-version-requires
-is-version-requires c κs = search needs
-
-nothing-read-requires-2 : tie.Need-nothing-read-requires-2
-nothing-read-requires-2 c κs = search needs
 
 returns-2 : tie.Need-returns-2
 returns-2 c =
     let version = c .before .before in
     c .nothing-read2 .ensures ∙ sym (found-other _ _ _ (version .before .if1 .left) (bad (version .is-version .result) (version .is-version .ensures) (c .before .if2 .taken)))
-
-version-in-requires : tie.Need-version-in-requires
-version-in-requires c κs = search needs
-
-read-record-requires : tie.Need-read-record-requires
-read-record-requires c κs = search needs
-
-found-of-requires : tie.Need-found-of-requires
-found-of-requires c κs = number-small _ _ _ _ (sym (c .read-record .ensures .is))
 
 returns-3 : tie.Need-returns-3
 returns-3 c =
@@ -45,12 +27,7 @@ pub found-at-spec : {M : Type 1} → statement M
 found-at-spec =
     tie.close
     (tie.spec
-    nothing-read-requires
-    returns
-    is-version-requires
-    nothing-read-requires-2
-    returns-2
-    version-in-requires
-    read-record-requires
-    found-of-requires
+    (λ c κs. search needs) returns (λ c κs. search needs) (λ c κs. search needs) returns-2
+    (λ c κs. search needs) (λ c κs. search needs)
+    (λ c κs. number-small _ _ _ _ (sym (c .read-record .ensures .is)))
     returns-3)

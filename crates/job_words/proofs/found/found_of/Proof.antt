@@ -5,32 +5,11 @@ use mathlib.Core.Path.{_∙_}
 use Rattle.job_words.proofs.found.found_of.Statement.{statement}
 use Rattle.job_words.proofs.found.found_of.Tie as tie
 
-enum-known-found : tie.Need-enum-known-found
-enum-known-found c = search needs
-
 whole-record-requires : tie.Need-whole-record-requires
 whole-record-requires c κs = rw (c .before .found .given .1) at (c .before .before .before .pre)
 
-enum-told : tie.Need-enum-told
-enum-told c = search needs
-
-nothing-read-requires : tie.Need-nothing-read-requires
-nothing-read-requires c κs = search needs
-
-enum-told-2 : tie.Need-enum-told-2
-enum-told-2 c = search needs
-
-nothing-read-requires-2 : tie.Need-nothing-read-requires-2
-nothing-read-requires-2 c κs = search needs
-
-enum-known-found-2 : tie.Need-enum-known-found-2
-enum-known-found-2 c = search needs
-
 cast-nothing-read : tie.Need-cast-nothing-read
 cast-nothing-read c = omega (arith, rw (c .before .found2 .given .1) at (c .before .before .before .pre))
-
-nothing-read-requires-3 : tie.Need-nothing-read-requires-3
-nothing-read-requires-3 c κs = search needs
 
 returns : tie.Need-returns
 returns c = c .whole-record .ensures ∙ rw (c .before .before .found .given .1)
@@ -48,16 +27,6 @@ pub found-of-spec : {M : Type 1} → statement M
 found-of-spec =
     tie.close
     (tie.spec
-    enum-known-found
-    whole-record-requires
-    enum-told
-    nothing-read-requires
-    enum-told-2
-    nothing-read-requires-2
-    enum-known-found-2
-    cast-nothing-read
-    nothing-read-requires-3
-    returns
-    returns-2
-    returns-3
-    returns-4)
+    (λ c. search needs) whole-record-requires (λ c. search needs) (λ c κs. search needs) (λ c. search needs)
+    (λ c κs. search needs) (λ c. search needs) cast-nothing-read (λ c κs. search needs) returns returns-2
+    returns-3 returns-4)

@@ -10,30 +10,12 @@ use Prim.Native.Nat.{zero-le}
 use Rattle.job_writer.proofs.header.write_header.Statement.{statement}
 use Rattle.job_writer.proofs.header.write_header.Tie as tie
 
-returns : tie.Need-returns
-returns c = header-no-room _ (c .if1 .taken)
-
-version-number-requires : tie.Need-version-number-requires
-version-number-requires c κs = search needs
-
 cast-number : tie.Need-cast-number
 cast-number c = omega (arith, c .version-number .ensures, number-small (c .before .before .before .args .version))
-
-slice-aggregate-put-bytes : tie.Need-slice-aggregate-put-bytes
-slice-aggregate-put-bytes c = search needs
-
-put-bytes-requires : tie.Need-put-bytes-requires
-put-bytes-requires c κs = search needs
-
-put-u16-requires : tie.Need-put-u16-requires
-put-u16-requires c κs = search needs
 
 cast-t9 : tie.Need-cast-t9
 unfolding lowBytes
 cast-t9 c = omega arith
-
-same-length : tie.Need-same-length
-same-length c = search needs
 
 returns-2 : tie.Need-returns-2
 unfolding headerBytes
@@ -47,12 +29,12 @@ pub write-header-spec : {M : Type 1} → statement M
 write-header-spec =
     tie.close
     (tie.spec
-    returns
-    version-number-requires
+    (λ c. header-no-room _ (c .if1 .taken))
+    (λ c κs. search needs)
     cast-number
-    slice-aggregate-put-bytes
-    put-bytes-requires
-    put-u16-requires
+    (λ c. search needs)
+    (λ c κs. search needs)
+    (λ c κs. search needs)
     cast-t9
-    same-length
+    (λ c. search needs)
     returns-2)

@@ -28,14 +28,8 @@ patterns c =
 good : (c : tie.Else1) → takesTop (c .before .before .before .before .args .version) (c .before .before .before .before .args .«record» .settings .top) ≡ true
 good c = sym (c .before .takes-top .ensures) ∙ not-false _ (c .if1 .left)
 
-takes-top-requires : tie.Need-takes-top-requires
-takes-top-requires c κs = search needs
-
 returns : tie.Need-returns
 returns c = record-bad-top _ _ (sym (c .before .takes-top .ensures) ∙ not-true _ (c .if1 .taken))
-
-record-size-requires : tie.Need-record-size-requires
-record-size-requires c κs = search needs
 
 returns-2 : tie.Need-returns-2
 returns-2 c = record-no-room _ _ (good (c .before .before)) (omega (arith, c .before .record-size .ensures, c .if2 .taken))
@@ -47,9 +41,6 @@ cast-t13 : tie.Need-cast-t13
 cast-t13 c =
     let start = c .before .before .before .before .before .before .before .before .before .before in
     omega (arith, record-length (start .args .version) (start .args .«record»), size-small (start .args .version))
-
-same-length : tie.Need-same-length
-same-length c = search needs
 
 returns-3 : tie.Need-returns-3
 returns-3 c =
@@ -64,11 +55,5 @@ pub write-record-spec : {M : Type 1} → statement M
 write-record-spec =
     tie.close
     (tie.spec
-    takes-top-requires
-    returns
-    record-size-requires
-    returns-2
-    put-record-requires
-    cast-t13
-    same-length
-    returns-3)
+    (λ c κs. search needs) returns (λ c κs. search needs) returns-2 put-record-requires cast-t13
+    (λ c. search needs) returns-3)

@@ -6,24 +6,12 @@ use Rattle.buffer.proofs.Laws.{wrote-then}
 use Rattle.mesh_text.proofs.lists.put_mesh.Statement.{statement}
 use Rattle.mesh_text.proofs.lists.put_mesh.Tie as tie
 
-put-drawn-requires : tie.Need-put-drawn-requires
-put-drawn-requires c κs = search needs
-
-put-points-requires : tie.Need-put-points-requires
-put-points-requires c κs = search needs
-
-div-put-primitives : tie.Need-div-put-primitives
-div-put-primitives c = search needs
-
 put-primitives-requires : tie.Need-put-primitives-requires
 put-primitives-requires c κs =
     let start = c .before .before .before .before .before .before .before .before .before .before .before .before in
     let a = start .args in
     let m = start .pre .0 in
     ((m .some, m .most, rw zero-add (le-trans (mul-div-le (a .words) (a .width)) (m .indices))), omega arith)
-
-same-length : tie.Need-same-length
-same-length c = search needs
 
 returns : tie.Need-returns
 returns c =
@@ -34,9 +22,5 @@ pub put-mesh-spec : {M : Type 1} → statement M
 put-mesh-spec =
     tie.close
     (tie.spec
-    put-drawn-requires
-    put-points-requires
-    div-put-primitives
-    put-primitives-requires
-    same-length
-    returns)
+    (λ c κs. search needs) (λ c κs. search needs) (λ c. search needs) put-primitives-requires
+    (λ c. search needs) returns)

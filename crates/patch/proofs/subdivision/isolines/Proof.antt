@@ -4,24 +4,9 @@ use Rattle.patch.specs.Subdivide.{subdivision}
 use Rattle.patch.proofs.subdivision.isolines.Statement.{statement}
 use Rattle.patch.proofs.subdivision.isolines.Tie as tie
 
-discards2-requires : tie.Need-discards2-requires
-discards2-requires c κs = search needs
-
 returns : tie.Need-returns
 unfolding subdivision
 returns c = rw (← c .before .discards2 .ensures, c .if1 .taken)
-
-range-of-requires : tie.Need-range-of-requires
-range-of-requires c κs = search needs
-
-range-of-requires-2 : tie.Need-range-of-requires-2
-range-of-requires-2 c κs = search needs
-
-segments-in-requires : tie.Need-segments-in-requires
-segments-in-requires c κs = search needs
-
-segments-in-requires-2 : tie.Need-segments-in-requires-2
-segments-in-requires-2 c κs = search needs
 
 returns-2 : tie.Need-returns-2
 unfolding subdivision
@@ -31,10 +16,5 @@ pub isolines-spec : {M : Type 1} → statement M
 isolines-spec =
     tie.close
     (tie.spec
-    discards2-requires
-    returns
-    range-of-requires
-    range-of-requires-2
-    segments-in-requires
-    segments-in-requires-2
-    returns-2)
+    (λ c κs. search needs) returns (λ c κs. search needs) (λ c κs. search needs) (λ c κs. search needs)
+    (λ c κs. search needs) returns-2)

@@ -20,48 +20,9 @@ summed : {s : Spacing} {n : ℕ} {a b c d i j : Float} {p q r t u v : Segments} 
 unfolding total
 summed k1 k2 k3 k4 k5 k6 = omega arith
 
-discards4-requires : tie.Need-discards4-requires
-discards4-requires c κs = search needs
-
 returns : tie.Need-returns
 unfolding subdivision
 returns c = rw (← c .before .discards4 .ensures, c .if1 .taken)
-
-range-of-requires : tie.Need-range-of-requires
-range-of-requires c κs = search needs
-
-segments-in-requires : tie.Need-segments-in-requires
-segments-in-requires c κs = search needs
-
-segments-beside-requires : tie.Need-segments-beside-requires
-segments-beside-requires c κs = search needs
-
-segments-beside-requires-2 : tie.Need-segments-beside-requires-2
-segments-beside-requires-2 c κs = search needs
-
-segments-beside-requires-3 : tie.Need-segments-beside-requires-3
-segments-beside-requires-3 c κs = search needs
-
-segments-beside-requires-4 : tie.Need-segments-beside-requires-4
-segments-beside-requires-4 c κs = search needs
-
-segments-beside-requires-5 : tie.Need-segments-beside-requires-5
-segments-beside-requires-5 c κs = search needs
-
-add-outline : tie.Need-add-outline
-add-outline c = search needs
-
-add-outline-2 : tie.Need-add-outline-2
-add-outline-2 c = search needs
-
-add-outline-3 : tie.Need-add-outline-3
-add-outline-3 c = search needs
-
-add-if2 : tie.Need-add-if2
-add-if2 c = search needs
-
-add-if2-2 : tie.Need-add-if2-2
-add-if2-2 c = search needs
 
 returns-2 : tie.Need-returns-2
 unfolding subdivision
@@ -75,12 +36,6 @@ returns-2 c =
     let a = e1 .before .before .before .before .args in
     let sum = summed (e1 .segments-in .ensures) (e2 .segments-beside .ensures) (e3 .segments-beside2 .ensures) (e4 .segments-beside3 .ensures) (e5 .segments-beside4 .ensures) (e6 .segments-beside5 .ensures) in
     rw (← e1 .before .before .before .discards4 .ensures, e1 .before .before .if1 .left, every-one (count (a .spacing) (a .top)) (least (a .spacing) (a .top) (e1 .before .before .before .before .pre)) (a .outer0 ∷ a .outer1 ∷ a .outer2 ∷ a .outer3 ∷ a .inner0 ∷ a .inner1 ∷ []) (sum ∙ c .if2 .taken))
-
-as-inner-requires : tie.Need-as-inner-requires
-as-inner-requires c κs = search needs
-
-as-inner-requires-2 : tie.Need-as-inner-requires-2
-as-inner-requires-2 c κs = search needs
 
 returns-3 : tie.Need-returns-3
 unfolding subdivision
@@ -111,21 +66,7 @@ pub quad-spec : {M : Type 1} → statement M
 quad-spec =
     tie.close
     (tie.spec
-    discards4-requires
-    returns
-    range-of-requires
-    segments-in-requires
-    segments-beside-requires
-    segments-beside-requires-2
-    segments-beside-requires-3
-    segments-beside-requires-4
-    segments-beside-requires-5
-    add-outline
-    add-outline-2
-    add-outline-3
-    add-if2
-    add-if2-2
-    returns-2
-    as-inner-requires
-    as-inner-requires-2
-    returns-3)
+    (λ c κs. search needs) returns (λ c κs. search needs) (λ c κs. search needs) (λ c κs. search needs)
+    (λ c κs. search needs) (λ c κs. search needs) (λ c κs. search needs) (λ c κs. search needs)
+    (λ c. search needs) (λ c. search needs) (λ c. search needs) (λ c. search needs) (λ c. search needs)
+    returns-2 (λ c κs. search needs) (λ c κs. search needs) returns-3)

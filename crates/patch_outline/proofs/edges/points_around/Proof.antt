@@ -6,9 +6,6 @@ use borrow.Author.Needs.{needs}
 use Rattle.patch_outline.proofs.edges.points_around.Statement.{statement}
 use Rattle.patch_outline.proofs.edges.points_around.Tie as tie
 
-enum-known-edges : tie.Need-enum-known-edges
-enum-known-edges c = search needs
-
 add-result : tie.Need-add-result
 add-result c =
     let k = c .before .before .before in
@@ -20,9 +17,6 @@ add-result-2 c =
     let k = c .before .before .before .before in
     let v = valid-as (k .edges .given .1) (k .before .before .pre) in
     omega (arith, v .0 .few, v .1 .few, v .2 .few)
-
-enum-known-edges-2 : tie.Need-enum-known-edges-2
-enum-known-edges-2 c = search needs
 
 add-result-3 : tie.Need-add-result-3
 add-result-3 c =
@@ -42,30 +36,15 @@ add-result-5 c =
     let v = valid-as (k .edges2 .given .1) (k .before .before .pre) in
     omega (arith, v .0 .few, v .1 .few, v .2 .few, v .3 .few)
 
-enum-told : tie.Need-enum-told
-enum-told c = search needs
-
 returns : tie.Need-returns
 returns c = around-as (c .before .before .before .before .edges .given .1) (sym (three-around _ _ _))
 
 returns-2 : tie.Need-returns-2
 returns-2 c = around-as (c .before .before .before .before .before .edges2 .given .1) (sym (four-around _ _ _ _))
 
-returns-3 : tie.Need-returns-3
-returns-3 c = search needs
-
 pub points-around-spec : {M : Type 1} → statement M
 points-around-spec =
     tie.close
     (tie.spec
-    enum-known-edges
-    add-result
-    add-result-2
-    enum-known-edges-2
-    add-result-3
-    add-result-4
-    add-result-5
-    enum-told
-    returns
-    returns-2
-    returns-3)
+    (λ c. search needs) add-result add-result-2 (λ c. search needs) add-result-3 add-result-4 add-result-5
+    (λ c. search needs) returns returns-2 (λ c. search needs))

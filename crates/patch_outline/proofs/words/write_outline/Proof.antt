@@ -5,18 +5,12 @@ use borrow.Author.Needs.{needs}
 use Rattle.patch_outline.proofs.words.write_outline.Statement.{statement}
 use Rattle.patch_outline.proofs.words.write_outline.Tie as tie
 
-enum-known-edges : tie.Need-enum-known-edges
-enum-known-edges c = search needs
-
 write-triangle-requires : tie.Need-write-triangle-requires
 write-triangle-requires c κs =
     let k = c .before .before in
     let p = k .before .before .before .pre in
     let e = k .edges .given .1 in
     (valid-as e (p .0), three-room e (p .1))
-
-enum-known-edges-2 : tie.Need-enum-known-edges-2
-enum-known-edges-2 c = search needs
 
 write-quad-requires : tie.Need-write-quad-requires
 write-quad-requires c κs =
@@ -25,39 +19,20 @@ write-quad-requires c κs =
     let e = k .edges2 .given .1 in
     (valid-as e (p .0), four-room e (p .1))
 
-enum-told : tie.Need-enum-told
-enum-told c = search needs
-
-same-length : tie.Need-same-length
-same-length c = search needs
-
 returns : tie.Need-returns
 returns c =
     let w = c .before .before in
     outline-as (w .before .before .before .edges .given .1) (w .write-triangle .ensures)
-
-same-length-2 : tie.Need-same-length-2
-same-length-2 c = search needs
 
 returns-2 : tie.Need-returns-2
 returns-2 c =
     let w = c .before .before in
     outline-as (w .before .before .before .edges2 .given .1) (w .write-quad .ensures)
 
-returns-3 : tie.Need-returns-3
-returns-3 c = outline-as (c .enum-told .given .1) no-outline
-
 pub write-outline-spec : {M : Type 1} → statement M
 write-outline-spec =
     tie.close
     (tie.spec
-    enum-known-edges
-    write-triangle-requires
-    enum-known-edges-2
-    write-quad-requires
-    enum-told
-    same-length
-    returns
-    same-length-2
-    returns-2
-    returns-3)
+    (λ c. search needs) write-triangle-requires (λ c. search needs) write-quad-requires (λ c. search needs)
+    (λ c. search needs) returns (λ c. search needs) returns-2
+    (λ c. outline-as (c .enum-told .given .1) no-outline))

@@ -9,9 +9,6 @@ use Rattle.patch_writer.proofs.Modes.{mode-room, in-mode, dots-as}
 use Rattle.patch_writer.proofs.connect.write_indices.Statement.{statement}
 use Rattle.patch_writer.proofs.connect.write_indices.Tie as tie
 
-point-count-requires : tie.Need-point-count-requires
-point-count-requires c κs = search needs
-
 write-dots-requires : tie.Need-write-dots-requires
 write-dots-requires c κs =
     let start = c .before .before .before .before in
@@ -19,9 +16,6 @@ write-dots-requires c κs =
     let few = point-count (a .cut) (start .pre .0) in
     let room = mode-room (a .positive) (a .cut) (start .pre .1 .1) (c .before .before .if1 .taken) in
     (omega (arith, c .before .point-count .ensures), omega (arith, c .before .point-count .ensures, dots-length (length (points (a .cut)))))
-
-same-length : tie.Need-same-length
-same-length c = search needs
 
 returns : tie.Need-returns
 returns c =
@@ -36,9 +30,6 @@ write-primitives-requires c κs =
     let a = start .args in
     (start .pre .0, mode-room (a .positive) (a .cut) (start .pre .1 .1) (c .before .if1 .left))
 
-same-length-2 : tie.Need-same-length-2
-same-length-2 c = search needs
-
 returns-2 : tie.Need-returns-2
 returns-2 c =
     let a = c .before .before .before .before .before .before .args in
@@ -48,10 +39,5 @@ pub write-indices-spec : {M : Type 1} → statement M
 write-indices-spec =
     tie.close
     (tie.spec
-    point-count-requires
-    write-dots-requires
-    same-length
-    returns
-    write-primitives-requires
-    same-length-2
-    returns-2)
+    (λ c κs. search needs) write-dots-requires (λ c. search needs) returns write-primitives-requires
+    (λ c. search needs) returns-2)

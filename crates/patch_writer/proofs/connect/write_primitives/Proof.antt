@@ -11,20 +11,11 @@ use Rattle.patch_writer.proofs.Cuts.{valid-as, room-as, as-cut, nest-ro
 use Rattle.patch_writer.proofs.connect.write_primitives.Statement.{statement}
 use Rattle.patch_writer.proofs.connect.write_primitives.Tie as tie
 
-enum-told : tie.Need-enum-told
-enum-told c = search needs
-
-enum-told-2 : tie.Need-enum-told-2
-enum-told-2 c = search needs
-
 write-plain-triangle-requires : tie.Need-write-plain-triangle-requires
 unfolding primitiveCount
 write-plain-triangle-requires c κs =
     let start = c .before .before .before .before in
     omega (arith, room-as (λ d. length (primitives (start .args .positive) d)) {d = PlainTriangle} (start .pre .1) (c .before .enum-told2 .given .1), primitive-count (start .args .positive) PlainTriangle tt)
-
-enum-known-cut : tie.Need-enum-known-cut
-enum-known-cut c = search needs
 
 write-nest-requires : tie.Need-write-nest-requires
 write-nest-requires c κs =
@@ -35,17 +26,11 @@ write-nest-requires c κs =
     let room = room-as (λ d. length (primitives (start .args .positive) d)) (start .pre .1) e in
     (omega arith, omega (arith, nest-room (start .args .positive) (g .0) (g .1 .0) (g .1 .1 .0) (g .1 .1 .1 .0)))
 
-enum-told-3 : tie.Need-enum-told-3
-enum-told-3 c = search needs
-
 write-plain-quad-requires : tie.Need-write-plain-quad-requires
 unfolding primitiveCount
 write-plain-quad-requires c κs =
     let start = c .before .before .before .before in
     omega (arith, room-as (λ d. length (primitives (start .args .positive) d)) {d = PlainQuad} (start .pre .1) (c .before .enum-told3 .given .1), primitive-count (start .args .positive) PlainQuad tt)
-
-enum-known-cut-2 : tie.Need-enum-known-cut-2
-enum-known-cut-2 c = search needs
 
 write-quad-requires : tie.Need-write-quad-requires
 write-quad-requires c κs =
@@ -55,9 +40,6 @@ write-quad-requires c κs =
     let v = valid-as (start .pre .0) e in
     let room = room-as (λ d. length (primitives (start .args .positive) d)) (start .pre .1) e in
     (omega arith, (omega arith, omega (arith, quad-room (start .args .positive) (g .0) (g .1 .0) (g .1 .1 .0) (g .1 .1 .1 .0) (g .1 .1 .1 .1 .0) (g .1 .1 .1 .1 .1 .0))))
-
-enum-known-cut-3 : tie.Need-enum-known-cut-3
-enum-known-cut-3 c = search needs
 
 write-isolines-requires : tie.Need-write-isolines-requires
 write-isolines-requires c κs =
@@ -71,34 +53,19 @@ write-isolines-requires c κs =
 returns : tie.Need-returns
 returns c = as-cut (primitives (c .before .before .before .args .positive)) (c .enum-told .given .1) (wrote-none (c .before .before .before .args .out .now) 0)
 
-same-length : tie.Need-same-length
-same-length c = search needs
-
 returns-2 : tie.Need-returns-2
 returns-2 c = as-cut (primitives (c .before .before .before .before .before .before .before .args .positive)) (c .before .before .before .before .enum-told2 .given .1) (c .before .before .write-plain-triangle .ensures)
-
-same-length-2 : tie.Need-same-length-2
-same-length-2 c = search needs
 
 returns-3 : tie.Need-returns-3
 unfolding triangles
 returns-3 c = as-cut (primitives (c .before .before .before .before .before .before .before .before .args .positive)) (c .before .before .before .before .before .cut .given .1) (c .before .before .write-nest .ensures)
 
-same-length-3 : tie.Need-same-length-3
-same-length-3 c = search needs
-
 returns-4 : tie.Need-returns-4
 returns-4 c = as-cut (primitives (c .before .before .before .before .before .before .before .args .positive)) (c .before .before .before .before .enum-told3 .given .1) (c .before .before .write-plain-quad .ensures)
-
-same-length-4 : tie.Need-same-length-4
-same-length-4 c = search needs
 
 returns-5 : tie.Need-returns-5
 unfolding triangles
 returns-5 c = as-cut (primitives (c .before .before .before .before .before .before .before .before .args .positive)) (c .before .before .before .before .before .cut2 .given .1) (c .before .before .write-quad .ensures)
-
-same-length-5 : tie.Need-same-length-5
-same-length-5 c = search needs
 
 returns-6 : tie.Need-returns-6
 returns-6 c = as-cut (primitives (c .before .before .before .before .before .before .before .before .args .positive)) (c .before .before .before .before .before .cut3 .given .1) (c .before .before .write-isolines .ensures)
@@ -107,25 +74,7 @@ pub write-primitives-spec : {M : Type 1} → statement M
 write-primitives-spec =
     tie.close
     (tie.spec
-    enum-told
-    enum-told-2
-    write-plain-triangle-requires
-    enum-known-cut
-    write-nest-requires
-    enum-told-3
-    write-plain-quad-requires
-    enum-known-cut-2
-    write-quad-requires
-    enum-known-cut-3
-    write-isolines-requires
-    returns
-    same-length
-    returns-2
-    same-length-2
-    returns-3
-    same-length-3
-    returns-4
-    same-length-4
-    returns-5
-    same-length-5
-    returns-6)
+    (λ c. search needs) (λ c. search needs) write-plain-triangle-requires (λ c. search needs)
+    write-nest-requires (λ c. search needs) write-plain-quad-requires (λ c. search needs) write-quad-requires
+    (λ c. search needs) write-isolines-requires returns (λ c. search needs) returns-2 (λ c. search needs)
+    returns-3 (λ c. search needs) returns-4 (λ c. search needs) returns-5 (λ c. search needs) returns-6)

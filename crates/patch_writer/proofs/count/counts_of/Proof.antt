@@ -7,29 +7,11 @@ use Rattle.patch_writer.proofs.Cuts.{valid-as, counted-as}
 use Rattle.patch_writer.proofs.count.counts_of.Statement.{statement}
 use Rattle.patch_writer.proofs.count.counts_of.Tie as tie
 
-enum-told : tie.Need-enum-told
-enum-told c = search needs
-
-enum-told-2 : tie.Need-enum-told-2
-enum-told-2 c = search needs
-
-enum-known-cut : tie.Need-enum-known-cut
-enum-known-cut c = search needs
-
 triangle-counts-requires : tie.Need-triangle-counts-requires
 triangle-counts-requires c κs = let v = valid-as (c .before .before .before .pre) (c .before .cut .given .1) in omega arith
 
-enum-told-3 : tie.Need-enum-told-3
-enum-told-3 c = search needs
-
-enum-known-cut-2 : tie.Need-enum-known-cut-2
-enum-known-cut-2 c = search needs
-
 quad-counts-requires : tie.Need-quad-counts-requires
 quad-counts-requires c κs = let v = valid-as (c .before .before .before .pre) (c .before .cut2 .given .1) in omega arith
-
-enum-known-cut-3 : tie.Need-enum-known-cut-3
-enum-known-cut-3 c = search needs
 
 line-counts-requires : tie.Need-line-counts-requires
 line-counts-requires c κs = let v = valid-as (c .before .before .before .pre) (c .before .cut3 .given .1) in omega arith
@@ -62,18 +44,6 @@ pub counts-of-spec : {M : Type 1} → statement M
 counts-of-spec =
     tie.close
     (tie.spec
-    enum-told
-    enum-told-2
-    enum-known-cut
-    triangle-counts-requires
-    enum-told-3
-    enum-known-cut-2
-    quad-counts-requires
-    enum-known-cut-3
-    line-counts-requires
-    returns
-    returns-2
-    returns-3
-    returns-4
-    returns-5
-    returns-6)
+    (λ c. search needs) (λ c. search needs) (λ c. search needs) triangle-counts-requires (λ c. search needs)
+    (λ c. search needs) quad-counts-requires (λ c. search needs) line-counts-requires returns returns-2
+    returns-3 returns-4 returns-5 returns-6)

@@ -11,18 +11,9 @@ use Rattle.patch_writer.proofs.Cuts.{valid-as, room-as, as-cut}
 use Rattle.patch_writer.proofs.place.write_points.Statement.{statement}
 use Rattle.patch_writer.proofs.place.write_points.Tie as tie
 
-enum-told : tie.Need-enum-told
-enum-told c = search needs
-
-enum-told-2 : tie.Need-enum-told-2
-enum-told-2 c = search needs
-
 write-plain-triangle-requires : tie.Need-write-plain-triangle-requires
 unfolding points
 write-plain-triangle-requires c κs = omega (arith, room-as (λ d. 3 * length (points d)) {d = PlainTriangle} (c .before .before .before .before .pre .1) (c .before .enum-told2 .given .1))
-
-enum-known-cut : tie.Need-enum-known-cut
-enum-known-cut c = search needs
 
 write-drawn-triangle-requires : tie.Need-write-drawn-triangle-requires
 unfolding points
@@ -33,15 +24,9 @@ write-drawn-triangle-requires c κs =
     let room = room-as (λ d. 3 * length (points d)) (start .pre .1) e in
     ((v .edge0, v .edge1, v .edge2), ((v .inside .edge, v .inside .two), omega arith))
 
-enum-told-3 : tie.Need-enum-told-3
-enum-told-3 c = search needs
-
 write-plain-quad-requires : tie.Need-write-plain-quad-requires
 unfolding points
 write-plain-quad-requires c κs = omega (arith, room-as (λ d. 3 * length (points d)) {d = PlainQuad} (c .before .before .before .before .pre .1) (c .before .enum-told3 .given .1))
-
-enum-known-cut-2 : tie.Need-enum-known-cut-2
-enum-known-cut-2 c = search needs
 
 write-drawn-quad-requires : tie.Need-write-drawn-quad-requires
 unfolding points
@@ -51,9 +36,6 @@ write-drawn-quad-requires c κs =
     let v = valid-as (start .pre .0) e in
     let room = room-as (λ d. 3 * length (points d)) (start .pre .1) e in
     ((v .edge0, v .edge1, v .edge2, v .edge3), ((v .rows .edge, v .columns .edge), omega arith))
-
-enum-known-cut-3 : tie.Need-enum-known-cut-3
-enum-known-cut-3 c = search needs
 
 write-isolines-requires : tie.Need-write-isolines-requires
 unfolding points
@@ -68,36 +50,21 @@ returns : tie.Need-returns
 unfolding points vertexWords
 returns c = as-cut (λ d. vertexWords (points d)) (c .enum-told .given .1) (wrote-none (c .before .before .before .args .out .now) 0)
 
-same-length : tie.Need-same-length
-same-length c = search needs
-
 returns-2 : tie.Need-returns-2
 unfolding points
 returns-2 c = as-cut (λ d. vertexWords (points d)) (c .before .before .before .before .enum-told2 .given .1) (c .before .before .write-plain-triangle .ensures)
-
-same-length-2 : tie.Need-same-length-2
-same-length-2 c = search needs
 
 returns-3 : tie.Need-returns-3
 unfolding points
 returns-3 c = as-cut (λ d. vertexWords (points d)) (c .before .before .before .before .before .cut .given .1) (c .before .before .write-drawn-triangle .ensures)
 
-same-length-3 : tie.Need-same-length-3
-same-length-3 c = search needs
-
 returns-4 : tie.Need-returns-4
 unfolding points
 returns-4 c = as-cut (λ d. vertexWords (points d)) (c .before .before .before .before .enum-told3 .given .1) (c .before .before .write-plain-quad .ensures)
 
-same-length-4 : tie.Need-same-length-4
-same-length-4 c = search needs
-
 returns-5 : tie.Need-returns-5
 unfolding points
 returns-5 c = as-cut (λ d. vertexWords (points d)) (c .before .before .before .before .before .cut2 .given .1) (c .before .before .write-drawn-quad .ensures)
-
-same-length-5 : tie.Need-same-length-5
-same-length-5 c = search needs
 
 returns-6 : tie.Need-returns-6
 unfolding points
@@ -107,25 +74,8 @@ pub write-points-spec : {M : Type 1} → statement M
 write-points-spec =
     tie.close
     (tie.spec
-    enum-told
-    enum-told-2
-    write-plain-triangle-requires
-    enum-known-cut
-    write-drawn-triangle-requires
-    enum-told-3
-    write-plain-quad-requires
-    enum-known-cut-2
-    write-drawn-quad-requires
-    enum-known-cut-3
-    write-isolines-requires
-    returns
-    same-length
-    returns-2
-    same-length-2
-    returns-3
-    same-length-3
-    returns-4
-    same-length-4
-    returns-5
-    same-length-5
-    returns-6)
+    (λ c. search needs) (λ c. search needs) write-plain-triangle-requires (λ c. search needs)
+    write-drawn-triangle-requires (λ c. search needs) write-plain-quad-requires (λ c. search needs)
+    write-drawn-quad-requires (λ c. search needs) write-isolines-requires returns (λ c. search needs)
+    returns-2 (λ c. search needs) returns-3 (λ c. search needs) returns-4 (λ c. search needs) returns-5
+    (λ c. search needs) returns-6)

@@ -25,12 +25,5 @@ pub write-drawn-quad-spec : {M : Type 1} → statement M
 write-drawn-quad-spec =
     tie.close
     (tie.spec
-    (λ c κs. search needs)
-    (λ c κs. search needs)
-    (λ c. search needs)
-    write-small-requires
-    (λ c. search needs)
-    (λ c. search needs)
-    write-by-width-requires
-    (λ c. search needs)
-    (λ c. search needs))
+    (λ c κs. search needs) (λ c κs. search needs) (λ c. search needs) write-small-requires (λ c. search needs)
+    (λ c. search needs) write-by-width-requires (λ c. search needs) (λ c. search needs))

@@ -6,21 +6,6 @@ use borrow.Author.Needs.{needs}
 use Rattle.quad_points.proofs.quad.write_plain_quad.Statement.{statement}
 use Rattle.quad_points.proofs.quad.write_plain_quad.Tie as tie
 
-put3-u32-requires : tie.Need-put3-u32-requires
-put3-u32-requires c κs = search needs
-
-put3-u32-requires-2 : tie.Need-put3-u32-requires-2
-put3-u32-requires-2 c κs = search needs
-
-put3-u32-requires-3 : tie.Need-put3-u32-requires-3
-put3-u32-requires-3 c κs = search needs
-
-put3-u32-requires-4 : tie.Need-put3-u32-requires-4
-put3-u32-requires-4 c κs = search needs
-
-same-length : tie.Need-same-length
-same-length c = search needs
-
 returns : tie.Need-returns
 unfolding vertexWords
 returns c =
@@ -34,9 +19,5 @@ pub write-plain-quad-spec : {M : Type 1} → statement M
 write-plain-quad-spec =
     tie.close
     (tie.spec
-    put3-u32-requires
-    put3-u32-requires-2
-    put3-u32-requires-3
-    put3-u32-requires-4
-    same-length
-    returns)
+    (λ c κs. search needs) (λ c κs. search needs) (λ c κs. search needs) (λ c κs. search needs)
+    (λ c. search needs) returns)

@@ -14,12 +14,6 @@ pub write-small-spec : {M : Type 1} → statement M
 write-small-spec =
     tie.close
     (tie.spec
-    (λ c κs. search needs)
-    (λ c κs. search needs)
-    (λ c κs. search needs)
-    (λ c κs. search needs)
-    (λ c κs. search needs)
-    (λ c κs. search needs)
-    write-small-requires
-    (λ c. search needs)
+    (λ c κs. search needs) (λ c κs. search needs) (λ c κs. search needs) (λ c κs. search needs)
+    (λ c κs. search needs) (λ c κs. search needs) write-small-requires (λ c. search needs)
     (λ c. search (rows-written, needs)))

@@ -12,48 +12,15 @@ use Rattle.ring_indices.proofs.Bands.{side-next, band-step, band-last}
 use Rattle.ring_indices.proofs.nest.write_band.Statement.{statement}
 use Rattle.ring_indices.proofs.nest.write_band.Tie as tie
 
-add-total : tie.Need-add-total
-add-total c = search needs
-
-add-total-2 : tie.Need-add-total-2
-add-total-2 c = search needs
-
-add-write-strip : tie.Need-add-write-strip
-add-write-strip c = search needs
-
-mul-line : tie.Need-mul-line
-mul-line c = search needs
-
-line-requires : tie.Need-line-requires
-line-requires c κs = search needs
-
-write-strip-requires : tie.Need-write-strip-requires
-write-strip-requires c κs = search needs
-
-line-requires-2 : tie.Need-line-requires-2
-line-requires-2 c κs = search needs
-
 write-strip-requires-2 : tie.Need-write-strip-requires-2
 write-strip-requires-2 c κs =
     let a = c .before .before .before .before .before .before .before .before .args in
     omega (arith, side-next (a .positive) (from 0 (ringAt (a .base) (a .c0 + a .c1 + a .c2))) (a .c0) (c .before .before .before .before .before .line .result) (c .before .before .before .before .write-strip .ensures), c .before .before .before .before .write-strip .kept .1 .0, c .before .before .before .before .before .line .ensures .count, c .line2 .ensures .count)
 
-add-write-strip-2 : tie.Need-add-write-strip-2
-add-write-strip-2 c = search needs
-
-mul-line-2 : tie.Need-mul-line-2
-mul-line-2 c = search needs
-
-line-requires-3 : tie.Need-line-requires-3
-line-requires-3 c κs = search needs
-
 write-strip-requires-3 : tie.Need-write-strip-requires-3
 write-strip-requires-3 c κs =
     let a = c .before .before .before .before .before .before .before .before .before .before .before .before .before .args in
     omega (arith, side-next (a .positive) (from 0 (ringAt (a .base) (a .c0 + a .c1 + a .c2))) (a .c0) (c .before .before .before .before .before .before .before .before .before .before .line .result) (c .before .before .before .before .before .before .before .before .before .write-strip .ensures), c .before .before .before .before .before .before .before .before .before .write-strip .kept .1 .0, c .before .before .before .before .before .before .before .before .before .before .line .ensures .count, side-next (a .positive) (from (a .c0) (ringAt (a .base) (a .c0 + a .c1 + a .c2))) (a .c1) (c .before .before .before .before .before .line2 .result) (c .before .before .before .before .write-strip2 .ensures), c .before .before .before .before .write-strip2 .kept .1 .0, c .before .before .before .before .before .line2 .ensures .count, c .before .before .before .before .before .before .before .before .before .before .before .before .before .pre .0, c .before .before .before .before .before .before .before .before .before .before .before .before .before .pre .1, c .line3 .ensures .count)
-
-same-length : tie.Need-same-length
-same-length c = search needs
 
 returns : tie.Need-returns
 returns c =
@@ -79,17 +46,6 @@ pub write-band-spec : {M : Type 1} → statement M
 write-band-spec =
     tie.close
     (tie.spec
-    add-total
-    add-total-2
-    add-write-strip
-    mul-line
-    line-requires
-    write-strip-requires
-    line-requires-2
-    write-strip-requires-2
-    add-write-strip-2
-    mul-line-2
-    line-requires-3
-    write-strip-requires-3
-    same-length
-    returns)
+    (λ c. search needs) (λ c. search needs) (λ c. search needs) (λ c. search needs) (λ c κs. search needs)
+    (λ c κs. search needs) (λ c κs. search needs) write-strip-requires-2 (λ c. search needs)
+    (λ c. search needs) (λ c κs. search needs) write-strip-requires-3 (λ c. search needs) returns)

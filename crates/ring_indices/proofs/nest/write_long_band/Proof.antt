@@ -18,54 +18,6 @@ use mathlib.Core.Bool.{false}
 use Rattle.ring_indices.proofs.nest.write_long_band.Statement.{statement}
 use Rattle.ring_indices.proofs.nest.write_long_band.Tie as tie
 
-add-p : tie.Need-add-p
-add-p c = search needs
-
-cast-x0 : tie.Need-cast-x0
-cast-x0 c = search needs
-
-add-x1 : tie.Need-add-x1
-add-x1 c = search needs
-
-cast-x1 : tie.Need-cast-x1
-cast-x1 c = search needs
-
-mul-x2 : tie.Need-mul-x2
-mul-x2 c = search needs
-
-add-x2 : tie.Need-add-x2
-add-x2 c = search needs
-
-cast-x2 : tie.Need-cast-x2
-cast-x2 c = search needs
-
-mul-inside : tie.Need-mul-inside
-mul-inside c = search needs
-
-add-inside : tie.Need-add-inside
-add-inside c = search needs
-
-cast-y0 : tie.Need-cast-y0
-cast-y0 c = search needs
-
-add-y1 : tie.Need-add-y1
-add-y1 c = search needs
-
-cast-y1 : tie.Need-cast-y1
-cast-y1 c = search needs
-
-mul-y2 : tie.Need-mul-y2
-mul-y2 c = search needs
-
-add-y2 : tie.Need-add-y2
-add-y2 c = search needs
-
-cast-y2 : tie.Need-cast-y2
-cast-y2 c = search needs
-
-write-open-requires : tie.Need-write-open-requires
-write-open-requires c κs = (c .before .before .pre .0, (omega arith, omega arith))
-
 write-open-requires-2 : tie.Need-write-open-requires-2
 write-open-requires-2 c κs =
     let s = c .before .before .before .before .before .before in
@@ -90,9 +42,6 @@ write-long-requires c κs =
     let k = c .before .before .before .before .before .before .before .write-open in
     let l = c .before .before .before .write-open2 in
     (s .pre .0, (omega arith, omega (arith, open-next (a .positive) x0 y0 r (omega arith) (k .ensures), k .kept .0, open-next (a .positive) x1 y1 r (omega arith) (l .ensures), l .kept .0)))
-
-same-length : tie.Need-same-length
-same-length c = search needs
 
 returns : tie.Need-returns
 returns c =
@@ -132,23 +81,11 @@ pub write-long-band-spec : {M : Type 1} → statement M
 write-long-band-spec =
     tie.close
     (tie.spec
-    add-p
-    cast-x0
-    add-x1
-    cast-x1
-    mul-x2
-    add-x2
-    cast-x2
-    mul-inside
-    add-inside
-    cast-y0
-    add-y1
-    cast-y1
-    mul-y2
-    add-y2
-    cast-y2
-    write-open-requires
+    (λ c. search needs) (λ c. search needs) (λ c. search needs) (λ c. search needs) (λ c. search needs)
+    (λ c. search needs) (λ c. search needs) (λ c. search needs) (λ c. search needs) (λ c. search needs)
+    (λ c. search needs) (λ c. search needs) (λ c. search needs) (λ c. search needs) (λ c. search needs)
+    (λ c κs. (c .before .before .pre .0, (omega arith, omega arith)))
     write-open-requires-2
     write-long-requires
-    same-length
+    (λ c. search needs)
     returns)

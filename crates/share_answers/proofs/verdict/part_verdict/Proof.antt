@@ -8,24 +8,6 @@ use Rattle.share_answers.proofs.Measured.{not-bad, is-discarded, is-cou
 use Rattle.share_answers.proofs.verdict.part_verdict.Statement.{statement}
 use Rattle.share_answers.proofs.verdict.part_verdict.Tie as tie
 
-measure-requires : tie.Need-measure-requires
-measure-requires c κs = search needs
-
-enum-told : tie.Need-enum-told
-enum-told c = search needs
-
-enum-told-2 : tie.Need-enum-told-2
-enum-told-2 c = search needs
-
-enum-known-points : tie.Need-enum-known-points
-enum-known-points c = search needs
-
-share-of-requires : tie.Need-share-of-requires
-share-of-requires c κs = search needs
-
-share-of-requires-2 : tie.Need-share-of-requires-2
-share-of-requires-2 c κs = search needs
-
 room-requires : tie.Need-room-requires
 room-requires c κs =
     let start = c .before .before .before .before .before .before .before .before in
@@ -54,13 +36,5 @@ pub part-verdict-spec : {M : Type 1} → statement M
 part-verdict-spec =
     tie.close
     (tie.spec
-    measure-requires
-    enum-told
-    enum-told-2
-    enum-known-points
-    share-of-requires
-    share-of-requires-2
-    room-requires
-    returns
-    returns-2
-    returns-3)
+    (λ c κs. search needs) (λ c. search needs) (λ c. search needs) (λ c. search needs) (λ c κs. search needs)
+    (λ c κs. search needs) room-requires returns returns-2 returns-3)

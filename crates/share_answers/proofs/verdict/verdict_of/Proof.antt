@@ -7,15 +7,9 @@ use Rattle.share_state.proofs.Sound.{both}
 use Rattle.share_answers.proofs.verdict.verdict_of.Statement.{statement}
 use Rattle.share_answers.proofs.verdict.verdict_of.Tie as tie
 
-is-top-requires : tie.Need-is-top-requires
-is-top-requires c κs = search needs
-
 returns : tie.Need-returns
 unfolding verdict
 returns c = rw (bad (c .before .is-top .result) (c .before .is-top .ensures) (c .if1 .taken))
-
-accepts-requires : tie.Need-accepts-requires
-accepts-requires c κs = search needs
 
 returns-2 : tie.Need-returns-2
 unfolding verdict
@@ -38,9 +32,4 @@ pub verdict-of-spec : {M : Type 1} → statement M
 verdict-of-spec =
     tie.close
     (tie.spec
-    is-top-requires
-    returns
-    accepts-requires
-    returns-2
-    part-verdict-requires
-    returns-3)
+    (λ c κs. search needs) returns (λ c κs. search needs) returns-2 part-verdict-requires returns-3)

@@ -7,12 +7,6 @@ use Rattle.share_draw.proofs.Counts.{index-words}
 use Rattle.share_draw.proofs.append.append_indices.Statement.{statement}
 use Rattle.share_draw.proofs.append.append_indices.Tie as tie
 
-part-start-requires : tie.Need-part-start-requires
-part-start-requires c κs = search needs
-
-share-of-requires : tie.Need-share-of-requires
-share-of-requires c κs = search needs
-
 add-write-indices : tie.Need-add-write-indices
 add-write-indices c =
     let h = c .before .before .before .before .pre .0 in
@@ -32,12 +26,6 @@ add-with-used c =
     let n = c .before .before .before .before .before .before .before .before .pre .1 in
     rw (c .before .before .before .before .before .share-of .ensures) (omega arith)
 
-with-used-requires : tie.Need-with-used-requires
-with-used-requires c κs = search needs
-
-same-length : tie.Need-same-length
-same-length c = search needs
-
 returns : tie.Need-returns
 returns c =
     let a = c .before .before .before .before .before .before .before .before .before .args in
@@ -47,12 +35,5 @@ pub append-indices-spec : {M : Type 1} → statement M
 append-indices-spec =
     tie.close
     (tie.spec
-    part-start-requires
-    share-of-requires
-    add-write-indices
-    add-write-indices-2
-    write-indices-requires
-    add-with-used
-    with-used-requires
-    same-length
-    returns)
+    (λ c κs. search needs) (λ c κs. search needs) add-write-indices add-write-indices-2 write-indices-requires
+    add-with-used (λ c κs. search needs) (λ c. search needs) returns)

@@ -11,36 +11,6 @@ use Rattle.share_draw.proofs.Lent.{lent-on, lent-again, put-again, rais
 use Rattle.share_draw.proofs.append.write_indices.Statement.{statement}
 use Rattle.share_draw.proofs.append.write_indices.Tie as tie
 
-mul-draw-indices : tie.Need-mul-draw-indices
-mul-draw-indices c = search needs
-
-sub-draw-indices : tie.Need-sub-draw-indices
-sub-draw-indices c = search needs
-
-part-draw-indices-start : tie.Need-part-draw-indices-start
-part-draw-indices-start c = search needs
-
-part-draw-indices-end : tie.Need-part-draw-indices-end
-part-draw-indices-end c = search needs
-
-draw-indices-requires : tie.Need-draw-indices-requires
-draw-indices-requires c κs = search needs
-
-add-end : tie.Need-add-end
-add-end c = search needs
-
-mul-shift : tie.Need-mul-shift
-mul-shift c = search needs
-
-sub-shift : tie.Need-sub-shift
-sub-shift c = search needs
-
-part-shift-start : tie.Need-part-shift-start
-part-shift-start c = search needs
-
-part-shift-end : tie.Need-part-shift-end
-part-shift-end c = search needs
-
 shift-requires : tie.Need-shift-requires
 shift-requires c κs =
     let a = c .before .before .before .before .before .before .args in
@@ -50,9 +20,6 @@ shift-requires c κs =
     let again = lent-again (h .0) ws refl (a .words) (h .1 .0) first in
     subst (λ (l : List ℕ). (k : ℕ) → k < length l → a .base + getD l k 0 < 65536) (sym again)
     (λ k l. raised-fits (a .settings) (a .patch) (h .0 .top) (h .0 .drawn) (a .base) k (h .1 .1) l)
-
-same-length : tie.Need-same-length
-same-length c = search needs
 
 returns : tie.Need-returns
 returns c =
@@ -68,16 +35,6 @@ pub write-indices-spec : {M : Type 1} → statement M
 write-indices-spec =
     tie.close
     (tie.spec
-    mul-draw-indices
-    sub-draw-indices
-    part-draw-indices-start
-    part-draw-indices-end
-    draw-indices-requires
-    add-end
-    mul-shift
-    sub-shift
-    part-shift-start
-    part-shift-end
-    shift-requires
-    same-length
-    returns)
+    (λ c. search needs) (λ c. search needs) (λ c. search needs) (λ c. search needs) (λ c κs. search needs)
+    (λ c. search needs) (λ c. search needs) (λ c. search needs) (λ c. search needs) (λ c. search needs)
+    shift-requires (λ c. search needs) returns)

@@ -7,24 +7,6 @@ use Rattle.share_draw.proofs.Counts.{point-words}
 use Rattle.share_draw.proofs.append.write_points.Statement.{statement}
 use Rattle.share_draw.proofs.append.write_points.Tie as tie
 
-mul-draw-points : tie.Need-mul-draw-points
-mul-draw-points c = search needs
-
-sub-draw-points : tie.Need-sub-draw-points
-sub-draw-points c = search needs
-
-part-draw-points-start : tie.Need-part-draw-points-start
-part-draw-points-start c = search needs
-
-part-draw-points-end : tie.Need-part-draw-points-end
-part-draw-points-end c = search needs
-
-draw-points-requires : tie.Need-draw-points-requires
-draw-points-requires c κs = search needs
-
-same-length : tie.Need-same-length
-same-length c = search needs
-
 returns : tie.Need-returns
 returns c =
     let a = c .before .before .before .before .before .args in
@@ -34,10 +16,5 @@ pub write-points-spec : {M : Type 1} → statement M
 write-points-spec =
     tie.close
     (tie.spec
-    mul-draw-points
-    sub-draw-points
-    part-draw-points-start
-    part-draw-points-end
-    draw-points-requires
-    same-length
-    returns)
+    (λ c. search needs) (λ c. search needs) (λ c. search needs) (λ c. search needs) (λ c κs. search needs)
+    (λ c. search needs) returns)

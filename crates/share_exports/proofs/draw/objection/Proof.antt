@@ -8,15 +8,6 @@ use borrow.Author.Needs.{needs}
 use Rattle.share_exports.proofs.draw.objection.Statement.{statement}
 use Rattle.share_exports.proofs.draw.objection.Tie as tie
 
-top-in-requires : tie.Need-top-in-requires
-top-in-requires c κs = search needs
-
-is-top-requires : tie.Need-is-top-requires
-is-top-requires c κs = search needs
-
-bad-top-requires : tie.Need-bad-top-requires
-bad-top-requires c κs = search needs
-
 returns : tie.Need-returns
 returns c =
     let test = c .before .before in
@@ -24,12 +15,6 @@ returns c =
     let a = top .before .before .args in
     let is = test .is-top .ensures ∙ ap isTop (top .top-in .ensures) in
     tells-as (found-top (a .settings .now) (a .designer) _ (bad (test .is-top .result) is (c .before .if1 .taken))) (c .bad-top .ensures)
-
-accepts-requires : tie.Need-accepts-requires
-accepts-requires c κs = search needs
-
-refusal-requires : tie.Need-refusal-requires
-refusal-requires c κs = search needs
 
 returns-2 : tie.Need-returns-2
 returns-2 c =
@@ -41,9 +26,6 @@ returns-2 c =
     let is = test .is-top .ensures ∙ ap isTop (top .top-in .ensures) in
     tells-as (found-state (a .settings .now) (a .designer) _ (good (test .is-top .result) is (left .if1 .left)) (bad (accepts .accepts .result) (accepts .accepts .ensures) (c .before .if2 .taken))) (c .refusal .ensures)
 
-refusal-requires-2 : tie.Need-refusal-requires-2
-refusal-requires-2 c κs = search needs
-
 returns-3 : tie.Need-returns-3
 returns-3 c =
     let fits = c .before .before in
@@ -54,12 +36,6 @@ returns-3 c =
     let a = top .before .before .args in
     let is = test .is-top .ensures ∙ ap isTop (top .top-in .ensures) in
     tells-as (found-designer (a .settings .now) (a .designer) _ (good (test .is-top .result) is (left .if1 .left)) (good (accepts .accepts .result) (accepts .accepts .ensures) (fits .if2 .left)) (c .before .if3 .taken)) (c .refusal2 .ensures)
-
-first-unknown-requires : tie.Need-first-unknown-requires
-first-unknown-requires c κs = search needs
-
-unknown-setting-requires : tie.Need-unknown-setting-requires
-unknown-setting-requires c κs = search needs
 
 returns-4 : tie.Need-returns-4
 returns-4 c =
@@ -73,9 +49,6 @@ returns-4 c =
     let a = top .before .before .args in
     let is = test .is-top .ensures ∙ ap isTop (top .top-in .ensures) in
     tells-as (found-setting (a .settings .now) (a .designer) _ (good (test .is-top .result) is (left .if1 .left)) (good (accepts .accepts .result) (accepts .accepts .ensures) (fits .if2 .left)) (known .if3 .left) (first .first-unknown .ensures) (c .before .if4 .taken)) (c .unknown-setting .ensures)
-
-refusal-requires-3 : tie.Need-refusal-requires-3
-refusal-requires-3 c κs = search needs
 
 returns-5 : tie.Need-returns-5
 returns-5 c =
@@ -94,17 +67,6 @@ pub objection-spec : {M : Type 1} → statement M
 objection-spec =
     tie.close
     (tie.spec
-    top-in-requires
-    is-top-requires
-    bad-top-requires
-    returns
-    accepts-requires
-    refusal-requires
-    returns-2
-    refusal-requires-2
-    returns-3
-    first-unknown-requires
-    unknown-setting-requires
-    returns-4
-    refusal-requires-3
-    returns-5)
+    (λ c κs. search needs) (λ c κs. search needs) (λ c κs. search needs) returns (λ c κs. search needs)
+    (λ c κs. search needs) returns-2 (λ c κs. search needs) returns-3 (λ c κs. search needs)
+    (λ c κs. search needs) returns-4 (λ c κs. search needs) returns-5)

@@ -4,24 +4,6 @@ use borrow.Author.Needs.{needs}
 use Rattle.share_exports.proofs.start.yoktvarim_share_start.Statement.{statement}
 use Rattle.share_exports.proofs.start.yoktvarim_share_start.Tie as tie
 
-quota-in-requires : tie.Need-quota-in-requires
-quota-in-requires c κs = search needs
-
-quota-in-requires-2 : tie.Need-quota-in-requires-2
-quota-in-requires-2 c κs = search needs
-
-start-requires : tie.Need-start-requires
-start-requires c κs = search needs
-
-enum-known-begun : tie.Need-enum-known-begun
-enum-known-begun c = search needs
-
-words-of-requires : tie.Need-words-of-requires
-words-of-requires c κs = search needs
-
-enum-told : tie.Need-enum-told
-enum-told c = search needs
-
 returns : tie.Need-returns
 returns c = start-done (c .before .before .before .before .before .before .before .before .before .args .quotas .now) _ _ _ (c .before .before .before .before .before .before .quota-in .ensures) (c .before .before .before .before .before .quota-in2 .ensures) (c .before .before .before .before .start .ensures) (c .before .before .begun .given .1) (c .words-of .ensures)
 
@@ -32,11 +14,5 @@ pub yoktvarim-share-start-spec : {M : Type 1} → statement M
 yoktvarim-share-start-spec =
     tie.close
     (tie.spec
-    quota-in-requires
-    quota-in-requires-2
-    start-requires
-    enum-known-begun
-    words-of-requires
-    enum-told
-    returns
-    returns-2)
+    (λ c κs. search needs) (λ c κs. search needs) (λ c κs. search needs) (λ c. search needs)
+    (λ c κs. search needs) (λ c. search needs) returns returns-2)

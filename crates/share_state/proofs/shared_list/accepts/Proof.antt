@@ -14,22 +14,13 @@ returns-2 : tie.Need-returns-2
 unfolding lent
 returns-2 c = rw (eq-eqb _ _ (c .before .before .if1 .left), ne-eqb _ _ (c .if2 .taken))
 
-is-sound-requires : tie.Need-is-sound-requires
-is-sound-requires c κs = search needs
-
 returns-3 : tie.Need-returns-3
 unfolding lent soundState
 returns-3 c = rw (eq-eqb _ _ (c .before .before .before .before .if1 .left), eq-eqb _ _ (c .before .before .if2 .left), bad (c .before .is-sound .result) (c .before .is-sound .ensures) (c .if3 .taken))
 
-is-sound-requires-2 : tie.Need-is-sound-requires-2
-is-sound-requires-2 c κs = search needs
-
 returns-4 : tie.Need-returns-4
 unfolding lent soundState
 returns-4 c = rw (eq-eqb _ _ (c .before .before .before .before .before .before .if1 .left), eq-eqb _ _ (c .before .before .before .before .if2 .left), good (c .before .before .before .is-sound .result) (c .before .before .before .is-sound .ensures) (c .before .before .if3 .left), bad (c .before .is-sound2 .result) (c .before .is-sound2 .ensures) (c .if4 .taken))
-
-is-whole-requires : tie.Need-is-whole-requires
-is-whole-requires c κs = search needs
 
 returns-5 : tie.Need-returns-5
 unfolding lent soundState
@@ -39,11 +30,5 @@ pub accepts-spec : {M : Type 1} → statement M
 accepts-spec =
     tie.close
     (tie.spec
-    returns
-    returns-2
-    is-sound-requires
-    returns-3
-    is-sound-requires-2
-    returns-4
-    is-whole-requires
+    returns returns-2 (λ c κs. search needs) returns-3 (λ c κs. search needs) returns-4 (λ c κs. search needs)
     returns-5)

@@ -5,25 +5,13 @@ use borrow.Author.Needs.{needs}
 use Rattle.share_state.proofs.start.start.Statement.{statement}
 use Rattle.share_state.proofs.start.start.Tie as tie
 
-quotas-fit-requires : tie.Need-quotas-fit-requires
-quotas-fit-requires c κs = search needs
-
 returns : tie.Need-returns
 unfolding quotasFit
 returns c = record { answer = rw (bad (c .before .quotas-fit .result) (c .before .quotas-fit .ensures) (c .if1 .taken)); is = rw (bad (c .before .quotas-fit .result) (c .before .quotas-fit .ensures) (c .if1 .taken)) }
 
-quotas-fit-requires-2 : tie.Need-quotas-fit-requires-2
-quotas-fit-requires-2 c κs = search needs
-
 returns-2 : tie.Need-returns-2
 unfolding quotasFit
 returns-2 c = record { answer = rw (good (c .before .before .before .quotas-fit .result) (c .before .before .before .quotas-fit .ensures) (c .before .before .if1 .left), bad (c .before .quotas-fit2 .result) (c .before .quotas-fit2 .ensures) (c .if2 .taken)); is = rw (good (c .before .before .before .quotas-fit .result) (c .before .before .before .quotas-fit .ensures) (c .before .before .if1 .left), bad (c .before .quotas-fit2 .result) (c .before .quotas-fit2 .ensures) (c .if2 .taken)) }
-
-unused-requires : tie.Need-unused-requires
-unused-requires c κs = search needs
-
-unused-requires-2 : tie.Need-unused-requires-2
-unused-requires-2 c κs = search needs
 
 returns-3 : tie.Need-returns-3
 unfolding quotasFit
@@ -33,10 +21,5 @@ pub start-spec : {M : Type 1} → statement M
 start-spec =
     tie.close
     (tie.spec
-    quotas-fit-requires
-    returns
-    quotas-fit-requires-2
-    returns-2
-    unused-requires
-    unused-requires-2
-    returns-3)
+    (λ c κs. search needs) returns (λ c κs. search needs) returns-2 (λ c κs. search needs)
+    (λ c κs. search needs) returns-3)

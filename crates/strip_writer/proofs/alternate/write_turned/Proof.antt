@@ -16,26 +16,11 @@ use Rattle.strip_pairs.proofs.Pairs.{pairs-length, halves, fan}
 use Rattle.strip_writer.proofs.alternate.write_turned.Statement.{statement}
 use Rattle.strip_writer.proofs.alternate.write_turned.Tie as tie
 
-write-fan-requires : tie.Need-write-fan-requires
-write-fan-requires c κs = search needs
-
-same-length : tie.Need-same-length
-same-length c = search needs
-
 returns : tie.Need-returns
 returns c =
     let start = c .before .before .before .before .before .before in
     let a = start .args in
     rw (fan (vertex (a .outer)) (vertex (a .inner)) false (a .outer .count) (a .inner .count) (start .pre .0) (c .before .before .before .before .if1 .taken)) (c .before .before .write-fan .ensures)
-
-vertex-at-requires : tie.Need-vertex-at-requires
-vertex-at-requires c κs = search needs
-
-vertex-at-requires-2 : tie.Need-vertex-at-requires-2
-vertex-at-requires-2 c κs = search needs
-
-write-pairs-requires : tie.Need-write-pairs-requires
-write-pairs-requires c κs = search needs
 
 next-requires : tie.Need-next-requires
 next-requires c κs =
@@ -47,15 +32,6 @@ put-triangle-requires c κs =
     let a = c .before .before .before .before .before .before .before .before .before .before .args in
     let p = c .before .before .before .before .write-pairs in
     omega (arith, pairs-length (vertex (a .outer)) (vertex (a .inner)) false 0 0 (a .inner .count / 2), p .ensures .wrote .next, p .kept .0)
-
-add-write-pairs : tie.Need-add-write-pairs
-add-write-pairs c = search needs
-
-sub-write-pairs : tie.Need-sub-write-pairs
-sub-write-pairs c = search needs
-
-sub-write-pairs-2 : tie.Need-sub-write-pairs-2
-sub-write-pairs-2 c = search needs
 
 write-pairs-requires-2 : tie.Need-write-pairs-requires-2
 write-pairs-requires-2 c κs =
@@ -106,9 +82,6 @@ write-last-requires c κs =
       ),
     )
 
-same-length-2 : tie.Need-same-length-2
-same-length-2 c = search needs
-
 returns-2 : tie.Need-returns-2
 unfolding indices
 returns-2 c =
@@ -129,18 +102,6 @@ pub write-turned-spec : {M : Type 1} → statement M
 write-turned-spec =
     tie.close
     (tie.spec
-    write-fan-requires
-    same-length
-    returns
-    vertex-at-requires
-    vertex-at-requires-2
-    write-pairs-requires
-    next-requires
-    put-triangle-requires
-    add-write-pairs
-    sub-write-pairs
-    sub-write-pairs-2
-    write-pairs-requires-2
-    write-last-requires
-    same-length-2
-    returns-2)
+    (λ c κs. search needs) (λ c. search needs) returns (λ c κs. search needs) (λ c κs. search needs)
+    (λ c κs. search needs) next-requires put-triangle-requires (λ c. search needs) (λ c. search needs)
+    (λ c. search needs) write-pairs-requires-2 write-last-requires (λ c. search needs) returns-2)

@@ -11,27 +11,12 @@ use Rattle.tessellate.proofs.Cutting.{is-cut, cut-valid, cut-few, cut-i
 use Rattle.tessellate.proofs.draw.draw_indices.Statement.{statement}
 use Rattle.tessellate.proofs.draw.draw_indices.Tie as tie
 
-cut-with-requires : tie.Need-cut-with-requires
-cut-with-requires c κs = search needs
-
-enum-told : tie.Need-enum-told
-enum-told c = search needs
-
-enum-told-2 : tie.Need-enum-told-2
-enum-told-2 c = search needs
-
-enum-known-cut : tie.Need-enum-known-cut
-enum-known-cut c = search needs
-
 index-count-requires : tie.Need-index-count-requires
 index-count-requires c κs =
     let arm = c .before in
     let cut = arm .before .before in
     let a = cut .before .before .args in
     cut-valid (a .settings) (a .patch) (cut .cut-with .ensures) (arm .cut .given .1)
-
-cast-if1 : tie.Need-cast-if1
-cast-if1 c = search needs
 
 returns : tie.Need-returns
 returns c =
@@ -40,9 +25,6 @@ returns c =
     let a = cut .before .before .args in
     let e = arm .cut .given .1 in
     draw-short (a .settings) (a .patch) (cut .cut-with .ensures) _ _ _ _ 3 e refl (omega (arith, cut-indices (a .settings) (a .patch) (cut .cut-with .ensures) e (c .before .index-count .ensures), c .if1 .taken)) refl
-
-turns-positive-requires : tie.Need-turns-positive-requires
-turns-positive-requires c κs = search needs
 
 write-indices-requires : tie.Need-write-indices-requires
 write-indices-requires c κs =
@@ -66,9 +48,6 @@ returns-3 c =
     let a = cut .before .before .args in
     draw-discarded (a .settings) (a .patch) (cut .cut-with .ensures) _ _ _ _ (c .enum-told2 .given .1) refl
 
-same-length : tie.Need-same-length
-same-length c = search needs
-
 returns-4 : tie.Need-returns-4
 unfolding indexWords
 returns-4 c =
@@ -87,16 +66,6 @@ pub draw-indices-spec : {M : Type 1} → statement M
 draw-indices-spec =
     tie.close
     (tie.spec
-    cut-with-requires
-    enum-told
-    enum-told-2
-    enum-known-cut
-    index-count-requires
-    cast-if1
-    returns
-    turns-positive-requires
-    write-indices-requires
-    returns-2
-    returns-3
-    same-length
-    returns-4)
+    (λ c κs. search needs) (λ c. search needs) (λ c. search needs) (λ c. search needs) index-count-requires
+    (λ c. search needs) returns (λ c κs. search needs) write-indices-requires returns-2 returns-3
+    (λ c. search needs) returns-4)

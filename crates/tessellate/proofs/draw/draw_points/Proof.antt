@@ -11,30 +11,12 @@ use Rattle.tessellate.proofs.Cutting.{is-cut, cut-valid, cut-points, dr
 use Rattle.tessellate.proofs.draw.draw_points.Statement.{statement}
 use Rattle.tessellate.proofs.draw.draw_points.Tie as tie
 
-cut-with-requires : tie.Need-cut-with-requires
-cut-with-requires c κs = search needs
-
-enum-told : tie.Need-enum-told
-enum-told c = search needs
-
-enum-told-2 : tie.Need-enum-told-2
-enum-told-2 c = search needs
-
-enum-known-cut : tie.Need-enum-known-cut
-enum-known-cut c = search needs
-
 point-count-requires : tie.Need-point-count-requires
 point-count-requires c κs =
     let arm = c .before in
     let cut = arm .before .before in
     let a = cut .before .before .args in
     cut-valid (a .settings) (a .patch) (cut .cut-with .ensures) (arm .cut .given .1)
-
-cast-if1 : tie.Need-cast-if1
-cast-if1 c = search needs
-
-mul-if1 : tie.Need-mul-if1
-mul-if1 c = search needs
 
 returns : tie.Need-returns
 returns c =
@@ -64,9 +46,6 @@ returns-3 c =
     let a = cut .before .before .args in
     draw-discarded (a .settings) (a .patch) (cut .cut-with .ensures) _ _ _ _ (c .enum-told2 .given .1) refl
 
-same-length : tie.Need-same-length
-same-length c = search needs
-
 returns-4 : tie.Need-returns-4
 returns-4 c =
     let arm = c .before .before .before .before .before .before .before in
@@ -82,16 +61,6 @@ pub draw-points-spec : {M : Type 1} → statement M
 draw-points-spec =
     tie.close
     (tie.spec
-    cut-with-requires
-    enum-told
-    enum-told-2
-    enum-known-cut
-    point-count-requires
-    cast-if1
-    mul-if1
-    returns
-    write-points-requires
-    returns-2
-    returns-3
-    same-length
-    returns-4)
+    (λ c κs. search needs) (λ c. search needs) (λ c. search needs) (λ c. search needs) point-count-requires
+    (λ c. search needs) (λ c. search needs) returns write-points-requires returns-2 returns-3
+    (λ c. search needs) returns-4)

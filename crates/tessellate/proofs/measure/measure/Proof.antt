@@ -6,18 +6,6 @@ use Rattle.tessellate.proofs.Cutting.{bad-top, is-discarded, is-cut, cu
 use Rattle.tessellate.proofs.measure.measure.Statement.{statement}
 use Rattle.tessellate.proofs.measure.measure.Tie as tie
 
-cut-with-requires : tie.Need-cut-with-requires
-cut-with-requires c κs = search needs
-
-enum-told : tie.Need-enum-told
-enum-told c = search needs
-
-enum-told-2 : tie.Need-enum-told-2
-enum-told-2 c = search needs
-
-enum-known-cut : tie.Need-enum-known-cut
-enum-known-cut c = search needs
-
 point-count-requires : tie.Need-point-count-requires
 point-count-requires c κs =
     let arm = c .before in
@@ -74,13 +62,5 @@ pub measure-spec : {M : Type 1} → statement M
 measure-spec =
     tie.close
     (tie.spec
-    cut-with-requires
-    enum-told
-    enum-told-2
-    enum-known-cut
-    point-count-requires
-    index-count-requires
-    clamps-of-requires
-    returns
-    returns-2
-    returns-3)
+    (λ c κs. search needs) (λ c. search needs) (λ c. search needs) (λ c. search needs) point-count-requires
+    index-count-requires clamps-of-requires returns returns-2 returns-3)

@@ -29,26 +29,8 @@ pub write-by-width-spec : {M : Type 1} → statement M
 write-by-width-spec =
     tie.close
     (tie.spec
-    (λ c κs. search needs)
-    (λ c. search needs)
-    write-stored-requires
-    (λ c. search needs)
-    (λ c. search needs)
-    (λ c κs. search needs)
-    (λ c. search needs)
-    write-stored-requires-2
-    (λ c. search needs)
-    (λ c. search needs)
-    (λ c κs. search needs)
-    (λ c. search needs)
-    write-stored-requires-3
-    (λ c. search needs)
-    (λ c. search needs)
-    (λ c κs. search needs)
-    (λ c. search needs)
-    write-stored-requires-4
-    (λ c. search needs)
-    (λ c. search needs)
-    (λ c κs. search needs)
-    (λ c. search needs)
-    (λ c. search needs))
+    (λ c κs. search needs) (λ c. search needs) write-stored-requires (λ c. search needs) (λ c. search needs)
+    (λ c κs. search needs) (λ c. search needs) write-stored-requires-2 (λ c. search needs) (λ c. search needs)
+    (λ c κs. search needs) (λ c. search needs) write-stored-requires-3 (λ c. search needs) (λ c. search needs)
+    (λ c κs. search needs) (λ c. search needs) write-stored-requires-4 (λ c. search needs) (λ c. search needs)
+    (λ c κs. search needs) (λ c. search needs) (λ c. search needs))

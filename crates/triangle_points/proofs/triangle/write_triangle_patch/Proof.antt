@@ -16,7 +16,4 @@ pub write-triangle-patch-spec : {M : Type 1} → statement M
 write-triangle-patch-spec =
     tie.close
     (tie.spec
-    (λ c κs. search needs)
-    write-by-width-requires
-    (λ c. search needs)
-    (λ c. search needs))
+    (λ c κs. search needs) write-by-width-requires (λ c. search needs) (λ c. search needs))

@@ -5,9 +5,6 @@ use Rattle.standard_streams.proofs.Fills.{part-filled}
 use Rattle.tsj_pieces.proofs.failures.read_or_tell.Statement.{statement}
 use Rattle.tsj_pieces.proofs.failures.read_or_tell.Tie as tie
 
-slice-aggregate-read-front : tie.Need-slice-aggregate-read-front
-slice-aggregate-read-front c = front _ _ (c .before .before .pre)
-
 returns : tie.Need-returns
 returns c =
     let read = c .before .before .before .before .before in
@@ -25,7 +22,7 @@ read-or-tell-spec =
     tie.close
     (tie.spec
     (λ c. search needs)
-    slice-aggregate-read-front
+    (λ c. front _ _ (c .before .before .pre))
     (λ c κs. search needs)
     (λ c. search needs)
     (λ c κs. search needs)

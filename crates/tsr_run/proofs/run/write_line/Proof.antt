@@ -6,9 +6,6 @@ use Rattle.buffer.proofs.Laws.{wrote-within, wrote-front}
 use Rattle.tsr_run.proofs.run.write_line.Statement.{statement}
 use Rattle.tsr_run.proofs.run.write_line.Tie as tie
 
-array-share-prefix-out : tie.Need-array-share-prefix-out
-array-share-prefix-out c = wrote-within zero-le (c .before .put-replay .ensures)
-
 slice-aggregate-write-or-tell : tie.Need-slice-aggregate-write-or-tell
 slice-aggregate-write-or-tell c = front _ _ (wrote-within zero-le (c .before .before .put-replay .ensures))
 
@@ -19,9 +16,8 @@ pub write-line-spec : {M : Type 1} → statement M
 write-line-spec =
     tie.close
     (tie.spec
-    (λ c. search needs)
-    (λ c κs. search needs)
-    array-share-prefix-out
+    (λ c. search needs) (λ c κs. search needs)
+    (λ c. wrote-within zero-le (c .before .put-replay .ensures))
     slice-aggregate-write-or-tell
     (λ c. search needs)
     (λ c κs. search needs)

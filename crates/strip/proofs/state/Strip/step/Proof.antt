@@ -12,29 +12,14 @@ use Rattle.strip.proofs.Rule.{product}
 use Rattle.strip.proofs.state.Strip.step.Statement.{statement}
 use Rattle.strip.proofs.state.Strip.step.Tie as tie
 
-mul-m : tie.Need-mul-m
-mul-m c = search needs
-
-add-m : tie.Need-add-m
-add-m c = search needs
-
 mul-x : tie.Need-mul-x
 mul-x c = let s = c .before .args .self in omega (arith, product (2 * s .a + 1) (s .r) (omega arith) (omega arith))
 
 add-x : tie.Need-add-x
 add-x c = let s = c .before .before .args .self in omega (arith, product (2 * s .a + 1) (s .r) (omega arith) (omega arith))
 
-mul-if2 : tie.Need-mul-if2
-mul-if2 c = search needs
-
-add-if2 : tie.Need-add-if2
-add-if2 c = search needs
-
 mul-if2-2 : tie.Need-mul-if2-2
 mul-if2-2 c = let s = c .before .before .args .self in omega (arith, product (2 * s .b + 1) (s .p) (omega arith) (omega arith))
-
-add-self : tie.Need-add-self
-add-self c = search needs
 
 returns : tie.Need-returns
 unfolding stepOf outerNext
@@ -42,9 +27,6 @@ returns c =
     let s = c .before .before .before .args .self in
     let e : outerNext (s .p) (s .r) (s .a) (s .b) ≡ true = ⊎-elim (λ w. omega (arith, ties)) (λ w. omega (arith, ties)) (c .before .if1 .came) in
     rw (e, add-one)
-
-add-self-2 : tie.Need-add-self-2
-add-self-2 c = search needs
 
 returns-2 : tie.Need-returns-2
 unfolding stepOf outerNext
@@ -57,14 +39,5 @@ pub step-spec : {M : Type 1} → statement M
 step-spec =
     tie.close
     (tie.spec
-    mul-m
-    add-m
-    mul-x
-    add-x
-    mul-if2
-    add-if2
-    mul-if2-2
-    add-self
-    returns
-    add-self-2
-    returns-2)
+    (λ c. search needs) (λ c. search needs) mul-x add-x (λ c. search needs) (λ c. search needs) mul-if2-2
+    (λ c. search needs) returns (λ c. search needs) returns-2)
