@@ -26,7 +26,8 @@ use Rattle.check_soundness.specs.Sound.{SoundWords}
 use Rattle.check_meaning.specs.Checks.{isTriangles}
 use Rattle.check_meaning.specs.Firsts.{FirstNot, FirstPair}
 use Rattle.check_meaning.specs.Means.{KnownAt, InsideAt, EqualAt, TurnsAt, SharedAt, ClosedAt, DrawnAt, Threes, Kept, Counted, Known, Inside, Distinct, Turning, Single, Closed}
-use Rattle.check_meaning.proofs.Given.{turn, rim}
+use Rattle.patch.specs.Turn.{turnAsked}
+use Rattle.patch_mesh.specs.Demand.{outlineOf}
 use Rattle.check_meaning.proofs.Tells.{all-none, first-is, none-pair, later-is, earlier-is}
 use Rattle.check_meaning.proofs.PointTests.{known-tells, inside-tells, equal-tells}
 use Rattle.check_meaning.proofs.SideTests.{turn-tells, share-tells, closed-tells, drawn-tells}
@@ -47,36 +48,36 @@ module _ (set : Settings) (p : Patch) (pw iw : List ℕ) where
   ts = readTriangles iw
 
   abbrev pub mesh : Verdict
-  mesh = meshFault (isTriangles p) (turn set) (rim set p) pw iw
+  mesh = meshFault (isTriangles p) (turnAsked set) (outlineOf set p) pw iw
 
   -- the answer, as far as the stages before are passed
-  to-index : Counted set p pw iw → mesh ≡ orElse (firstUnknown iw (length ps)) (length iw) (said.UnknownIndex (firstUnknown iw (length ps))) (pointFault (isTriangles p) (turn set) (rim set p) ps ts)
+  to-index : Counted set p pw iw → mesh ≡ orElse (firstUnknown iw (length ps)) (length iw) (said.UnknownIndex (firstUnknown iw (length ps))) (pointFault (isTriangles p) (turnAsked set) (outlineOf set p) ps ts)
   unfolding meshFault
   to-index c = rw (eq-eqb (length pw % 3) 0 (c .1 .0), eq-eqb (length iw % 3) 0 (c .1 .1))
 
-  to-points : Known set p pw iw → mesh ≡ pointFault (isTriangles p) (turn set) (rim set p) ps ts
+  to-points : Known set p pw iw → mesh ≡ pointFault (isTriangles p) (turnAsked set) (outlineOf set p) ps ts
   unfolding firstUnknown
   to-points c = to-index (c .0) ∙ pass _ _ _ _ (all-none (known-tells ps iw) (c .1))
 
-  to-equal : Inside set p pw iw → mesh ≡ orElse (firstRepeated ps) (length ps) (equalPoints ps (firstRepeated ps)) (sideFault (turn set) (rim set p) ps ts)
+  to-equal : Inside set p pw iw → mesh ≡ orElse (firstRepeated ps) (length ps) (equalPoints ps (firstRepeated ps)) (sideFault (turnAsked set) (outlineOf set p) ps ts)
   unfolding pointFault firstOutside
   to-equal c = to-points (c .0) ∙ pass _ _ _ _ (all-none (inside-tells p ps) (c .1))
 
-  to-sides : Distinct set p pw iw → mesh ≡ sideFault (turn set) (rim set p) ps ts
+  to-sides : Distinct set p pw iw → mesh ≡ sideFault (turnAsked set) (outlineOf set p) ps ts
   unfolding firstRepeated
   to-sides c = to-equal (c .0) ∙ pass _ _ _ _ (none-pair (λ i j. samePoint (at ps i) (at ps j)) (equal-tells ps) (c .1))
 
-  to-reused : Turning set p pw iw → mesh ≡ orElse (firstReused ts) (length ts) (sideTwice ts (firstReused ts)) (outlineFault (turn set) (rim set p) ps ts)
+  to-reused : Turning set p pw iw → mesh ≡ orElse (firstReused ts) (length ts) (sideTwice ts (firstReused ts)) (outlineFault (turnAsked set) (outlineOf set p) ps ts)
   unfolding sideFault firstTurned
   to-reused c = to-sides (c .0) ∙ pass _ _ _ _ (all-none (turn-tells set p ps iw) (c .1))
 
-  to-outline : Single set p pw iw → mesh ≡ outlineFault (turn set) (rim set p) ps ts
+  to-outline : Single set p pw iw → mesh ≡ outlineFault (turnAsked set) (outlineOf set p) ps ts
   unfolding firstReused
   to-outline c =
       to-reused (c .0)
       ∙ pass _ _ _ _ (none-pair (λ i j. shareSide (triangleAt ts i) (triangleAt ts j)) (share-tells set p ps iw (distinct-of ps (c .0 .0 .1)) (numbers-of ps iw (c .0 .0 .0 .0 .1))) (c .1))
 
-  to-missing : Closed set p pw iw → mesh ≡ orElse (firstMissing (turn set) (rim set p) ps ts) (length (rim set p)) (said.MissingPiece (firstMissing (turn set) (rim set p) ps ts)) said.Accepted
+  to-missing : Closed set p pw iw → mesh ≡ orElse (firstMissing (turnAsked set) (outlineOf set p) ps ts) (length (outlineOf set p)) (said.MissingPiece (firstMissing (turnAsked set) (outlineOf set p) ps ts)) said.Accepted
   unfolding outlineFault firstOpen
   to-missing c =
       to-outline (c .0)
@@ -126,7 +127,7 @@ module _ (set : Settings) (p : Patch) (pw iw : List ℕ) where
       let b : (k * 3 + e) % 3 ≡ e = omega arith in
       to-outline c ∙ hit _ openSide _ _ (first-is h (k * 3 + e) f) (f .below) ∙ rw (a, b)
 
-  pub missing-piece : (k : ℕ) → Closed set p pw iw → FirstNot (DrawnAt set p ps iw) (length (rim set p)) k → mesh ≡ said.MissingPiece k
+  pub missing-piece : (k : ℕ) → Closed set p pw iw → FirstNot (DrawnAt set p ps iw) (length (outlineOf set p)) k → mesh ≡ said.MissingPiece k
   unfolding firstMissing
   missing-piece k c f = to-missing c ∙ hit _ said.MissingPiece _ _ (first-is (drawn-tells set p ps iw) k f) (f .below)
 

@@ -25,7 +25,8 @@ use Rattle.check_faults.specs.Outline.{firstOpen, firstMissing}
 use Rattle.check_verdict.specs.Faults.{orElse, outlineFault, sideFault, pointFault, meshFault}
 use Rattle.check_meaning.specs.Checks.{isTriangles}
 use Rattle.check_meaning.specs.Means.{Kept, Counted, Known, Inside, Distinct, Turning, Single, Closed, Means}
-use Rattle.check_meaning.proofs.Given.{turn, rim}
+use Rattle.patch.specs.Turn.{turnAsked}
+use Rattle.patch_mesh.specs.Demand.{outlineOf}
 use Rattle.check_meaning.proofs.Tells.{tells-all, tells-first, pair-none, pair-first}
 use Rattle.check_meaning.proofs.PointTests.{known-tells, inside-tells, equal-tells}
 use Rattle.check_meaning.proofs.SideTests.{turn-tells, share-tells, closed-tells, drawn-tells}
@@ -49,18 +50,18 @@ module _ (set : Settings) (p : Patch) (pw iw : List ℕ) where
   abbrev M : Verdict → Type 0
   M v = Means set p pw iw v
 
-  outline-means : Single set p pw iw → M (outlineFault (turn set) (rim set p) ps ts)
+  outline-means : Single set p pw iw → M (outlineFault (turnAsked set) (outlineOf set p) ps ts)
   unfolding outlineFault firstOpen firstMissing
   outline-means s =
       let h = closed-tells set p ps iw (distinct-of ps (s .0 .0 .1)) (numbers-of ps iw (s .0 .0 .0 .0 .1)) in
       let g = drawn-tells set p ps iw in
-      let m = firstOpen (turn set) (rim set p) ps ts in
+      let m = firstOpen (turnAsked set) (outlineOf set p) ps ts in
       stage M _ _ _ _
       (λ l. let e : m / 3 * 3 + m % 3 ≡ m = omega arith in (s, omega arith, rw e (tells-first h l)))
       (λ l. let c : Closed set p pw iw = (s, tells-all h l) in
-      stage M (firstMissing (turn set) (rim set p) ps ts) (length (rim set p)) (said.MissingPiece (firstMissing (turn set) (rim set p) ps ts)) said.Accepted (λ k. (c, tells-first g k)) (λ k. inr (s .0 .0 .0 .0 .0 .0, passed-sound set p pw iw c (tells-all g k))))
+      stage M (firstMissing (turnAsked set) (outlineOf set p) ps ts) (length (outlineOf set p)) (said.MissingPiece (firstMissing (turnAsked set) (outlineOf set p) ps ts)) said.Accepted (λ k. (c, tells-first g k)) (λ k. inr (s .0 .0 .0 .0 .0 .0, passed-sound set p pw iw c (tells-all g k))))
 
-  side-means : Distinct set p pw iw → M (sideFault (turn set) (rim set p) ps ts)
+  side-means : Distinct set p pw iw → M (sideFault (turnAsked set) (outlineOf set p) ps ts)
   unfolding sideFault firstTurned firstReused
   side-means d =
       let h = turn-tells set p ps iw in
@@ -70,7 +71,7 @@ module _ (set : Settings) (p : Patch) (pw iw : List ℕ) where
       stage M _ _ _ _ (λ k. (t, pair-first (λ i j. shareSide (triangleAt ts i) (triangleAt ts j)) g k))
       (λ k. outline-means (t, pair-none (λ i j. shareSide (triangleAt ts i) (triangleAt ts j)) g k)))
 
-  point-means : Known set p pw iw → M (pointFault (isTriangles p) (turn set) (rim set p) ps ts)
+  point-means : Known set p pw iw → M (pointFault (isTriangles p) (turnAsked set) (outlineOf set p) ps ts)
   unfolding pointFault firstOutside firstRepeated
   point-means d =
       let h = inside-tells p ps in
@@ -80,12 +81,12 @@ module _ (set : Settings) (p : Patch) (pw iw : List ℕ) where
       stage M _ _ _ _ (λ k. (t, pair-first (λ i j. samePoint (at ps i) (at ps j)) g k))
       (λ k. side-means (t, pair-none (λ i j. samePoint (at ps i) (at ps j)) g k)))
 
-  pub mesh-means : Kept set p → M (meshFault (isTriangles p) (turn set) (rim set p) pw iw)
+  pub mesh-means : Kept set p → M (meshFault (isTriangles p) (turnAsked set) (outlineOf set p) pw iw)
   unfolding meshFault firstUnknown
   mesh-means d = go (eqb (length pw % 3) 0) (eqb (length iw % 3) 0) refl refl
     where
       go : (x y : Bool) → eqb (length pw % 3) 0 ≡ x → eqb (length iw % 3) 0 ≡ y
-          → M (cond (x && y) (orElse (firstUnknown iw (length ps)) (length iw) (said.UnknownIndex (firstUnknown iw (length ps))) (pointFault (isTriangles p) (turn set) (rim set p) ps ts)) said.NotThrees)
+          → M (cond (x && y) (orElse (firstUnknown iw (length ps)) (length iw) (said.UnknownIndex (firstUnknown iw (length ps))) (pointFault (isTriangles p) (turnAsked set) (outlineOf set p) ps ts)) said.NotThrees)
       go true true e f =
           let t : Counted set p pw iw = (d, (eqb-true (length pw % 3) 0 e, eqb-true (length iw % 3) 0 f)) in
           let h = known-tells ps iw in

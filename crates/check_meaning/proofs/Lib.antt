@@ -1,5 +1,4 @@
 -- The laws of `check_meaning`, lowest first.
-pub mod Given
 pub mod Tells
 pub mod Sides
 pub mod PointTests

@@ -6,8 +6,8 @@ use Rattle.level.specs.Top.{isTop}
 use Rattle.patch.specs.declared.kinds.Patch.{Patch}
 use Rattle.patch.specs.declared.settings.Settings.{Settings}
 use Rattle.patch.specs.Subdivide.{discards}
-use Rattle.patch.specs.Turn.{positive}
-use Rattle.patch_mesh.specs.Demand.{outline}
+use Rattle.patch.specs.Turn.{turnAsked}
+use Rattle.patch_mesh.specs.Demand.{outlineOf}
 use Rattle.check_verdict.specs.declared.Verdict.{Verdict}
 use Rattle.check_verdict.specs.declared.Verdict.the-variants.{BadTop, Isolines, Dots, ShouldBeDiscarded, Accepted}
 use Rattle.check_verdict.specs.Faults.{meshFault}
@@ -15,7 +15,7 @@ use Rattle.check_meaning.specs.Checks.{isIsolines, isTriangles, isEmpty}
 
 -- the fault of a mesh for a patch that is not discarded
 unfoldable pub patchFault : Settings → Patch → List ℕ → List ℕ → Verdict
-patchFault set p pw iw = meshFault (isTriangles p) (positive (set .order) (set .origin)) (outline (set .spacing) (set .top) p) pw iw
+patchFault set p pw iw = meshFault (isTriangles p) (turnAsked set) (outlineOf set p) pw iw
 
 -- the verdict: a bad top level first, then isolines, dots and a patch that should be discarded, then the faults of the mesh
 unfoldable pub verdict : Settings → Patch → List ℕ → List ℕ → Verdict

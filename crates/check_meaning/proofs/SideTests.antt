@@ -14,7 +14,7 @@ use Rattle.mesh_geometry.specs.declared.Point.{Point}
 use Rattle.mesh_geometry.specs.Cover.{Face, Side, reversed, side, piece, twiceArea, Occurs}
 use Rattle.mesh_geometry.specs.Faces.{at, faceOf}
 use Rattle.mesh_geometry.specs.Words.{readTriangles}
-use Rattle.patch_mesh.specs.Demand.{outline}
+use Rattle.patch_mesh.specs.Demand.{outline, outlineOf}
 use Rattle.check_soundness.specs.Sound.{sidesIn}
 use Rattle.check_searches.specs.Points.{samePoint}
 use Rattle.check_searches.specs.Triangles.{triangleAt, hasSide, shareSide, someSide}
@@ -26,7 +26,7 @@ use Rattle.check_faults.proofs.Corners.{start-known, end-known}
 use Rattle.check_meaning.specs.Means.{TurnsAt, SharedAt, ClosedAt, DrawnAt}
 use Rattle.check_meaning.proofs.Sides.{sideNo, by-numbers, drawn-count, side-split, side-of, face-at, any-which, both-which, SideNo, side-which, side-has, share-which, share-has}
 use Rattle.check_meaning.proofs.PointTests.{clash, same-is, is-same}
-use Rattle.check_meaning.proofs.Given.{turn, rim}
+use Rattle.patch.specs.Turn.{turnAsked}
 use Rattle.check_meaning.proofs.Tells.{Tells, TellsPair}
 
 -- sides by coordinates
@@ -56,10 +56,10 @@ module _ (set : Settings) (p : Patch) (ps : List Point) (iw : List ℕ) where
   abbrev ts : List Triangle
   ts = readTriangles iw
 
-  pub turn-tells : Tells (λ k. turnsWrong (turn set) ps (triangleAt ts k)) (TurnsAt set ps iw) (length ts)
+  pub turn-tells : Tells (λ k. turnsWrong (turnAsked set) ps (triangleAt ts k)) (TurnsAt set ps iw) (length ts)
   turn-tells = record {
-    good = λ k l e. rw (face-at ps ts _ k l) (sign-holds (turn set) _ (not-false (hasSign (turn set) (twiceArea (faceOf (at ps) (triangleAt ts k)))) e));
-    bad = λ k l e h. clash e (sign-tests (turn set) _ (rw (face-at ps ts _ k l) at h));
+    good = λ k l e. rw (face-at ps ts _ k l) (sign-holds (turnAsked set) _ (not-false (hasSign (turnAsked set) (twiceArea (faceOf (at ps) (triangleAt ts k)))) e));
+    bad = λ k l e h. clash e (sign-tests (turnAsked set) _ (rw (face-at ps ts _ k l) at h));
   }
 
   -- for distinct points
@@ -120,21 +120,21 @@ module _ (set : Settings) (p : Patch) (ps : List Point) (iw : List ℕ) where
                 ∙ by-numbers ps (triangleAt ts (w .0)) (v .e) ∙ rw (← v .starts, ← v .ends) (ap reversed (sym own)),
           )
 
-      edge : onOutline (turn set) (rim set p) (sideBetween ps x y) ≡ true → ClosedAt set p ps iw m
+      edge : onOutline (turnAsked set) (outlineOf set p) (sideBetween ps x y) ≡ true → ClosedAt set p ps iw m
       edge h =
-          let w = some-which (λ k. sameEnds (piece (turn set) (rim set p) k) (sideBetween ps x y)) (length (rim set p)) h in
-          inl (w .0, w .1, own ∙ sym (ends-is (piece (turn set) (rim set p) (w .0)) (sideBetween ps x y) (w .2)))
+          let w = some-which (λ k. sameEnds (piece (turnAsked set) (outlineOf set p) k) (sideBetween ps x y)) (length (outlineOf set p)) h in
+          inl (w .0, w .1, own ∙ sym (ends-is (piece (turnAsked set) (outlineOf set p) (w .0)) (sideBetween ps x y) (w .2)))
 
-      pub closes-closed : closes (turn set) (rim set p) ps ts m ≡ true → ClosedAt set p ps iw m
-      closes-closed h = ⊎-elim met edge (either (someSide ts y x) (onOutline (turn set) (rim set p) (sideBetween ps x y)) h)
+      pub closes-closed : closes (turnAsked set) (outlineOf set p) ps ts m ≡ true → ClosedAt set p ps iw m
+      closes-closed h = ⊎-elim met edge (either (someSide ts y x) (onOutline (turnAsked set) (outlineOf set p) (sideBetween ps x y)) h)
 
-      as-piece : (k : ℕ) × (k < length (rim set p)) × (side (sidesIn ps iw) m ≡ piece (turn set) (rim set p) k) → closes (turn set) (rim set p) ps ts m ≡ true
+      as-piece : (k : ℕ) × (k < length (outlineOf set p)) × (side (sidesIn ps iw) m ≡ piece (turnAsked set) (outlineOf set p) k) → closes (turnAsked set) (outlineOf set p) ps ts m ≡ true
       as-piece w = rw (
-        some-here (λ k. sameEnds (piece (turn set) (rim set p) k) (sideBetween ps x y)) (length (rim set p)) (w .0) (w .1) (ends-same _ (sideBetween ps x y) (sym (w .2) ∙ own)),
+        some-here (λ k. sameEnds (piece (turnAsked set) (outlineOf set p) k) (sideBetween ps x y)) (length (outlineOf set p)) (w .0) (w .1) (ends-same _ (sideBetween ps x y) (sym (w .2) ∙ own)),
         or-true,
       )
 
-      as-reverse : Occurs (reversed (side (sidesIn ps iw) m)) (sidesIn ps iw) → closes (turn set) (rim set p) ps ts m ≡ true
+      as-reverse : Occurs (reversed (side (sidesIn ps iw) m)) (sidesIn ps iw) → closes (turnAsked set) (outlineOf set p) ps ts m ≡ true
       as-reverse w =
           let i = w .0 / 3 in
           let c : w .0 < length ts * 3 = omega (arith, drawn-count ps ts, w .1) in
@@ -147,23 +147,23 @@ module _ (set : Settings) (p : Patch) (ps : List Point) (iw : List ℕ) where
           (sym (apart _ _ (start-known _ _ (w .0 % 3) (num i b)) (end-known _ t (m % 3) n) (ap (λ s. s .start) e)))
           (sym (apart _ _ (end-known _ _ (w .0 % 3) (num i b)) (start-known _ t (m % 3) n) (ap (λ s. s .end) e)))))
 
-    pub closed-tells : Tells (λ m. not (closes (turn set) (rim set p) ps ts m)) (ClosedAt set p ps iw) (length ts * 3)
+    pub closed-tells : Tells (λ m. not (closes (turnAsked set) (outlineOf set p) ps ts m)) (ClosedAt set p ps iw) (length ts * 3)
     closed-tells = record {
-      good = λ m l e. closes-closed m l (not-false (closes (turn set) (rim set p) ps ts m) e);
+      good = λ m l e. closes-closed m l (not-false (closes (turnAsked set) (outlineOf set p) ps ts m) e);
       bad = λ m l e h. clash e (⊎-elim (as-piece m l) (as-reverse m l) h);
     }
 
-  pub drawn-tells : Tells (λ k. not (isDrawn ps ts (piece (turn set) (rim set p) k))) (DrawnAt set p ps iw) (length (rim set p))
+  pub drawn-tells : Tells (λ k. not (isDrawn ps ts (piece (turnAsked set) (outlineOf set p) k))) (DrawnAt set p ps iw) (length (outlineOf set p))
   drawn-tells = record { good = good; bad = λ k l e h. clash e (bad k h) }
     where
-      good : (k : ℕ) → k < length (rim set p) → not (isDrawn ps ts (piece (turn set) (rim set p) k)) ≡ false → DrawnAt set p ps iw k
+      good : (k : ℕ) → k < length (outlineOf set p) → not (isDrawn ps ts (piece (turnAsked set) (outlineOf set p) k)) ≡ false → DrawnAt set p ps iw k
       good k l e =
-          let w = some-which (λ i. bounds (faceOf (at ps) (triangleAt ts i)) (piece (turn set) (rim set p) k)) (length ts) (not-false _ e) in
-          let v = bounds-which (faceOf (at ps) (triangleAt ts (w .0))) (piece (turn set) (rim set p) k) (w .2) in
+          let w = some-which (λ i. bounds (faceOf (at ps) (triangleAt ts i)) (piece (turnAsked set) (outlineOf set p) k)) (length ts) (not-false _ e) in
+          let v = bounds-which (faceOf (at ps) (triangleAt ts (w .0))) (piece (turnAsked set) (outlineOf set p) k) (w .2) in
           (w .0 * 3 + v .0, omega (arith, drawn-count ps ts, w .1, v .1), side-of ps ts (w .0) (v .0) (w .1) (v .1) ∙ v .2)
 
-      bad : (k : ℕ) → DrawnAt set p ps iw k → isDrawn ps ts (piece (turn set) (rim set p) k) ≡ true
+      bad : (k : ℕ) → DrawnAt set p ps iw k → isDrawn ps ts (piece (turnAsked set) (outlineOf set p) k) ≡ true
       bad k w =
           let c : w .0 < length ts * 3 = omega (arith, drawn-count ps ts, w .1) in
-          some-here (λ i. bounds (faceOf (at ps) (triangleAt ts i)) (piece (turn set) (rim set p) k)) (length ts) (w .0 / 3) (omega arith)
-          (bounds-side _ (w .0 % 3) (piece (turn set) (rim set p) k) (sym (side-split ps ts (w .0) c) ∙ w .2))
+          some-here (λ i. bounds (faceOf (at ps) (triangleAt ts i)) (piece (turnAsked set) (outlineOf set p) k)) (length ts) (w .0 / 3) (omega arith)
+          (bounds-side _ (w .0 % 3) (piece (turnAsked set) (outlineOf set p) k) (sym (side-split ps ts (w .0) c) ∙ w .2))

@@ -8,14 +8,14 @@ use native.Mathlib.Decide.{decLe}
 use lib.ListN.{length, length-map}
 use Rattle.patch.specs.declared.kinds.Patch.{Patch}
 use Rattle.patch.specs.declared.settings.Settings.{Settings}
-use Rattle.patch.specs.Turn.{positive}
+use Rattle.patch.specs.Turn.{turnAsked}
 use Rattle.strip.specs.declared.triangle.Triangle.{Triangle}
 use Rattle.mesh_geometry.specs.declared.Point.{Point}
 use Rattle.mesh_geometry.specs.Cover.{side}
 use Rattle.mesh_geometry.specs.Faces.{at, faceOf}
 use Rattle.mesh_geometry.proofs.Lists.{neither}
 use Rattle.mesh_geometry.specs.Words.{readPoints, readTriangles}
-use Rattle.patch_mesh.specs.Demand.{outline}
+use Rattle.patch_mesh.specs.Demand.{outlineOf}
 use Rattle.check_soundness.specs.Sound.{sidesIn, SoundWords}
 use Rattle.check_searches.specs.Triangles.{triangleAt}
 use Rattle.check_searches.proofs.Read.{triangles-count}
@@ -67,7 +67,7 @@ module _ (set : Settings) (p : Patch) (pw iw : List ℕ) where
     within i j c l m e =
         let k : j / 3 < length ts = omega arith in
         let t = triangleAt ts (j / 3) in
-        let a = area-apart (positive (set .order) (set .origin)) (at ps) t (rw (face-at ps ts _ (j / 3) k) at (s .0 .1 (j / 3) k)) in
+        let a = area-apart (turnAsked set) (at ps) t (rw (face-at ps ts _ (j / 3) k) at (s .0 .1 (j / 3) k)) in
         let num = numbers-of ps iw (s .0 .0 .0 .0 .1) in
         let w = same-numbers set p ps iw (distinct-of ps (s .0 .0 .1)) num t t (i % 3) (j % 3) (num (j / 3) k) (num (j / 3) k)
         (sym (rw c at (side-split ps ts i l)) ∙ e ∙ side-split ps ts j m) in
@@ -76,7 +76,7 @@ module _ (set : Settings) (p : Patch) (pw iw : List ℕ) where
     single-of : (i j : ℕ) → i < length ts * 3 → j < length ts * 3 → side (sidesIn ps iw) i ≡ side (sidesIn ps iw) j → i ≡ j
     single-of i j l m e = within i j (neither (i / 3) (j / 3) (λ k. shared i j k m e) (λ k. shared j i k l (sym e))) l m e
 
-  pub passed-sound : Closed set p pw iw → Every (DrawnAt set p ps iw) (length (outline (set .spacing) (set .top) p)) → SoundWords set p pw iw
+  pub passed-sound : Closed set p pw iw → Every (DrawnAt set p ps iw) (length (outlineOf set p)) → SoundWords set p pw iw
   passed-sound c d =
       let s = c .0 in
       let k = s .0 .0 .0 .0 in
@@ -95,7 +95,7 @@ module _ (set : Settings) (p : Patch) (pw iw : List ℕ) where
       }
 
   -- conversely, a sound mesh has passed all stages
-  pub sound-passed : Kept set p → SoundWords set p pw iw → Closed set p pw iw × Every (DrawnAt set p ps iw) (length (outline (set .spacing) (set .top) p))
+  pub sound-passed : Kept set p → SoundWords set p pw iw → Closed set p pw iw × Every (DrawnAt set p ps iw) (length (outlineOf set p))
   sound-passed k w =
       let s = w .mesh in
       let n = drawn-count ps ts in (

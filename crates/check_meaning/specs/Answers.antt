@@ -8,12 +8,12 @@ use Rattle.level.specs.Top.{isTop}
 use Rattle.patch.specs.declared.kinds.Patch.{Patch}
 use Rattle.patch.specs.declared.settings.Settings.{Settings}
 use Rattle.patch.specs.Subdivide.{discards}
-use Rattle.patch.specs.Turn.{positive}
+use Rattle.patch.specs.Turn.{positive, turnAsked}
 use Rattle.strip.specs.declared.triangle.Triangle.{Triangle}
 use Rattle.mesh_geometry.specs.declared.Point.{Point}
 use Rattle.mesh_geometry.specs.Faces.{at}
 use Rattle.mesh_geometry.specs.Words.{readPoints, readTriangles}
-use Rattle.patch_mesh.specs.Demand.{outline}
+use Rattle.patch_mesh.specs.Demand.{outline, outlineOf}
 use Rattle.check_searches.specs.Indices.{firstUnknown}
 use Rattle.check_searches.specs.Points.{firstEqual, firstRepeated}
 use Rattle.check_searches.specs.Triangles.{triangleAt, firstSharing, firstReused}
@@ -46,7 +46,7 @@ unfoldable pub meshVerdict : Settings → Patch → List ℕ → List ℕ → To
 meshVerdict set p pw iw =
     cond (eqb (length pw % 3) 0 && eqb (length iw % 3) 0)
     (faultAt 24 (length iw) (firstUnknown iw (length (readPoints pw))) here
-    (faultVerdict (isTriangles p) (positive (set .order) (set .origin)) (outline (set .spacing) (set .top) p) (readPoints pw) (readTriangles iw)))
+    (faultVerdict (isTriangles p) (turnAsked set) (outlineOf set p) (readPoints pw) (readTriangles iw)))
     (refused 23)
 
 -- the answer for a mesh of any patch

@@ -9,11 +9,11 @@ use Rattle.level.specs.Top.{Top}
 use Rattle.patch.specs.declared.kinds.Patch.{Patch}
 use Rattle.patch.specs.declared.settings.Settings.{Settings}
 use Rattle.patch.specs.Subdivide.{discards}
-use Rattle.patch.specs.Turn.{positive}
+use Rattle.patch.specs.Turn.{turnAsked}
 use Rattle.mesh_geometry.specs.declared.Point.{Point}
 use Rattle.mesh_geometry.specs.Cover.{missing, reversed, side, twiceArea, HasSign, piece, Occurs}
 use Rattle.mesh_geometry.specs.Words.{readPoints, readTriangles}
-use Rattle.patch_mesh.specs.Demand.{Surface, outline}
+use Rattle.patch_mesh.specs.Demand.{Surface, outline, outlineOf}
 use Rattle.mesh_geometry.specs.Faces.{facesIn}
 use Rattle.mesh_geometry.specs.Held.{face}
 use Rattle.patch_mesh.specs.InPatch.{InPatch, domainOf}
@@ -57,7 +57,7 @@ EqualAt ps i j = getD ps i missing ≡ getD ps j missing
 
 -- triangle k has an area, and the orientation asked for
 abbrev pub TurnsAt : Settings → List Point → List ℕ → ℕ → Type 0
-TurnsAt set ps iw k = HasSign (positive (set .order) (set .origin)) (twiceArea (face (facesIn ps iw) k))
+TurnsAt set ps iw k = HasSign (turnAsked set) (twiceArea (face (facesIn ps iw) k))
 
 -- triangles i and j have a directed side in common
 pub record SharedAt (ps : List Point) (iw : List ℕ) (i j : ℕ) : Type 0 where
@@ -70,13 +70,13 @@ pub record SharedAt (ps : List Point) (iw : List ℕ) (i j : ℕ) : Type 0 where
 -- side m is a piece of the outline or has its reverse among the sides; each triangle has three sides
 abbrev pub ClosedAt : Settings → Patch → List Point → List ℕ → ℕ → Type 0
 ClosedAt set p ps iw m =
-    ((k : ℕ) × (k < length (outline (set .spacing) (set .top) p))
-    × (side (sidesIn ps iw) m ≡ piece (positive (set .order) (set .origin)) (outline (set .spacing) (set .top) p) k))
+    ((k : ℕ) × (k < length (outlineOf set p))
+    × (side (sidesIn ps iw) m ≡ piece (turnAsked set) (outlineOf set p) k))
     ⊎ Occurs (reversed (side (sidesIn ps iw) m)) (sidesIn ps iw)
 
 -- piece k of the outline is a side
 abbrev pub DrawnAt : Settings → Patch → List Point → List ℕ → ℕ → Type 0
-DrawnAt set p ps iw k = Occurs (piece (positive (set .order) (set .origin)) (outline (set .spacing) (set .top) p) k) (sidesIn ps iw)
+DrawnAt set p ps iw k = Occurs (piece (turnAsked set) (outlineOf set p) k) (sidesIn ps iw)
 
 -- what holds before faults of each kind are searched for
 abbrev pub Counted : Settings → Patch → List ℕ → List ℕ → Type 0
@@ -117,7 +117,7 @@ Means set p pw iw (said.EqualPoints i j) = Inside set p pw iw × FirstPair (Equa
 Means set p pw iw (said.Turned k) = Distinct set p pw iw × FirstNot (TurnsAt set (readPoints pw) iw) (length (readTriangles iw)) k
 Means set p pw iw (said.SideTwice i j) = Turning set p pw iw × FirstPair (SharedAt (readPoints pw) iw) (length (readTriangles iw)) i j
 Means set p pw iw (said.OpenSide k e) = Single set p pw iw × (e < 3) × FirstNot (ClosedAt set p (readPoints pw) iw) (length (readTriangles iw) * 3) (k * 3 + e)
-Means set p pw iw (said.MissingPiece k) = Closed set p pw iw × FirstNot (DrawnAt set p (readPoints pw) iw) (length (outline (set .spacing) (set .top) p)) k
+Means set p pw iw (said.MissingPiece k) = Closed set p pw iw × FirstNot (DrawnAt set p (readPoints pw) iw) (length (outlineOf set p)) k
 Means set p pw iw said.Accepted = Accepts set p pw iw
 
 -- the contract of the check: the number and values of the answer, and that they are those of a verdict exactly if that verdict is right

@@ -4,10 +4,10 @@ use mathlib.Core.Bool.{Bool}
 use Rattle.patch.specs.declared.kinds.Patch.{Patch}
 use Rattle.patch.specs.declared.settings.Settings.{Settings}
 use Rattle.patch.specs.declared.subdivision.Subdivision.{Subdivision}
-use Rattle.patch.specs.Subdivide.{discards, subdivision, isDiscarded}
+use Rattle.patch.specs.Subdivide.{discards, subdivisionOf, isDiscarded}
 use Rattle.patch.proofs.Discarded.{discarded-cut}
 
 -- the test whether the patch is discarded
-pub flag : (set : Settings) (p : Patch) {c : Subdivision} {b y : Bool} → c ≡ subdivision (set .spacing) (set .top) p → b ≡ isDiscarded c → b ≡ y
+pub flag : (set : Settings) (p : Patch) {c : Subdivision} {b y : Bool} → c ≡ subdivisionOf set p → b ≡ isDiscarded c → b ≡ y
     → discards p ≡ y
 flag set p is f h = sym (discarded-cut (set .spacing) (set .top) p) ∙ ap isDiscarded (sym is) ∙ sym f ∙ h

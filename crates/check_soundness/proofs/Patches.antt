@@ -14,8 +14,8 @@ use Rattle.strip.proofs.Strips.{indices-length}
 use Rattle.patch.specs.declared.kinds.Patch.{Patch}
 use Rattle.patch.specs.declared.kinds.Patch.the-variants.{Triangles, Quads, Isolines}
 use Rattle.patch.specs.declared.settings.Settings.{Settings}
-use Rattle.patch.specs.Subdivide.{outers, discards, subdivision}
-use Rattle.patch.specs.Turn.{positive}
+use Rattle.patch.specs.Subdivide.{outers, discards, subdivisionOf}
+use Rattle.patch.specs.Turn.{turnAsked}
 use Rattle.mesh_geometry.specs.declared.Point.{Point}
 use Rattle.mesh_geometry.specs.Cover.{missing, Cover}
 use Rattle.mesh_geometry.specs.Edge.{GoodRun}
@@ -24,7 +24,7 @@ use Rattle.mesh_geometry.proofs.Words.{words-length}
 use Rattle.mesh_geometry.specs.Words.{vertexWords}
 use Rattle.patch_mesh.specs.Points.{points}
 use Rattle.patch_mesh.specs.Primitives.{primitives, indexWords}
-use Rattle.patch_mesh.specs.Demand.{Surface, outerRuns, outline, twiceAreaOf, Demand}
+use Rattle.patch_mesh.specs.Demand.{Surface, outerRuns, outline, outlineOf, twiceAreaOf, Demand}
 use Rattle.mesh_geometry.specs.Faces.{facesIn}
 use Rattle.mesh_geometry.proofs.ReadBack.{read-points}
 use Rattle.patch_mesh.proofs.Runs.{good-run}
@@ -45,14 +45,14 @@ module _ (set : Settings) (top : Top (set .top)) where
 
   -- with the arguments of demand 3
   pub patch-sound-covers : (p : Patch) → Surface p → {ps : List Point} {ws : List ℕ} → SoundFor set p ps ws
-      → Cover (positive (set .order) (set .origin)) (twiceAreaOf p) (outline (set .spacing) (set .top) p) ps (facesIn ps ws)
+      → Cover (turnAsked set) (twiceAreaOf p) (outlineOf set p) ps (facesIn ps ws)
   patch-sound-covers (Triangles a b c i) f s = sound-covers triangle _ refl (good-runs (Triangles a b c i)) s
   patch-sound-covers (Quads a b c d i j) f s = sound-covers square _ refl (good-runs (Quads a b c d i j)) s
   patch-sound-covers (Isolines a b) f s = absurd f
 
   -- exactly one triangle of a sound mesh holds each spot that lies strictly inside the patch and on no side
   pub patch-sound-once : (p : Patch) {ps : List Point} {ws : List ℕ} → SoundFor set p ps ws
-      → (z : Spot) → Inside p z → Clear (facesIn ps ws) z → HeldOnce (positive (set .order) (set .origin)) (facesIn ps ws) z
+      → (z : Spot) → Inside p z → Clear (facesIn ps ws) z → HeldOnce (turnAsked set) (facesIn ps ws) z
   patch-sound-once (Triangles a b c i) s = sound-once triangle _ refl (good-runs (Triangles a b c i)) s
   patch-sound-once (Quads a b c d i j) s = sound-once square _ refl (good-runs (Quads a b c d i j)) s
   patch-sound-once (Isolines a b) s = λ z i. absurd i
@@ -91,17 +91,17 @@ thirds s t = record {
 
 -- what is drawn as triangles is sound, for every triangle or quad patch that is not discarded and all settings with a good top level
 pub drawn-sound : (set : Settings) → Top (set .top) → (p : Patch) → Surface p → discards p ≡ false → set .«point_mode» ≡ false
-    → SoundFor set p (points (subdivision (set .spacing) (set .top) p)) (indexWords set (subdivision (set .spacing) (set .top) p))
+    → SoundFor set p (points (subdivisionOf set p)) (indexWords set (subdivisionOf set p))
 unfolding indexWords
 drawn-sound set top p f kept filled =
     demand-sound (demand set top p kept) f filled
-    (rw (filled, not-discarded (set .spacing) (set .top) p kept) (drawn-cases (thirds (set .spacing) (set .top)) p f (positive (set .order) (set .origin))))
+    (rw (filled, not-discarded (set .spacing) (set .top) p kept) (drawn-cases (thirds (set .spacing) (set .top)) p f (turnAsked set)))
     (drawn-in (set .spacing) (set .top) top p)
 
 -- the same for the words
 pub drawn-words-sound : (set : Settings) → Top (set .top) → (p : Patch) → Surface p → discards p ≡ false → set .«point_mode» ≡ false
-    → SoundWords set p (vertexWords (points (subdivision (set .spacing) (set .top) p))) (indexWords set (subdivision (set .spacing) (set .top) p))
+    → SoundWords set p (vertexWords (points (subdivisionOf set p))) (indexWords set (subdivisionOf set p))
 drawn-words-sound set top p f kept filled = record {
-  thirds = omega (arith, words-length (points (subdivision (set .spacing) (set .top) p)));
+  thirds = omega (arith, words-length (points (subdivisionOf set p)));
   mesh = rw read-points (drawn-sound set top p f kept filled);
 }

@@ -8,11 +8,11 @@ use mathlib.Core.List.{List}
 use lib.ListN.{length, getD}
 use Rattle.patch.specs.declared.kinds.Patch.{Patch}
 use Rattle.patch.specs.declared.settings.Settings.{Settings}
-use Rattle.patch.specs.Turn.{positive}
+use Rattle.patch.specs.Turn.{turnAsked}
 use Rattle.mesh_geometry.specs.declared.Point.{Point}
 use Rattle.mesh_geometry.specs.Cover.{Side, missing, reversed, sides, side, twiceArea, HasSign, piece, Occurs}
 use Rattle.mesh_geometry.specs.Words.{readPoints}
-use Rattle.patch_mesh.specs.Demand.{outline}
+use Rattle.patch_mesh.specs.Demand.{outline, outlineOf}
 use Rattle.mesh_geometry.specs.Faces.{facesIn}
 use Rattle.mesh_geometry.specs.Held.{face}
 use Rattle.mesh_geometry.specs.Domain.{Domain}
@@ -46,7 +46,7 @@ pub record Sound (domain : Domain) (turn : Bool) (rim points : List Point) (word
 
 -- a mesh passes every test for this patch with these settings
 abbrev pub SoundFor : Settings → Patch → List Point → List ℕ → Type 0
-SoundFor set p ps ws = Sound (domainOf p) (positive (set .order) (set .origin)) (outline (set .spacing) (set .top) p) ps ws
+SoundFor set p ps ws = Sound (domainOf p) (turnAsked set) (outlineOf set p) ps ws
 
 -- the same for a mesh given as words, three per point
 pub record SoundWords (set : Settings) (p : Patch) (vs ws : List ℕ) : Type 0 where

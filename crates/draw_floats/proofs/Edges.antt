@@ -11,7 +11,7 @@ use Rattle.level.proofs.Valid.{segments-valid}
 use Rattle.patch.specs.declared.kinds.Patch.{Patch}
 use Rattle.patch.specs.declared.kinds.Patch.the-variants.{Triangles, Quads, Isolines}
 use Rattle.patch.specs.declared.settings.Settings.{Settings}
-use Rattle.patch.specs.Subdivide.{outers, subdivision}
+use Rattle.patch.specs.Subdivide.{outers, subdivisionOf}
 use Rattle.mesh_geometry.specs.declared.Point.{Point}
 use Rattle.mesh_geometry.specs.Cover.{missing}
 use Rattle.mesh_geometry.specs.Seam.{places, Mirrors}
@@ -65,7 +65,7 @@ word-of ps (suc (suc (suc n))) j h l = absurd (omega arith)
 module _ (set : Settings) (p : Patch) (r : FloatsAnswer) {v v′ i i′ : List ℕ} {f f′ : List Float} {P I : ℕ}
     (d : DrewWithFloats set p v v′ i i′ f f′ r) (e : toldFloats r ≡ drewBoth P I) where
   abbrev drawn : List Point
-  drawn = points (subdivision (set .spacing) (set .top) p)
+  drawn = points (subdivisionOf set p)
 
   at-place : Surface p → (k j : ℕ) → j < P → edges p k .on (getD drawn j missing) ≡ true
       → getD f′ (axis p k + 3 * j) nan ≡ edgeFloat p k (edges p k .along (getD drawn j missing))

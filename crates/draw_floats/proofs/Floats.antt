@@ -10,7 +10,7 @@ use Rattle.buffer.proofs.Laws.{over-front}
 use Rattle.patch.specs.declared.kinds.Patch.{Patch}
 use Rattle.patch.specs.declared.kinds.Patch.the-variants.{Triangles, Quads, Isolines}
 use Rattle.patch.specs.declared.settings.Settings.{Settings}
-use Rattle.patch.specs.Subdivide.{subdivision}
+use Rattle.patch.specs.Subdivide.{subdivisionOf}
 use Rattle.mesh_geometry.specs.declared.Point.{Point}
 use Rattle.mesh_geometry.specs.Cover.{missing}
 use Rattle.mesh_geometry.specs.Words.{vertexWords}
@@ -85,7 +85,7 @@ module _ (set : Settings) (p : Patch) (r : FloatsAnswer) {v v′ i i′ : List �
   pub floats-distinct : (j k : ℕ) → j < P → k < P → getD f′ (3 * j) nan ≡ getD f′ (3 * k) nan → getD f′ (suc (3 * j)) nan ≡ getD f′ (suc (3 * k)) nan
       → getD f′ (suc (suc (3 * j))) nan ≡ getD f′ (suc (suc (3 * k))) nan → j ≡ k
   floats-distinct j k h l a b c =
-      let ps = points (subdivision (set .spacing) (set .top) p) in
+      let ps = points (subdivisionOf set p) in
       let g = fits set p r d e in
       let n = words-length ps in
       points-distinct (set .spacing) (set .top) (top-as _ (g .top)) p (g .drawn) j k (omega (arith, many, n)) (omega (arith, many, n))

@@ -11,7 +11,7 @@ use Rattle.buffer.proofs.Laws.{over-front, over-length}
 use Rattle.patch.specs.declared.kinds.Patch.{Patch}
 use Rattle.patch.specs.declared.kinds.Patch.the-variants.{Triangles, Quads, Isolines}
 use Rattle.patch.specs.declared.settings.Settings.{Settings}
-use Rattle.patch.specs.Subdivide.{subdivision}
+use Rattle.patch.specs.Subdivide.{subdivisionOf}
 use Rattle.mesh_geometry.proofs.Lists.{all-at}
 use Rattle.mesh_geometry.proofs.Words.{words-length}
 use Rattle.patch_mesh.specs.Points.{points}
@@ -48,7 +48,7 @@ module _ (set : Settings) (p : Patch) {vs is : List ℕ} {fs : List Float} {P I 
       d .list ∙ rw e
 
   pub counted : 3 * P ≡ length (pointWords set p)
-  counted = omega (arith, fits .point-count, words-length (points (subdivision (set .spacing) (set .top) p)))
+  counted = omega (arith, fits .point-count, words-length (points (subdivisionOf set p)))
 
   module _ {vs′ : List ℕ} (e : vs′ ≡ over vs 0 (pointWords set p)) where
     -- the counted words of the vertex list are those of the points

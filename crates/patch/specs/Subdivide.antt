@@ -10,6 +10,7 @@ use Rattle.level.specs.Discard.{discarded}
 use Rattle.level.specs.Segments.{segmentsOf, innerSegments}
 use Rattle.patch.specs.declared.kinds.Patch.{Patch}
 use Rattle.patch.specs.declared.kinds.Patch.the-variants.{Triangles, Quads, Isolines}
+use Rattle.patch.specs.declared.settings.Settings.{Settings}
 use Rattle.patch.specs.declared.subdivision.Subdivision.{Subdivision}
 use Rattle.patch.specs.declared.subdivision.Subdivision.the-variants.{Discarded, PlainTriangle, Triangle, PlainQuad, Quad, Lines}
 use Rattle.patch.specs.Every.{some, every}
@@ -41,6 +42,10 @@ cut s t (Isolines a b) = Lines (segmentsOf Equal t a) (segmentsOf s t b)
 
 unfoldable pub subdivision : Spacing → ℕ → Patch → Subdivision
 subdivision s t p = cond (discards p) Discarded (cut s t p)
+
+-- the subdivision of a patch under these settings
+abbrev pub subdivisionOf : Settings → Patch → Subdivision
+subdivisionOf s p = subdivision (s .spacing) (s .top) p
 
 -- whether the subdivision draws nothing
 abbrev pub isDiscarded : Subdivision → Bool

@@ -8,7 +8,7 @@ use Rattle.mesh_topology.proofs.Length.{nest-length, quad-length, isolines-leng
 use Rattle.patch.specs.declared.settings.Settings.{Settings}
 use Rattle.patch.specs.declared.subdivision.Subdivision.{Subdivision}
 use Rattle.patch.specs.declared.subdivision.Subdivision.the-variants.{Discarded, PlainTriangle, Triangle, PlainQuad, Quad, Lines}
-use Rattle.patch.specs.Turn.{positive}
+use Rattle.patch.specs.Turn.{turnAsked}
 use Rattle.mesh_geometry.proofs.Grid.{grid-length}
 use Rattle.mesh_geometry.proofs.TrianglePatch.{patch-length}
 use Rattle.mesh_geometry.proofs.QuadPatch.{quad-patch-length}
@@ -43,6 +43,6 @@ pub index-count : (set : Settings) (c : Subdivision) → ValidCut c → length (
 unfolding indexWords
 index-count set c v = go (set .«point_mode»)
   where
-    go : (mode : Bool) → length (inMode mode (positive (set .order) (set .origin)) c) ≡ countIn mode c
-    go false = primitive-count (positive (set .order) (set .origin)) c v
+    go : (mode : Bool) → length (inMode mode (turnAsked set) c) ≡ countIn mode c
+    go false = primitive-count (turnAsked set) c v
     go true = dots-length (length (points c)) ∙ point-count c v

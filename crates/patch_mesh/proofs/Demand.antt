@@ -6,8 +6,8 @@ use Rattle.level.specs.declared.Spacing.{Spacing}
 use Rattle.level.specs.Top.{Top}
 use Rattle.patch.specs.declared.kinds.Patch.{Patch}
 use Rattle.patch.specs.declared.settings.Settings.{Settings}
-use Rattle.patch.specs.Subdivide.{discards, cut, subdivision}
-use Rattle.patch.specs.Turn.{positive}
+use Rattle.patch.specs.Subdivide.{discards, cut, subdivision, subdivisionOf}
+use Rattle.patch.specs.Turn.{turnAsked}
 use Rattle.mesh_geometry.proofs.Lists.{all-at}
 use Rattle.patch_mesh.specs.Points.{points}
 use Rattle.patch_mesh.specs.Primitives.{indexWords}
@@ -27,10 +27,10 @@ cut-demand set top p =
     let t = set .top in
     record {
       numbered = λ k h. all-at 0 k h (indices-below set (cut s t p) (drawn-valid s t top p));
-      cover = λ f m. rw m (covered s t top p .cover f (positive (set .order) (set .origin)));
+      cover = λ f m. rw m (covered s t top p .cover f (turnAsked set));
       seams = covered s t top p .seams;
     }
 
 pub demand : (set : Settings) → Top (set .top) → (p : Patch) → discards p ≡ false
-    → Demand set p (points (subdivision (set .spacing) (set .top) p)) (indexWords set (subdivision (set .spacing) (set .top) p))
+    → Demand set p (points (subdivisionOf set p)) (indexWords set (subdivisionOf set p))
 demand set top p h = rw (not-discarded (set .spacing) (set .top) p h) (cut-demand set top p)

@@ -9,7 +9,7 @@ use Rattle.level.specs.Top.{Top}
 use Rattle.level.proofs.Top.{top-64}
 use Rattle.patch.specs.declared.kinds.Patch.{Patch}
 use Rattle.patch.specs.declared.settings.Settings.{Settings}
-use Rattle.patch.specs.Subdivide.{outers, discards, subdivision}
+use Rattle.patch.specs.Subdivide.{outers, discards, subdivision, subdivisionOf}
 use Rattle.mesh_geometry.specs.Seam.{places}
 use Rattle.patch_mesh.specs.Points.{points}
 use Rattle.patch_mesh.specs.Primitives.{indexWords}
@@ -23,19 +23,19 @@ greatest : {t : ℕ} → t ≡ 64 → Top t
 greatest e = subst Top (sym e) top-64
 
 pub demand-64 : (set : Settings) (p : Patch) → set .top ≡ 64 → discards p ≡ false
-    → Demand set p (points (subdivision (set .spacing) (set .top) p)) (indexWords set (subdivision (set .spacing) (set .top) p))
+    → Demand set p (points (subdivisionOf set p)) (indexWords set (subdivisionOf set p))
 demand-64 set p e = demand set (greatest e) p
 
 -- the places of an outer edge depend on its spacing and its own level alone
 pub same-seams-64 : (set set′ : Settings) (p p′ : Patch) → set .top ≡ 64 → set′ .top ≡ 64 → discards p ≡ false → discards p′ ≡ false
     → Surface p → Surface p′ → (k k′ : ℕ) → k < length (outers p) → k′ < length (outers p′)
     → set .spacing ≡ set′ .spacing → outerLevel p k ≡ outerLevel p′ k′
-    → places (edges p k) (points (subdivision (set .spacing) (set .top) p)) ≡ places (edges p′ k′) (points (subdivision (set′ .spacing) (set′ .top) p′))
+    → places (edges p k) (points (subdivisionOf set p)) ≡ places (edges p′ k′) (points (subdivisionOf set′ p′))
 same-seams-64 set set′ p p′ e e′ d d′ f f′ k k′ h h′ s l =
     same-seams set set′ (greatest e) (greatest e′) p p′ d d′ f f′ k k′ h h′ s (e ∙ sym e′) l
 
 pub points-64 : (s : Spacing) (p : Patch) → length (points (subdivision s 64 p)) ≤ 4225
 points-64 s p = points-at-most s 64 top-64 p
 
-pub indices-64 : (set : Settings) (p : Patch) → set .top ≡ 64 → length (indexWords set (subdivision (set .spacing) (set .top) p)) ≤ 24576
+pub indices-64 : (set : Settings) (p : Patch) → set .top ≡ 64 → length (indexWords set (subdivisionOf set p)) ≤ 24576
 indices-64 set p e = indices-at-most set (greatest e) p

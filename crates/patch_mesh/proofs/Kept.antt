@@ -16,8 +16,8 @@ use Rattle.patch.specs.declared.settings.Settings.{Settings}
 use Rattle.patch.specs.declared.subdivision.Subdivision.{Subdivision}
 use Rattle.patch.specs.declared.subdivision.Subdivision.the-variants.{Discarded, PlainTriangle, Triangle, PlainQuad, Quad, Lines}
 use Rattle.patch.specs.Every.{every}
-use Rattle.patch.specs.Subdivide.{single, discards, cut, subdivision}
-use Rattle.patch.specs.Turn.{positive}
+use Rattle.patch.specs.Subdivide.{single, discards, cut, subdivision, subdivisionOf}
+use Rattle.patch.specs.Turn.{positive, turnAsked}
 use Rattle.patch_mesh.specs.Points.{points}
 use Rattle.patch_mesh.specs.Primitives.{triangles, primitives, inMode, indexWords}
 use Rattle.patch_mesh.specs.Counts.{pointCount}
@@ -29,7 +29,7 @@ use Rattle.patch_mesh.proofs.Valid.{cut-valid}
 -- plain patches are alike, whatever their counts would be
 pub plain-alike : (set set′ : Settings) (p p′ : Patch) → kindNumber p ≡ kindNumber p′
     → set .«point_mode» ≡ set′ .«point_mode» → set .order ≡ set′ .order → set .origin ≡ set′ .origin
-    → isPlain (subdivision (set .spacing) (set .top) p) ≡ true → isPlain (subdivision (set′ .spacing) (set′ .top) p′) ≡ true → Alike set set′ p p′
+    → isPlain (subdivisionOf set p) ≡ true → isPlain (subdivisionOf set′ p′) ≡ true → Alike set set′ p p′
 plain-alike set set′ p p′ k m o r h h′ = record {
   kind = k;
   mode = m;
@@ -100,7 +100,7 @@ in-mode false mode′ turn turn′ c c′ m t h n = rw (← m, ← t) (h .primit
 in-mode true mode′ turn turn′ c c′ m t h n = rw (← m, n)
 
 pub kept-connections : (set set′ : Settings) → Top (set .top) → Top (set′ .top) → (p p′ : Patch) → discards p ≡ false → discards p′ ≡ false → Alike set set′ p p′
-    → indexWords set (subdivision (set .spacing) (set .top) p) ≡ indexWords set′ (subdivision (set′ .spacing) (set′ .top) p′)
+    → indexWords set (subdivisionOf set p) ≡ indexWords set′ (subdivisionOf set′ p′)
 unfolding indexWords
 kept-connections set set′ top top′ p p′ d d′ a =
     let s = set .spacing in
@@ -112,5 +112,5 @@ kept-connections set set′ top top′ p p′ d d′ a =
     let counts : isPlain (cut s t p) ≡ false → segmentCounts s t p ≡ segmentCounts s′ t′ p′ = rw (← not-discarded s t p d) (a .counts) in
     let plain : isPlain (cut s t p) ≡ isPlain (cut s′ t′ p′) = rw (← not-discarded s t p d, ← not-discarded s′ t′ p′ d′) (a .plain) in
     let h : Same c c′ = rw (not-discarded s t p d, not-discarded s′ t′ p′ d′) (same s s′ t t′ p p′ (a .kind) counts plain) in
-    in-mode (set .«point_mode») (set′ .«point_mode») (positive (set .order) (set .origin)) (positive (set′ .order) (set′ .origin)) c c′ (a .mode)
+    in-mode (set .«point_mode») (set′ .«point_mode») (turnAsked set) (turnAsked set′) c c′ (a .mode)
     (ap₂ positive (a .order) (a .origin)) h (point-count c (cut-valid s t top p) ∙ h .points ∙ sym (point-count c′ (cut-valid s′ t′ top′ p′)))

@@ -17,7 +17,7 @@ use Rattle.mesh_topology.proofs.Plain.{plain-closes}
 use Rattle.patch.specs.declared.settings.Settings.{Settings}
 use Rattle.patch.specs.declared.subdivision.Subdivision.{Subdivision}
 use Rattle.patch.specs.declared.subdivision.Subdivision.the-variants.{Discarded, PlainTriangle, Triangle, PlainQuad, Quad, Lines}
-use Rattle.patch.specs.Turn.{positive}
+use Rattle.patch.specs.Turn.{turnAsked}
 use Rattle.mesh_geometry.proofs.Lists.{All, none, more, all-append}
 use Rattle.mesh_geometry.proofs.Grid.{grid-length}
 use Rattle.mesh_geometry.proofs.TrianglePatch.{patch-length}
@@ -74,6 +74,6 @@ pub indices-below : (set : Settings) (c : Subdivision) → ValidCut c → All (�
 unfolding indexWords
 indices-below set c v = go (set .«point_mode»)
   where
-    go : (mode : Bool) → Below (length (points c)) (inMode mode (positive (set .order) (set .origin)) c)
-    go false = primitives-below (positive (set .order) (set .origin)) c v
+    go : (mode : Bool) → Below (length (points c)) (inMode mode (turnAsked set) c)
+    go false = primitives-below (turnAsked set) c v
     go true = dots-below (length (points c))

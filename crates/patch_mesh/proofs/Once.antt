@@ -11,7 +11,7 @@ use Rattle.level.proofs.Valid.{segments-valid}
 use Rattle.patch.specs.declared.kinds.Patch.{Patch}
 use Rattle.patch.specs.declared.kinds.Patch.the-variants.{Triangles, Quads, Isolines}
 use Rattle.patch.specs.declared.settings.Settings.{Settings}
-use Rattle.patch.specs.Subdivide.{outers, discards, subdivision}
+use Rattle.patch.specs.Subdivide.{outers, discards, subdivisionOf}
 use Rattle.mesh_geometry.specs.declared.Point.{Point}
 use Rattle.mesh_geometry.specs.Cover.{Face, Cover}
 use Rattle.mesh_geometry.specs.Edge.{GoodRun}
@@ -55,5 +55,5 @@ demand-once set top p d filled s inside clear =
 
 -- for every triangle or quad patch that is not discarded, and all settings with a good top level
 pub drawn-once : (set : Settings) → Top (set .top) → (p : Patch) → discards p ≡ false
-    → SpotsOnce set p (points (subdivision (set .spacing) (set .top) p)) (indexWords set (subdivision (set .spacing) (set .top) p))
+    → SpotsOnce set p (points (subdivisionOf set p)) (indexWords set (subdivisionOf set p))
 drawn-once set top p kept = demand-once set top p (demand set top p kept)

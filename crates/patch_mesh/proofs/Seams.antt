@@ -11,7 +11,7 @@ use Rattle.level.specs.Top.{Top}
 use Rattle.level.specs.Segments.{segmentsOf}
 use Rattle.patch.specs.declared.kinds.Patch.{Patch}
 use Rattle.patch.specs.declared.settings.Settings.{Settings}
-use Rattle.patch.specs.Subdivide.{outers, discards, subdivision}
+use Rattle.patch.specs.Subdivide.{outers, discards, subdivisionOf}
 use Rattle.mesh_geometry.specs.declared.Point.{Point}
 use Rattle.mesh_geometry.specs.Seam.{OuterEdge, places}
 use Rattle.mesh_geometry.specs.Edge.{Run, along, Placed}
@@ -46,5 +46,5 @@ same-places {set} {set′} {p} {p′} d d′ f f′ k k′ h h′ s t e =
 pub same-seams : (set set′ : Settings) → Top (set .top) → Top (set′ .top) → (p p′ : Patch) → discards p ≡ false → discards p′ ≡ false
     → Surface p → Surface p′ → (k k′ : ℕ) → k < length (outers p) → k′ < length (outers p′)
     → set .spacing ≡ set′ .spacing → set .top ≡ set′ .top → outerLevel p k ≡ outerLevel p′ k′
-    → places (edges p k) (points (subdivision (set .spacing) (set .top) p)) ≡ places (edges p′ k′) (points (subdivision (set′ .spacing) (set′ .top) p′))
+    → places (edges p k) (points (subdivisionOf set p)) ≡ places (edges p′ k′) (points (subdivisionOf set′ p′))
 same-seams set set′ top top′ p p′ a a′ = same-places (demand set top p a) (demand set′ top′ p′ a′)

@@ -16,7 +16,7 @@ use Rattle.patch.specs.declared.kinds.Patch.{Patch}
 use Rattle.patch.specs.declared.kinds.Patch.the-variants.{Triangles, Quads, Isolines}
 use Rattle.patch.specs.declared.settings.Settings.{Settings}
 use Rattle.patch.specs.Every.{some, every}
-use Rattle.patch.specs.Subdivide.{subdivision}
+use Rattle.patch.specs.Subdivide.{subdivision, subdivisionOf}
 use Rattle.patch_mesh.specs.Points.{points}
 use Rattle.patch_mesh.specs.Primitives.{indexWords}
 use Rattle.patch_mesh.specs.Counts.{pointCount, primitiveCount, countIn}
@@ -75,10 +75,10 @@ pub points-at-most : (s : Spacing) (t : ℕ) → Top t → (p : Patch) → lengt
 points-at-most s t top p = omega (arith, point-count (subdivision s t p) (cut-valid s t top p), sizes-at-most s t top p, most p)
 
 -- at most 24,576 indices
-pub indices-at-most : (set : Settings) → Top (set .top) → (p : Patch) → length (indexWords set (subdivision (set .spacing) (set .top) p)) ≤ 24576
-indices-at-most set top p = omega (arith, index-count set (subdivision (set .spacing) (set .top) p) (cut-valid (set .spacing) (set .top) top p), go (set .«point_mode»))
+pub indices-at-most : (set : Settings) → Top (set .top) → (p : Patch) → length (indexWords set (subdivisionOf set p)) ≤ 24576
+indices-at-most set top p = omega (arith, index-count set (subdivisionOf set p) (cut-valid (set .spacing) (set .top) top p), go (set .«point_mode»))
   where
-    go : (mode : Bool) → countIn mode (subdivision (set .spacing) (set .top) p) ≤ 24576
+    go : (mode : Bool) → countIn mode (subdivisionOf set p) ≤ 24576
     go false = omega (arith, sizes-at-most (set .spacing) (set .top) top p, most p)
     go true = omega (arith, sizes-at-most (set .spacing) (set .top) top p, most p)
 

@@ -10,7 +10,7 @@ use Rattle.level.specs.Segments.{segmentsOf}
 use Rattle.patch.specs.declared.kinds.Patch.{Patch}
 use Rattle.patch.specs.declared.kinds.Patch.the-variants.{Triangles, Quads, Isolines}
 use Rattle.patch.specs.declared.settings.Settings.{Settings}
-use Rattle.patch.specs.Turn.{positive}
+use Rattle.patch.specs.Turn.{turnAsked}
 use Rattle.patch.specs.Subdivide.{outers}
 use Rattle.mesh_geometry.specs.declared.Point.{Point}
 use Rattle.mesh_geometry.specs.Cover.{Cover}
@@ -41,6 +41,10 @@ outline s t (Triangles a b c i) = ring trianglePlace 0 (outerRuns s t (Triangles
 outline s t (Quads a b c d i j) = ring quadPlace 0 (outerRuns s t (Quads a b c d i j)) 0
 outline s t (Isolines a b) = []
 
+-- the points of the outline under these settings
+abbrev pub outlineOf : Settings → Patch → List Point
+outlineOf s p = outline (s .spacing) (s .top) p
+
 -- the outer edges of a patch: which points lie on edge k, and at which places
 abbrev pub edges : Patch → ℕ → OuterEdge
 edges (Triangles a b c i) = triangleEdge
@@ -59,7 +63,7 @@ pub record Demand (set : Settings) (p : Patch) (ps : List Point) (ws : List ℕ)
   pub numbered : (k : ℕ) → k < length ws → getD ws k 0 < length ps
   -- drawn as triangles: every field of `Cover`
   pub cover : Surface p → set .«point_mode» ≡ false
-      → Cover (positive (set .order) (set .origin)) (twiceAreaOf p) (outline (set .spacing) (set .top) p) ps (facesIn ps ws)
+      → Cover (turnAsked set) (twiceAreaOf p) (outline (set .spacing) (set .top) p) ps (facesIn ps ws)
   -- drawn as triangles or as dots: on each outer edge the points have the places q(0) to q(n) of the spacing, that edge's level
   -- and the top level, and the places mirror. All points count, so no inner point lies on an outer edge
   pub seams : Surface p → Placed (edges p) ps 0 (outerRuns (set .spacing) (set .top) p)

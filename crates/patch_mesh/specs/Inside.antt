@@ -6,7 +6,7 @@ use mathlib.Core.List.{List}
 use Rattle.patch.specs.declared.kinds.Patch.{Patch}
 use Rattle.patch.specs.declared.kinds.Patch.the-variants.{Triangles, Quads, Isolines}
 use Rattle.patch.specs.declared.settings.Settings.{Settings}
-use Rattle.patch.specs.Turn.{positive}
+use Rattle.patch.specs.Turn.{turnAsked}
 use Rattle.mesh_geometry.specs.declared.Point.{Point}
 use Rattle.mesh_geometry.specs.Held.{Spot, Clear, HeldOnce}
 use Rattle.mesh_geometry.specs.Domain.{triangle, square, Within}
@@ -21,4 +21,4 @@ Inside (Isolines a b) s = ⊥
 -- the patch is drawn as triangles: exactly one triangle holds each spot that lies strictly inside the patch and on no side
 abbrev pub SpotsOnce : Settings → Patch → List Point → List ℕ → Type 0
 SpotsOnce set p ps ws = set .«point_mode» ≡ false → (s : Spot) → Inside p s → Clear (facesIn ps ws) s
-    → HeldOnce (positive (set .order) (set .origin)) (facesIn ps ws) s
+    → HeldOnce (turnAsked set) (facesIn ps ws) s

@@ -11,7 +11,7 @@ use Rattle.patch.specs.declared.kinds.Patch.the-variants.{Triangles, Quads, Iso
 use Rattle.patch.specs.declared.settings.Settings.{Settings}
 use Rattle.patch.specs.declared.subdivision.Subdivision.{Subdivision}
 use Rattle.patch.specs.declared.subdivision.Subdivision.the-variants.{Discarded, PlainTriangle, Triangle, PlainQuad, Quad, Lines}
-use Rattle.patch.specs.Subdivide.{subdivision}
+use Rattle.patch.specs.Subdivide.{subdivisionOf}
 
 -- the number of a patch's kind in job files
 abbrev pub kindNumber : Patch → ℕ
@@ -41,6 +41,6 @@ pub record Alike (set set′ : Settings) (p p′ : Patch) : Type 0 where
   pub mode : set .«point_mode» ≡ set′ .«point_mode»
   pub order : set .order ≡ set′ .order
   pub origin : set .origin ≡ set′ .origin
-  pub plain : isPlain (subdivision (set .spacing) (set .top) p) ≡ isPlain (subdivision (set′ .spacing) (set′ .top) p′)
-  pub counts : isPlain (subdivision (set .spacing) (set .top) p) ≡ false
+  pub plain : isPlain (subdivisionOf set p) ≡ isPlain (subdivisionOf set′ p′)
+  pub counts : isPlain (subdivisionOf set p) ≡ false
       → segmentCounts (set .spacing) (set .top) p ≡ segmentCounts (set′ .spacing) (set′ .top) p′

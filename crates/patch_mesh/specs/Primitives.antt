@@ -11,7 +11,7 @@ use Rattle.mesh_topology.specs.Lines.{isolines, dots}
 use Rattle.patch.specs.declared.settings.Settings.{Settings}
 use Rattle.patch.specs.declared.subdivision.Subdivision.{Subdivision}
 use Rattle.patch.specs.declared.subdivision.Subdivision.the-variants.{Discarded, PlainTriangle, Triangle, PlainQuad, Quad, Lines}
-use Rattle.patch.specs.Turn.{positive}
+use Rattle.patch.specs.Turn.{turnAsked}
 use Rattle.patch_mesh.specs.Points.{points}
 
 -- the triangles of a triangle or quad patch, in the strips' own orientation
@@ -39,4 +39,4 @@ inMode true turn s = dots (length (points s))
 
 -- the index words of a patch
 unfoldable pub indexWords : Settings → Subdivision → List ℕ
-indexWords set s = inMode (set .«point_mode») (positive (set .order) (set .origin)) s
+indexWords set s = inMode (set .«point_mode») (turnAsked set) s

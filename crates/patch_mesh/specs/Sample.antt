@@ -4,7 +4,7 @@ use mathlib.Core.List.{List, [], _∷_}
 use Rattle.patch.specs.declared.kinds.Patch.{Patch}
 use Rattle.patch.specs.declared.kinds.Patch.the-variants.{Triangles}
 use Rattle.patch.specs.declared.settings.Settings.{Settings}
-use Rattle.patch.specs.Subdivide.{subdivision}
+use Rattle.patch.specs.Subdivide.{subdivisionOf}
 use Rattle.mesh_geometry.specs.declared.Point.{Point}
 use Rattle.patch_mesh.specs.Levels.{level1, level2}
 use Rattle.patch_mesh.specs.Points.{points}
@@ -18,7 +18,7 @@ pub record Output : Type 0 where
 -- what drawing a patch with these settings gives
 abbrev pub output : Settings → Patch → Output
 output set p =
-    record { vertices = points (subdivision (set .spacing) (set .top) p); indices = indexWords set (subdivision (set .spacing) (set .top) p) }
+    record { vertices = points (subdivisionOf set p); indices = indexWords set (subdivisionOf set p) }
 
 -- the outer levels 1, 1 and 1, and the inner level 2
 abbrev pub samplePatch : Patch

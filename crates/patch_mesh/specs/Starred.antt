@@ -10,7 +10,7 @@ use Rattle.patch.specs.declared.kinds.Patch.the-variants.{Triangles, Quads, Iso
 use Rattle.patch.specs.declared.settings.Settings.{Settings}
 use Rattle.patch.specs.declared.settings.VertexOrder.the-variants.{CounterClockwise}
 use Rattle.patch.specs.declared.settings.DomainOrigin.the-variants.{LowerLeft}
-use Rattle.patch.specs.Subdivide.{subdivision}
+use Rattle.patch.specs.Subdivide.{subdivisionOf}
 use Rattle.mesh_geometry.specs.declared.Point.{Point}
 use Rattle.mesh_geometry.specs.Edge.{along}
 use Rattle.mesh_geometry.specs.Faces.{at}
@@ -36,7 +36,7 @@ pub data Case : Type 0 where
 abbrev pub worked : Case → Case
 worked (edge s n qs) = edge s (s .count) (along (run s))
 worked (patch p named ws) =
-    let c = subdivision (usual .spacing) (usual .top) p in
+    let c = subdivisionOf usual p in
     patch p (map (λ m. record { number = m .number; point = at (points c) (m .number) }) named) (indexWords usual c)
 
 -- the table; the last two edges are given by L itself

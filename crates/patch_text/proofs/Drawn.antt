@@ -11,7 +11,7 @@ use lib.ListN.{length}
 use Rattle.level.specs.Top.{Top, isTop}
 use Rattle.patch.specs.declared.kinds.Patch.{Patch}
 use Rattle.patch.specs.declared.settings.Settings.{Settings}
-use Rattle.patch.specs.Subdivide.{discards, subdivision}
+use Rattle.patch.specs.Subdivide.{discards, subdivisionOf}
 use Rattle.mesh_geometry.proofs.Words.{words-length}
 use Rattle.patch_mesh.specs.Points.{points}
 use Rattle.tessellate.specs.declared.answer.PointsAnswer.{PointsAnswer}
@@ -65,7 +65,7 @@ module _ (set : Settings) (p : Patch) where
         count = f .count;
         lines =
             rw (d .list, e, f .count)
-            (rows-front 3 (pointsOf set p) v (pointWords set p) (omega (arith, words-length (points (subdivision (set .spacing) (set .top) p)))));
+            (rows-front 3 (pointsOf set p) v (pointWords set p) (omega (arith, words-length (points (subdivisionOf set p)))));
       }
 
   -- a drawn patch in two lists: its text fits into the room for one record, and is `recordText`

@@ -8,7 +8,7 @@ use Rattle.level.specs.Top.{Top}
 use Rattle.patch.specs.declared.kinds.Patch.{Patch}
 use Rattle.patch.specs.declared.kinds.Patch.the-variants.{Triangles, Quads, Isolines}
 use Rattle.patch.specs.declared.settings.Settings.{Settings}
-use Rattle.patch.specs.Subdivide.{subdivision}
+use Rattle.patch.specs.Subdivide.{subdivision, subdivisionOf}
 use Rattle.patch_mesh.specs.Counts.{primitiveCount, countIn}
 use Rattle.patch_mesh.proofs.Cases.{Cases, all-cases}
 use Rattle.patch_mesh.proofs.Counts.{point-count, index-count}
@@ -42,7 +42,7 @@ module _ (set : Settings) (top : Top (set .top)) (p : Patch) where
   -- the text fits into the room for one record
   pub text-fits : 28 + 33 * pointsOf set p + 18 * (indicesOf set p / widthOf (set .«point_mode») p) ≤ room
   text-fits =
-      rw (index-count set (subdivision (set .spacing) (set .top) p) (cut-valid (set .spacing) (set .top) top p)) (omega (arith, points-at-most (set .spacing) (set .top) top p, few-primitives (set .spacing) (set .top) top (set .«point_mode») p))
+      rw (index-count set (subdivisionOf set p) (cut-valid (set .spacing) (set .top) top p)) (omega (arith, points-at-most (set .spacing) (set .top) top p, few-primitives (set .spacing) (set .top) top (set .«point_mode») p))
 
 -- ---- the indices are whole primitives
 
@@ -58,13 +58,13 @@ threes s t = record {
 
 pub whole-primitives : (set : Settings) → Top (set .top) → (p : Patch) → widthOf (set .«point_mode») p * (indicesOf set p / widthOf (set .«point_mode») p) ≡ indicesOf set p
 unfolding primitiveCount
-whole-primitives set top p = rw (index-count set (subdivision (set .spacing) (set .top) p) (cut-valid (set .spacing) (set .top) top p)) (go (set .«point_mode»))
+whole-primitives set top p = rw (index-count set (subdivisionOf set p) (cut-valid (set .spacing) (set .top) top p)) (go (set .«point_mode»))
   where
     none : (p : Patch) → widthOf false p * (0 / widthOf false p) ≡ 0
     none (Triangles a b c i) = refl
     none (Quads a b c d i j) = refl
     none (Isolines a b) = refl
 
-    go : (mode : Bool) → widthOf mode p * (countIn mode (subdivision (set .spacing) (set .top) p) / widthOf mode p) ≡ countIn mode (subdivision (set .spacing) (set .top) p)
+    go : (mode : Bool) → widthOf mode p * (countIn mode (subdivisionOf set p) / widthOf mode p) ≡ countIn mode (subdivisionOf set p)
     go true = omega arith
     go false = all-cases (threes (set .spacing) (set .top)) none p

@@ -11,7 +11,7 @@ use lib.Ieee.{Float}
 use lib.ListN.{length, getD, take, drop}
 use Rattle.patch.specs.declared.kinds.Patch.{Patch}
 use Rattle.patch.specs.declared.settings.Settings.{Settings}
-use Rattle.patch.specs.Subdivide.{subdivision}
+use Rattle.patch.specs.Subdivide.{subdivisionOf}
 use Rattle.level.specs.Top.{isTop}
 use Rattle.job_fields.specs.Settings.{choices, firstUnknown, AllBelow}
 use Rattle.job_fields.proofs.Limits.{first-none}
@@ -99,7 +99,7 @@ module _ (d : Designer) (s : State) (set : Settings) (p : Patch) {v v′ i i′ 
   appended-all = record {
     top = top-as (set .top) (fits .vertices .top);
     drawn = fits .vertices .drawn;
-    are = ap readPoints appended-points ∙ read-points (points (subdivision (set .spacing) (set .top) p));
+    are = ap readPoints appended-points ∙ read-points (points (subdivisionOf set p));
   }
 
 -- ---- for the call

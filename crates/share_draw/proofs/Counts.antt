@@ -4,7 +4,7 @@ use mathlib.Core.Path.{_≡_}
 use lib.ListN.{length, length-map}
 use Rattle.patch.specs.declared.kinds.Patch.{Patch}
 use Rattle.patch.specs.declared.settings.Settings.{Settings}
-use Rattle.patch.specs.Subdivide.{subdivision}
+use Rattle.patch.specs.Subdivide.{subdivisionOf}
 use Rattle.mesh_geometry.proofs.Words.{words-length}
 use Rattle.patch_mesh.specs.Points.{points}
 use Rattle.tessellate.specs.Answers.{pointsOf, indicesOf}
@@ -13,7 +13,7 @@ use Rattle.share_draw.specs.Operations.{shifted}
 
 -- the words of its points
 pub point-words : (set : Settings) (p : Patch) → length (pointWords set p) ≡ 3 * pointsOf set p
-point-words set p = words-length (points (subdivision (set .spacing) (set .top) p))
+point-words set p = words-length (points (subdivisionOf set p))
 
 -- the words of its indices, whatever is added to them
 pub index-words : (n : ℕ) (set : Settings) (p : Patch) → length (shifted n set p) ≡ indicesOf set p

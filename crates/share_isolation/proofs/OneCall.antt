@@ -7,7 +7,7 @@ use lib.ListN.{length, take, drop}
 use Rattle.buffer.specs.Over.{over}
 use Rattle.patch.specs.declared.kinds.Patch.{Patch}
 use Rattle.patch.specs.declared.settings.Settings.{Settings}
-use Rattle.patch.specs.Subdivide.{subdivision}
+use Rattle.patch.specs.Subdivide.{subdivisionOf}
 use Rattle.patch_mesh.specs.Points.{points}
 use Rattle.mesh_geometry.specs.Words.{readPoints}
 use Rattle.patch_mesh.specs.Demand.{Demand}
@@ -46,7 +46,7 @@ pub one-call : (d : Designer) (s : State) (set : Settings) (p : Patch) {v v′ i
     → toldDraw (r .answer) ≡ drewBoth m k
     → Demand set p (readPoints (take (3 * m) (drop (firstFree d (s .vertices)) v′))) (map (λ x. x - pointsIn d s) (take k (drop (firstFree d (s .indices)) i′)))
 one-call d s set p {v} {v′} {i} {i′} r m k h e =
-    let c = subdivision (set .spacing) (set .top) p in
+    let c = subdivisionOf set p in
     let g = ready d s set p v i m k (sym e ∙ h .answer) in
     let n = pointsIn d s in
     let drawn : toldDraw (r .answer) .number ≡ 0 = ap (λ (t : Told). t .number) e in

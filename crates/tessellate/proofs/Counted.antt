@@ -9,7 +9,7 @@ use Rattle.level.specs.Top.{Top}
 use Rattle.patch.specs.declared.kinds.Patch.{Patch}
 use Rattle.patch.specs.declared.settings.Settings.{Settings}
 use Rattle.patch.specs.declared.subdivision.Subdivision.{Subdivision}
-use Rattle.patch.specs.Subdivide.{discards, subdivision, isDiscarded}
+use Rattle.patch.specs.Subdivide.{discards, subdivisionOf, isDiscarded}
 use Rattle.patch.proofs.Discarded.{discarded-cut}
 use Rattle.patch_mesh.specs.Points.{points}
 use Rattle.patch_mesh.specs.Counts.{pointCount, countIn}
@@ -20,7 +20,7 @@ use Rattle.patch_mesh.proofs.Valid.{cut-valid}
 use Rattle.tessellate.specs.Answers.{pointsOf, indicesOf}
 use Rattle.patch_writer.proofs.Cuts.{valid-as}
 
-module _ (set : Settings) (top : Top (set .top)) (p : Patch) (c : Subdivision) (is : c ≡ subdivision (set .spacing) (set .top) p) where
+module _ (set : Settings) (top : Top (set .top)) (p : Patch) (c : Subdivision) (is : c ≡ subdivisionOf set p) where
   -- every edge has an n and L that an edge can have
   pub valid : ValidCut c
   valid = valid-as (cut-valid (set .spacing) (set .top) top p) (sym is)
@@ -35,8 +35,8 @@ module _ (set : Settings) (top : Top (set .top)) (p : Patch) (c : Subdivision) (
 
   -- the counts
   pub many-points : {n : ℕ} → n ≡ pointCount c → n ≡ pointsOf set p
-  many-points e = e ∙ ap pointCount is ∙ sym (point-count (subdivision (set .spacing) (set .top) p) (cut-valid (set .spacing) (set .top) top p))
+  many-points e = e ∙ ap pointCount is ∙ sym (point-count (subdivisionOf set p) (cut-valid (set .spacing) (set .top) top p))
 
   pub many-indices : {n : ℕ} → n ≡ countIn (set .«point_mode») c → n ≡ indicesOf set p
   many-indices e =
-      e ∙ ap (countIn (set .«point_mode»)) is ∙ sym (index-count set (subdivision (set .spacing) (set .top) p) (cut-valid (set .spacing) (set .top) top p))
+      e ∙ ap (countIn (set .«point_mode»)) is ∙ sym (index-count set (subdivisionOf set p) (cut-valid (set .spacing) (set .top) top p))

@@ -11,7 +11,7 @@ use Rattle.level.specs.Top.{isTop}
 use Rattle.patch.specs.declared.kinds.Patch.{Patch}
 use Rattle.patch.specs.declared.settings.Settings.{Settings}
 use Rattle.patch.specs.declared.subdivision.Subdivision.{Subdivision}
-use Rattle.patch.specs.Subdivide.{discards, subdivision}
+use Rattle.patch.specs.Subdivide.{discards, subdivisionOf}
 use Rattle.patch_mesh.specs.Points.{points}
 use Rattle.patch_mesh.specs.Counts.{pointCount, countIn}
 use Rattle.patch_mesh.specs.Valid.{ValidCut}
@@ -30,7 +30,7 @@ use Rattle.level.proofs.Top.{top-as}
 pub record Into (set : Settings) (p : Patch) (c : Subdivision) : Type 0 where
   pub top : isTop (set .top) ≡ true
   pub drawn : discards p ≡ false
-  pub cut : c ≡ subdivision (set .spacing) (set .top) p
+  pub cut : c ≡ subdivisionOf set p
 
 module _ (set : Settings) (p : Patch) where
   -- ---- cutting, return by return
@@ -48,7 +48,7 @@ module _ (set : Settings) (p : Patch) where
 
   -- ---- what follows
   abbrev found : Bool → Bool → Cut
-  found t d = cond t (cond d Discarded (Ready (subdivision (set .spacing) (set .top) p))) BadTop
+  found t d = cond t (cond d Discarded (Ready (subdivisionOf set p))) BadTop
 
   module _ {a : Cut} (is : a ≡ cutOf set p) where
     pub bad-top : a ≡ BadTop → isTop (set .top) ≡ false

@@ -13,7 +13,7 @@ use Rattle.buffer.proofs.Laws.{over-front}
 use Rattle.level.specs.Top.{Top, isTop}
 use Rattle.patch.specs.declared.kinds.Patch.{Patch}
 use Rattle.patch.specs.declared.settings.Settings.{Settings}
-use Rattle.patch.specs.Subdivide.{discards, subdivision}
+use Rattle.patch.specs.Subdivide.{discards, subdivisionOf}
 use Rattle.mesh_geometry.proofs.Words.{words-length}
 use Rattle.patch_mesh.specs.Points.{points}
 use Rattle.mesh_geometry.specs.Words.{readPoints}
@@ -67,14 +67,14 @@ module _ (set : Settings) (p : Patch) where
   -- the words of the points that were drawn
   pub point-words-drawn : (r : PointsAnswer) {v v′ : List ℕ} {P : ℕ} → DrewPoints set p v v′ r → toldPoints r ≡ drew P → take (3 * P) v′ ≡ pointWords set p
   point-words-drawn r {P = P} d e =
-      front P (3 * P) d e (omega (arith, points-fit r d e .count, words-length (points (subdivision (set .spacing) (set .top) p))))
+      front P (3 * P) d e (omega (arith, points-fit r d e .count, words-length (points (subdivisionOf set p))))
 
   -- the points that were drawn, read off the list
   pub points-drawn : (r : PointsAnswer) {v v′ : List ℕ} {P : ℕ} → DrewPoints set p v v′ r → toldPoints r ≡ drew P
-      → Top (set .top) × (discards p ≡ false) × (readPoints (take (3 * P) v′) ≡ points (subdivision (set .spacing) (set .top) p))
+      → Top (set .top) × (discards p ≡ false) × (readPoints (take (3 * P) v′) ≡ points (subdivisionOf set p))
   points-drawn r d e =
       let f = points-fit r d e in
-      (f .top, f .drawn, ap readPoints (point-words-drawn r d e) ∙ read-points (points (subdivision (set .spacing) (set .top) p)))
+      (f .top, f .drawn, ap readPoints (point-words-drawn r d e) ∙ read-points (points (subdivisionOf set p)))
 
   -- the indices that were drawn
   pub indices-drawn : (r : IndicesAnswer) {i i′ : List ℕ} {I : ℕ} → DrewIndices set p i i′ r → toldIndices r ≡ drew I

@@ -8,7 +8,7 @@ use lib.ListN.{length}
 use Rattle.level.specs.Top.{isTop}
 use Rattle.patch.specs.declared.kinds.Patch.{Patch}
 use Rattle.patch.specs.declared.settings.Settings.{Settings}
-use Rattle.patch.specs.Subdivide.{discards, subdivision}
+use Rattle.patch.specs.Subdivide.{discards, subdivisionOf}
 use Rattle.level_clamps.specs.Clamps.{clampsOf}
 use Rattle.level_clamps.specs.Numbers.{clampNumbers}
 use Rattle.patch_mesh.specs.Points.{points}
@@ -42,10 +42,10 @@ toldSize NoTop = refused 11
 
 -- the points and the indices of a patch drawn with these settings
 abbrev pub pointsOf : Settings → Patch → ℕ
-pointsOf set p = length (points (subdivision (set .spacing) (set .top) p))
+pointsOf set p = length (points (subdivisionOf set p))
 
 abbrev pub indicesOf : Settings → Patch → ℕ
-indicesOf set p = length (indexWords set (subdivision (set .spacing) (set .top) p))
+indicesOf set p = length (indexWords set (subdivisionOf set p))
 
 -- what an operation has to say that writes `count` points or indices into `need` words of a list of `have`: first of all a bad top,
 -- else the lowest number that applies, where `short` is the number for a list that is too short

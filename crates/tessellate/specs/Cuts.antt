@@ -3,9 +3,9 @@ use mathlib.Core.Bool.{cond}
 use Rattle.level.specs.Top.{isTop}
 use Rattle.patch.specs.declared.kinds.Patch.{Patch}
 use Rattle.patch.specs.declared.settings.Settings.{Settings}
-use Rattle.patch.specs.Subdivide.{discards, subdivision}
+use Rattle.patch.specs.Subdivide.{discards, subdivisionOf}
 use Rattle.tessellate.specs.declared.cut.Cut.{Cut}
 use Rattle.tessellate.specs.declared.cut.Cut.the-variants.{BadTop, Discarded, Ready}
 
 unfoldable pub cutOf : Settings → Patch → Cut
-cutOf set p = cond (isTop (set .top)) (cond (discards p) Discarded (Ready (subdivision (set .spacing) (set .top) p))) BadTop
+cutOf set p = cond (isTop (set .top)) (cond (discards p) Discarded (Ready (subdivisionOf set p))) BadTop

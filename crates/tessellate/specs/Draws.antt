@@ -5,7 +5,7 @@ use mathlib.Core.List.{List}
 use lib.ListN.{length}
 use Rattle.patch.specs.declared.kinds.Patch.{Patch}
 use Rattle.patch.specs.declared.settings.Settings.{Settings}
-use Rattle.patch.specs.Subdivide.{subdivision}
+use Rattle.patch.specs.Subdivide.{subdivisionOf}
 use Rattle.mesh_geometry.specs.Words.{vertexWords}
 use Rattle.patch_mesh.specs.Points.{points}
 use Rattle.patch_mesh.specs.Primitives.{indexWords}
@@ -16,10 +16,10 @@ use Rattle.tessellate.specs.Answers.{toldPoints, toldIndices, pointsVerd
 
 -- the words of a patch's points and of its indices
 abbrev pub pointWords : Settings → Patch → List ℕ
-pointWords set p = vertexWords (points (subdivision (set .spacing) (set .top) p))
+pointWords set p = vertexWords (points (subdivisionOf set p))
 
 abbrev pub connectionWords : Settings → Patch → List ℕ
-connectionWords set p = indexWords set (subdivision (set .spacing) (set .top) p)
+connectionWords set p = indexWords set (subdivisionOf set p)
 
 -- drawing the points: v and v′ are the vertex list at entry and at exit
 abbrev pub DrewPoints : Settings → Patch → List ℕ → List ℕ → PointsAnswer → Type 0

@@ -10,7 +10,7 @@ use Rattle.level.specs.Top.{Top}
 use Rattle.level.specs.Segments.{segmentsOf}
 use Rattle.patch.specs.declared.kinds.Patch.{Patch}
 use Rattle.patch.specs.declared.settings.Settings.{Settings}
-use Rattle.patch.specs.Subdivide.{outers, discards, subdivision}
+use Rattle.patch.specs.Subdivide.{outers, discards, subdivisionOf}
 use Rattle.mesh_geometry.specs.declared.Point.{Point}
 use Rattle.mesh_geometry.specs.Cover.{Face, Cover, sides, piece}
 use Rattle.mesh_geometry.specs.Seam.{OuterEdge, places, Mirrors}
@@ -27,7 +27,7 @@ use Rattle.third_demand.specs.ThirdDemand.{OccursOnce, ThirdDemand}
 pub record AllPoints (set : Settings) (p : Patch) (ps : List Point) : Type 0 where
   pub top : Top (set .top)
   pub drawn : discards p ≡ false
-  pub are : ps ≡ points (subdivision (set .spacing) (set .top) p)
+  pub are : ps ≡ points (subdivisionOf set p)
 
 -- the places on edge n mirror
 mirrors-at : (edge : ℕ → OuterEdge) (ps : List Point) (n j : ℕ) (es : List Run) → Placed edge ps j es → (k : ℕ) → k < length es → j + k ≡ n
@@ -40,7 +40,7 @@ mirrors-at edge ps n j (r ∷ es) p (suc k) h e = mirrors-at edge ps n (suc j) e
 
 module _ {set : Settings} {p : Patch} {ps : List Point} where
   -- demand 3 with the index words of the definition; seams need no indices
-  pub all-demand : AllPoints set p ps → Demand set p ps (indexWords set (subdivision (set .spacing) (set .top) p))
+  pub all-demand : AllPoints set p ps → Demand set p ps (indexWords set (subdivisionOf set p))
   all-demand a = rw (a .are) (demand set (a .top) p (a .drawn))
 
   pub edge-places : AllPoints set p ps → (k : ℕ) → IsEdge p k → placesOn p k ps ≡ row set p k

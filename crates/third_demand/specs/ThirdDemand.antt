@@ -8,25 +8,17 @@ use lib.ListN.{length, getD}
 use Rattle.patch.specs.declared.kinds.Patch.{Patch}
 use Rattle.patch.specs.declared.settings.Settings.{Settings}
 use Rattle.patch.specs.Subdivide.{outers}
-use Rattle.patch.specs.Turn.{positive}
+use Rattle.patch.specs.Turn.{turnAsked}
 use Rattle.mesh_geometry.specs.declared.Point.{Point}
 use Rattle.mesh_geometry.specs.Cover.{Face, Side, missing, sides, side, reversed, piece, Occurs, HasSign, twiceArea, totalTwiceArea, signed}
 use Rattle.mesh_geometry.specs.Seam.{Mirrors}
-use Rattle.patch_mesh.specs.Demand.{outline, twiceAreaOf}
+use Rattle.patch_mesh.specs.Demand.{outline, outlineOf, twiceAreaOf}
 use Rattle.mesh_geometry.specs.Faces.{facesIn}
 use Rattle.third_demand.specs.Seams.{IsEdge, EdgesAlike, placesOn, row}
 
 -- point mode is off
 abbrev pub AsTriangles : Settings → Type 0
 AsTriangles set = set .«point_mode» ≡ false
-
--- the orientation asked for: true if the signed areas are to be positive
-abbrev pub turnAsked : Settings → Bool
-turnAsked set = positive (set .order) (set .origin)
-
--- the outline's points in walk order
-abbrev pub outlineOf : Settings → Patch → List Point
-outlineOf set p = outline (set .spacing) (set .top) p
 
 -- triangle number k
 abbrev pub face : List Face → ℕ → Face

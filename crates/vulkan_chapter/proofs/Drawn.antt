@@ -21,7 +21,7 @@ use Rattle.patch.specs.declared.subdivision.Subdivision.the-variants.{PlainTria
 use Rattle.patch.specs.declared.settings.Settings.{Settings}
 use Rattle.patch.specs.Every.{every}
 use Rattle.patch.specs.Subdivide.{single, discards, cut, subdivision}
-use Rattle.patch.specs.Turn.{positive}
+use Rattle.patch.specs.Turn.{turnAsked}
 use Rattle.mesh_topology.specs.Sides.{sum}
 use Rattle.mesh_topology.specs.GridStrips.{outlineOn, gridOn}
 use Rattle.mesh_topology.specs.RingVertices.{vertexOn}
@@ -319,7 +319,7 @@ module _ (set : Settings) (top : Top (set .top)) where
 
     primitives-drawn : set .«point_mode» ≡ false → PrimitivesOf ourEdges set (numbers p) p (indexWords set cuts)
     unfolding indexWords
-    primitives-drawn m = rw (not-discarded s t p drawn, m) (primitives-of (positive (set .order) (set .origin)) p)
+    primitives-drawn m = rw (not-discarded s t p drawn, m) (primitives-of (turnAsked set) p)
 
     point-mode : set .«point_mode» ≡ true → EachOnce (points cuts) (indexWords set cuts)
     unfolding indexWords

@@ -11,7 +11,7 @@ use Rattle.patch.specs.declared.kinds.Patch.{Patch}
 use Rattle.patch.specs.declared.kinds.Patch.the-variants.{Triangles, Quads, Isolines}
 use Rattle.patch.specs.declared.settings.Settings.{Settings}
 use Rattle.patch.specs.Subdivide.{outers}
-use Rattle.patch.specs.Turn.{positive}
+use Rattle.patch.specs.Turn.{turnAsked}
 use Rattle.mesh_geometry.specs.declared.Point.{Point}
 use Rattle.mesh_geometry.specs.Cover.{Face, Cover}
 use Rattle.mesh_geometry.specs.Seam.{places}
@@ -93,7 +93,7 @@ pub record Chapter (rule : EdgeRule) (set : Settings) (p : Patch) (ps : List Poi
   pub primitives : set .«point_mode» ≡ false → PrimitivesOf rule set numbering p ws
   -- 23.6 and 23.7: the triangles cover the whole patch, and no part of it twice
   pub cover : Surface p → set .«point_mode» ≡ false
-      → Cover (positive (set .order) (set .origin)) (twiceAreaOf p) (outlineBy rule set p) ps (facesIn ps ws)
+      → Cover (turnAsked set) (twiceAreaOf p) (outlineBy rule set p) ps (facesIn ps ws)
   pub once : SpotsOnce set p ps ws
   -- 23.9: in point mode, each vertex once
   pub point-mode : set .«point_mode» ≡ true → EachOnce ps ws
