@@ -7,7 +7,7 @@
 static uint32_t points[YOKTVARIM_VERTEX_WORDS];
 static uint16_t indices[YOKTVARIM_INDEX_WORDS];
 
-/* Prints what is said of a mesh of so many points and indices. */
+/* Prints the verdict on the first points and indices of the lists. */
 static void show(const yoktvarim_settings *settings, const yoktvarim_levels *levels, uint32_t point_count, uint32_t index_count)
 {
     uint64_t places[2];

@@ -1,4 +1,4 @@
-/* Two designers on one vertex list and one index list: each has its own quota, and neither's calls show in what the other gets. */
+/* Two designers on one vertex list and one index list: each has its own quota, and no call of one changes what the other gets. */
 #include <inttypes.h>
 #include <stdio.h>
 
@@ -38,7 +38,7 @@ int main(void)
     yoktvarim_quota quotas[2] = { { 24, 24 }, { 25, 24 } };
     printf("start: %d\n", (int)yoktvarim_share_start(vertices, WORDS, indices, WORDS, quotas, &state));
     quotas[1].vertices = 24;
-    if (yoktvarim_share_start(vertices, WORDS, indices, WORDS, quotas, &state) != YOKTVARIM_SHARE_DONE)
+    if (!yoktvarim_is_done(yoktvarim_share_start(vertices, WORDS, indices, WORDS, quotas, &state)))
         return 1;
 
     /* A patch of 4 points and 9 indices: two of them fill a quota of 24 words for vertices. */
@@ -57,11 +57,11 @@ int main(void)
     }
 
     /* Clearing gives the room back. */
-    if (yoktvarim_share_clear(&state, 0, vertices, WORDS, indices, WORDS) != YOKTVARIM_SHARE_DONE)
+    if (!yoktvarim_is_done(yoktvarim_share_clear(&state, 0, vertices, WORDS, indices, WORDS)))
         return 1;
     draw(&state, 0, &settings, &levels);
 
-    /* There are no other designers, and a state that cannot be is refused before that is asked. */
+    /* There are no other designers, and an impossible state is refused before the designer. */
     draw(&state, 2, &settings, &levels);
     state.vertices.share[1].used = 25;
     draw(&state, 0, &settings, &levels);
