@@ -5,7 +5,7 @@ ghost use Rattle.compare_differences.specs.Meshes.{Good};
 ghost use Rattle.compare_table_flags.specs.Flags.{ManySides, AllSet, MeshFlags};
 use crate::side::flag_side;
 
-// Whether the tables have room for a mesh: 8192 points and 8448 triangles; the largest patch is cut into 4225 and 8192.
+// Whether the tables have room for a mesh: up to 8192 points and 8448 triangles. The largest patch has 4225 points and 8192 triangles.
 fn has_room(points: &[u32], indices: &[u16]) -> bool
     ensures { λ r. ⌜ (r ≡ true → ManySides (now (points .entry)) (now (indices .entry))) ⌝ }
 {
@@ -18,7 +18,8 @@ fn has_room(points: &[u32], indices: &[u16]) -> bool
     true
 }
 
-// Keeps the flags of the points and triangles that are differences, unless a mesh is too large for the tables; whether the flags are known.
+// Clears the flags of all points and triangles that are not differences; returns false, with no flags known, if a mesh is too large for the
+// tables. Every flag is 1 before the call.
 pub fn flag_meshes(
     left_points: &[u32],
     left_indices: &[u16],

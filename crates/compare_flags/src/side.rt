@@ -1,5 +1,5 @@
-// The flags that a table of one mesh gives: of the other mesh's points and triangles, whether this one has them, and of its own triangles,
-// whether they are repeated. Only one table is there at a time, so that the stack stays small.
+// The flags that the tables of one mesh give: for the points and triangles of the other mesh, whether this mesh lacks them, and for its own
+// triangles, whether each is the first of its kind. Only one table exists at a time, so that the stack stays small.
 ghost use mathlib.Core.Path.{_≡_};
 ghost use mathlib.Core.Bool.{true};
 ghost use Prim.Native.Nat.{_/_, _≤_};
@@ -13,7 +13,7 @@ use compare_table_flags::flag::flag_missing;
 use compare_table_flags::flag::flag_points;
 use compare_table_flags::partner::match_points;
 
-// With a table for up to 64 points and 128 triangles.
+// Sets the flags of triangles, with a table for up to 64 points and 128 triangles.
 fn flag_by_few(
     points: &[u32],
     indices: &[u16],
@@ -42,7 +42,7 @@ fn flag_by_few(
     flag_first(others, other_indices, &heads, &links, other_flags);
 }
 
-// With a table for up to 8192 points and 8448 triangles.
+// The same with a table for up to 8192 points and 8448 triangles.
 fn flag_by_many(
     points: &[u32],
     indices: &[u16],
@@ -84,7 +84,7 @@ fn is_few(points: &[u32], indices: &[u16]) -> bool
     true
 }
 
-// With a table as large as the other mesh needs.
+// The same with a table as large as the other mesh needs.
 fn flag_faces(
     points: &[u32],
     indices: &[u16],
@@ -120,7 +120,7 @@ fn flag_faces(
     }
 }
 
-// With a table of the other mesh's points first, then one of its sides.
+// Sets the flags of points and triangles, with a table of the other mesh's points first, then with one of its sides.
 pub(crate) fn flag_side(
     points: &[u32],
     indices: &[u16],

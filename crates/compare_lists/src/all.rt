@@ -14,7 +14,7 @@ use crate::list::count_points;
 use crate::list::write_faces;
 use crate::list::write_points;
 
-// How many differences there are.
+// Returns the number of differences.
 pub fn count_differences(
     left_points: &[u32],
     left_indices: &[u16],
@@ -50,7 +50,7 @@ pub fn count_differences(
     n0 + n1 + n2 + n3
 }
 
-// The words of the points: those of the left side first.
+// Writes the words of the points, the left side first.
 fn write_all_points(
     left_points: &[u32],
     right_points: &[u32],
@@ -66,7 +66,7 @@ fn write_all_points(
     write_points(out, w, 1, right_points, left_points, known, right_flags)
 }
 
-// The words of all differences, at the front.
+// Writes the words of all differences to the front.
 pub fn write_differences(
     left_points: &[u32],
     left_indices: &[u16],

@@ -1,4 +1,4 @@
-// Whether a point or a triangle is a difference: its flag, where flags are known, else it is searched for.
+// Whether a point or a triangle is a difference: by its flag if the flags are known, else by a search.
 ghost use mathlib.Core.Path.{_≡_};
 ghost use Prim.Native.Nat.{_/_, _<_};
 ghost use lib.ListN.{length};

@@ -13,14 +13,14 @@ ghost use Rattle.compare_differences.specs.Differences.{wordsIf, pointDifferenc
 use crate::ask::lacks_face;
 use crate::ask::lacks_point;
 
-// 1 for true.
+// Returns 1 for true and 0 for false.
 fn one_if(is: bool) -> usize
     ensures { λ n. ⌜ n ≡ cond is 1 0 ⌝ }
 {
     if is { 1 } else { 0 }
 }
 
-// How many of the first flags are set.
+// Returns how many of the first `count` flags are set.
 fn count_set(flags: &[u8], count: usize) -> usize
     requires { ⌜ count ≤ length (now flags) ⌝ }
     ensures { λ n. ⌜ n ≡ length (passing (isSet (now (flags .entry))) count) ⌝ }
@@ -83,7 +83,7 @@ pub(crate) fn count_faces(
     n
 }
 
-// Three words.
+// Writes three words.
 fn put3(out: &mut [u64], at: usize, x: u64, y: u64, z: u64) -> usize
     requires { ⌜ at + 3 ≤ length (now out) ⌝ }
     ensures { λ r. ⌜ Wrote (now (out .entry)) at (x ∷ y ∷ z ∷ []) (now (out .exit)) r ⌝ }
@@ -94,7 +94,7 @@ fn put3(out: &mut [u64], at: usize, x: u64, y: u64, z: u64) -> usize
     at + 3
 }
 
-// The difference's three words where there is one, else none.
+// Writes the three words of a difference if `is` is true, else nothing.
 fn put_if(out: &mut [u64], at: usize, is: bool, kind: u64, side: u64, number: usize) -> usize
     requires { ⌜ at + length (wordsIf kind side is number) ≤ length (now out) ⌝ }
     ensures { λ r. ⌜ Wrote (now (out .entry)) at (wordsIf kind side is number) (now (out .exit)) r ⌝ }

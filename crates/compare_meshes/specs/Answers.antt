@@ -1,5 +1,4 @@
--- What comparing answers, and its promise.
--- Assumes nothing.
+-- The answers of comparing, and its contract. Assumes nothing.
 use Prim.Native.Nat.{ℕ, _+_, _*_, _%_}
 use mathlib.Core.Path.{_≡_}
 use mathlib.Core.Bool.{cond, _&&_}
@@ -20,7 +19,8 @@ use Rattle.compare_meshes.specs.declared.answer.Comparison.the-variants.
 use Rattle.compare_differences.specs.Meshes.{readMesh}
 use Rattle.compare_differences.specs.Differences.{Difference, differences, words}
 
--- why a mesh is refused: point words or indices no multiple of three, then an index past the points, then two equal points
+-- why a mesh is refused: the number of point words or of indices is not a multiple of three, then an index is not the number of a point,
+-- then two points are equal
 unfoldable pub checked : List ℕ → List ℕ → Checked
 checked pw iw =
     cond (eqb (length pw % 3) 0 && eqb (length iw % 3) 0)
@@ -32,40 +32,40 @@ abbrev pub unlessRefused : (Fault → Comparison) → Checked → Comparison →
 unlessRefused refusal Sound a = a
 unlessRefused refusal (Refused f) a = refusal f
 
--- n differences, for a list of `room` words
+-- the answer for n differences and a list of `room` words
 abbrev pub counted : ℕ → ℕ → Comparison
 counted n room = cond (ltb room (3 * n)) (NoRoom n) (Differences n)
 
--- the answer for a left and a right mesh and a list of `room` words: the left mesh is looked at first
+-- the answer for a left and a right mesh and a list of `room` words: the left mesh is checked first
 unfoldable pub verdict : List ℕ → List ℕ → List ℕ → List ℕ → ℕ → Comparison
 verdict lp li rp ri room =
     unlessRefused LeftRefused (checked lp li)
     (unlessRefused RightRefused (checked rp ri) (counted (length (differences (readMesh lp li) (readMesh rp ri))) room))
 
--- the refusals of one side, counted on from n
+-- the three refusals of one side, with the numbers n, n + 1 and n + 2
 abbrev pub toldFault : ℕ → Fault → Told
 toldFault n NotThrees = refused n
 toldFault n UnknownIndex = refused (n + 1)
 toldFault n EqualPoints = refused (n + 2)
 
--- 0 compared and 40 no room, with the number of differences; 41 to 43 the left mesh refused, 44 to 46 the right one
+-- 0 compared and 40 no room, with the number of differences; 41 to 43 if the left mesh is refused, 44 to 46 if the right mesh is
 abbrev pub told : Comparison → Told
 told (Differences n) = record { number = 0; values = n ∷ [] }
 told (NoRoom n) = record { number = 40; values = n ∷ [] }
 told (LeftRefused f) = toldFault 41 f
 told (RightRefused f) = toldFault 44 f
 
--- an operation answered r, as is right, and its list xs became xs′
+-- an operation answered r, which is `right`, and its list xs became xs′
 pub record Answered (right r : Comparison) (ws xs xs′ : List ℕ) : Type 0 where
   pub answer : r ≡ right
-  -- compared: the words at the front and not one more; else untouched
+  -- if compared, the list begins with the words and is unchanged after them; otherwise it is unchanged
   pub list : xs′ ≡ after (told r .number) xs ws
 
--- listing the differences ds
+-- the contract of listing the differences ds
 abbrev pub Listed : List Difference → List ℕ → List ℕ → Comparison → Type 0
 Listed ds xs xs′ r = Answered (counted (length ds) (length xs)) r (words ds) xs xs′
 
--- comparing a left and a right mesh, given as words
+-- the contract of comparing a left and a right mesh, given as words
 abbrev pub Compared : List ℕ → List ℕ → List ℕ → List ℕ → List ℕ → List ℕ → Comparison → Type 0
 Compared lp li rp ri xs xs′ r =
     Answered (verdict lp li rp ri (length xs)) r (words (differences (readMesh lp li) (readMesh rp ri))) xs xs′

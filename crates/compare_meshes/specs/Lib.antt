@@ -1,2 +1,2 @@
--- The definitions of what comparing answers.
+-- The definitions of `compare_meshes`.
 pub mod Answers

@@ -1,8 +1,8 @@
-// Meshes of the same words.
+// Whether two meshes have the same words.
 ghost use mathlib.Core.Path.{_≡_};
 ghost use mathlib.Core.Bool.{true};
 
-// Whether the words of two lists of points are the same. It reads them all, so that it can read several at once.
+// Whether two lists of points have the same words. It always reads all of them, so that it can compare several at once.
 fn same_points(xs: &[u32], ys: &[u32]) -> bool
     ensures { λ r. ⌜ (r ≡ true → now (xs .entry) ≡ now (ys .entry)) ⌝ }
 {
@@ -18,7 +18,7 @@ fn same_points(xs: &[u32], ys: &[u32]) -> bool
     same
 }
 
-// The same of indices.
+// The same for indices.
 fn same_indices(xs: &[u16], ys: &[u16]) -> bool
     ensures { λ r. ⌜ (r ≡ true → now (xs .entry) ≡ now (ys .entry)) ⌝ }
 {
@@ -34,7 +34,7 @@ fn same_indices(xs: &[u16], ys: &[u16]) -> bool
     same
 }
 
-// Whether two meshes are the same, word by word.
+// Whether two meshes are equal word by word.
 pub(crate) fn same_mesh(
     left_points: &[u32],
     left_indices: &[u16],

@@ -31,7 +31,7 @@ fn check_mesh(points: &[u32], indices: &[u16]) -> Checked
     Checked::Sound
 }
 
-// The differences between two meshes, counted, and written to the list's front if there is room for them.
+// Counts the differences between two meshes, and writes them to the front of the list if they fit.
 fn list_by_flags(
     left_points: &[u32],
     left_indices: &[u16],
@@ -79,7 +79,7 @@ fn list_by_flags(
     Comparison::Differences(n)
 }
 
-// The same. Meshes of the same words have no differences; others get flags first, as far as the tables have room.
+// The same without given flags. Meshes with the same words have no differences; for others flags are set first, if the tables have room.
 fn list_differences(
     left_points: &[u32],
     left_indices: &[u16],
@@ -121,7 +121,7 @@ fn list_differences(
     )
 }
 
-// What is on one side only: three words for each point and each triangle, or the name of what stands against it.
+// Compares two meshes: writes three words for each point and triangle that only one of them has, or refuses.
 pub fn compare(
     left_points: &[u32],
     left_indices: &[u16],

@@ -1,5 +1,4 @@
--- Partners of points, and flags.
--- Assumes nothing.
+-- Partners of points, and flags. Assumes nothing.
 use Prim.Native.Nat.{ℕ, _*_, _/_, _≤_, _<_}
 use mathlib.Core.Path.{_≡_}
 use mathlib.Core.Bool.{Bool, true, cond, not, _&&_}
@@ -14,56 +13,56 @@ use Rattle.compare_differences.specs.Lacking.{among, lacks}
 use Rattle.compare_differences.specs.Meshes.{Good, pointsIn, facesIn, sameFace}
 use Rattle.compare_differences.specs.Found.{Found}
 
--- a mesh for which the small tables have room
+-- the mesh fits into the small tables
 pub record FewSides (pw iw : List ℕ) : Type 0 where
   pub points : length pw ≤ 192
   pub indices : length iw ≤ 384
 
--- a mesh for which the large tables have room
+-- the mesh fits into the large tables
 pub record ManySides (pw iw : List ℕ) : Type 0 where
   pub points : length pw ≤ 24576
   pub indices : length iw ≤ 25344
 
--- a mesh that can be compared, with the table of its sides
+-- the mesh can be compared, and heads and links are the table of its sides
 pub record SideTable (pw iw heads links : List ℕ) : Type 0 where
   pub good : Good pw iw
   pub linked : Linked (readTriangles iw) (length iw / 3 * 3) heads links
   pub fits : length pw / 3 ≤ length heads
   pub few : length pw / 3 ≤ 8192
 
--- the first n points of pw with their partners in ow: a point of ow that lies there, or the number of its points
+-- the first n entries of ms are the partners of the first n points of pw: the number of an equal point of ow, or the number of its points
 pub record Partners (pw ow : List ℕ) (n : ℕ) (ms : List ℕ) : Type 0 where
   pub each : (k : ℕ) → k < n → Found (readPoints ow) (length ow / 3) (at (readPoints pw) k) (getD ms k 0)
 
--- all of them
+-- the same for all points
 pub record Partnered (pw ow ms : List ℕ) : Type 0 where
   pub room : length pw / 3 ≤ length ms
   pub all : Partners pw ow (length pw / 3) ms
 
--- does no triangle of the other mesh agree with triangle k?
+-- whether the other mesh lacks triangle k
 abbrev pub missing : List ℕ → List ℕ → List ℕ → List ℕ → ℕ → Bool
 missing pw iw ow jw k = not (among sameFace (facesIn ow jw) (facesIn ow jw .count) (facesIn pw iw .entry k))
 
--- does no earlier triangle of the same mesh?
+-- whether no earlier triangle of the same mesh is triangle k
 abbrev pub isFirst : List ℕ → List ℕ → ℕ → Bool
 isFirst pw iw k = not (among sameFace (facesIn pw iw) k (facesIn pw iw .entry k))
 
--- n flags, or more, that are all 1
+-- the first n flags are there and are 1
 pub record AllSet (n : ℕ) (fs : List ℕ) : Type 0 where
   pub room : n ≤ length fs
   pub each : (k : ℕ) → k < n → getD fs k 0 ≡ 1
 
--- of the first n flags those that pass the test stay 1, and the others are 0
+-- each of the first n flags that is 1 and passes the test stays 1, and the others of them become 0
 pub record Narrowed (t : ℕ → Bool) (n : ℕ) (fs gs : List ℕ) : Type 0 where
   pub size : length gs ≡ length fs
   pub each : (k : ℕ) → k < n → getD gs k 0 ≡ cond (eqb (getD fs k 0) 1 && t k) 1 0
   pub rest : (k : ℕ) → n ≤ k → getD gs k 0 ≡ getD fs k 0
 
--- is flag k 1?
+-- whether flag k is 1
 abbrev pub isSet : List ℕ → ℕ → Bool
 isSet fs k = eqb (getD fs k 0) 1
 
--- 1 for each of the first n numbers that passes the test, and 0 for each other
+-- flag k is 1 for each of the first n numbers k that passes the test, and 0 for the others of them
 pub record Flagged (t : ℕ → Bool) (n : ℕ) (fs : List ℕ) : Type 0 where
   pub room : n ≤ length fs
   pub each : (k : ℕ) → k < n → getD fs k 0 ≡ cond (t k) 1 0

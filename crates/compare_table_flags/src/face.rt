@@ -1,4 +1,4 @@
-// Whether one mesh has a triangle of the other, by the partners of its corners and the chains of sides.
+// Whether a mesh has a triangle of the other mesh, by the partners of its corners and the chains of sides.
 ghost use mathlib.Core.Path.{_≡_};
 ghost use Prim.Native.Nat.{_/_};
 ghost use lib.ListN.{length};
@@ -11,7 +11,7 @@ ghost use Rattle.compare_table_flags.specs.Flags.{SideTable, Partnered};
 use strip::triangle::Triangle;
 use triangle_table::has_triangle;
 
-// Whether some triangle of the other mesh is t.
+// Whether a triangle of the other mesh is t, up to rotation.
 pub(crate) fn has_face(
     points: &[u32],
     t: Triangle,

@@ -1,4 +1,4 @@
-// The flags of points and triangles. Each starts as 1 and stays 1 where it passes every test.
+// The flags of points and triangles. Each flag starts as 1, and stays 1 if it passes every test.
 ghost use mathlib.Core.Path.{_≡_};
 ghost use mathlib.Core.Bool.{_&&_, cond};
 ghost use Prim.Native.Nat.{_/_, _≤_, _<_};
@@ -12,7 +12,7 @@ use crate::face::has_face;
 use check_searches::triangle::triangle_at;
 use triangle_table::has_earlier;
 
-// The flag of point number k: it stays where the point is not among the other mesh's.
+// Returns the flag of point k: unchanged if the other mesh lacks the point, else 0.
 fn point_flag(points: &[u32], k: usize, others: &[u32], partners: &[u16], flag: u8) -> u8
     requires { ⌜ k < length (now points) / 3 ⌝ ∗ ⌜ Single (now points) ⌝ ∗ ⌜ Partnered (now points) (now others) (now partners) ⌝ }
     ensures { λ r. ⌜ r ≡ cond (eqb flag 1 && lacks samePoint (pointsIn (now (points .entry))) (pointsIn (now (others .entry))) k) 1 0 ⌝ }
@@ -39,7 +39,7 @@ pub fn flag_points(points: &[u32], others: &[u32], partners: &[u16], flags: &mut
     }
 }
 
-// The flag of triangle number k: it stays where the other mesh does not have the triangle.
+// Returns the flag of triangle k: unchanged if the other mesh lacks the triangle, else 0.
 fn missing_flag(
     points: &[u32],
     indices: &[u16],
@@ -71,7 +71,7 @@ fn missing_flag(
     1
 }
 
-// With a table of the other mesh's sides.
+// Sets the flags of all triangles to that, with a table of the other mesh's sides.
 pub fn flag_missing(
     points: &[u32],
     indices: &[u16],
@@ -103,7 +103,7 @@ pub fn flag_missing(
     }
 }
 
-// The flag of triangle number k: it stays where no earlier triangle of the same mesh is the same.
+// Returns the flag of triangle k: unchanged if no earlier triangle of its own mesh is the same, else 0.
 fn first_flag(
     points: &[u32],
     indices: &[u16],
@@ -124,7 +124,7 @@ fn first_flag(
     1
 }
 
-// With a table of the mesh's own sides.
+// Sets the flags of all triangles to that, with a table of the mesh's own sides.
 pub fn flag_first(points: &[u32], indices: &[u16], heads: &[u16], links: &[u32], flags: &mut [u8])
     requires { ⌜ SideTable (now points) (now indices) (now heads) (now links) ⌝ ∗ ⌜ length (now indices) / 3 ≤ length (now flags) ⌝ }
     ensures { λ r. ⌜ Narrowed (isFirst (now (points .entry)) (now (indices .entry))) (length (now (indices .entry)) / 3) (now (flags .entry)) (now (flags .exit)) ⌝ }

@@ -1,4 +1,4 @@
-// For each point of one mesh its partner: the number of the point of the other mesh that lies there, or the number of the other's points.
+// The partner of each point of a mesh: the number of the equal point of the other mesh, or the number of the other mesh's points.
 ghost use Prim.Native.Nat.{_/_, _≤_, _<_};
 ghost use lib.ListN.{length};
 ghost use Rattle.mesh_geometry.specs.Words.{readPoints};
@@ -10,7 +10,7 @@ use check_searches::point::point_at;
 use mesh_geometry::Point;
 use point_table::seek;
 
-// The number of the point at p, or the number of points, by a table of the points.
+// Returns the number of the point that equals p, or the number of points, by a table of the points.
 fn find(points: &[u32], table: &[u16], slots: usize, p: Point) -> usize
     requires { ⌜ PointTable (readPoints (now points)) slots (length (now points) / 3) (now table) ⌝ ∗ ⌜ 0 < slots ⌝ }
     ensures { λ r. ⌜ Found (readPoints (now (points .entry))) (length (now (points .entry)) / 3) p r ⌝ }
@@ -24,7 +24,7 @@ fn find(points: &[u32], table: &[u16], slots: usize, p: Point) -> usize
     k - 1
 }
 
-// The partners of all points, by a table of the other's.
+// Sets the partners of all points, by a table of the other mesh's points.
 fn match_by(points: &[u32], others: &[u32], table: &[u16], slots: usize, partners: &mut [u16])
     requires { ⌜ PointTable (readPoints (now others)) slots (length (now others) / 3) (now table) ⌝ ∗ ⌜ 0 < slots ⌝ ∗ ⌜ length (now points) / 3 ≤ length (now partners) ⌝ ∗ ⌜ length (now others) / 3 < 65536 ⌝ }
     ensures { λ r. ⌜ Partnered (now (points .entry)) (now (others .entry)) (now (partners .exit)) ⌝ }
@@ -37,7 +37,7 @@ fn match_by(points: &[u32], others: &[u32], table: &[u16], slots: usize, partner
     }
 }
 
-// With a table for up to 64 points.
+// The same with a table for up to 64 points.
 fn match_few(points: &[u32], others: &[u32], partners: &mut [u16])
     requires { ⌜ Single (now others) ⌝ ∗ ⌜ length (now others) / 3 ≤ 64 ⌝ ∗ ⌜ length (now points) / 3 ≤ length (now partners) ⌝ }
     ensures { λ r. ⌜ Partnered (now (points .entry)) (now (others .entry)) (now (partners .exit)) ⌝ }
@@ -47,7 +47,7 @@ fn match_few(points: &[u32], others: &[u32], partners: &mut [u16])
     match_by(points, others, &table, 251, partners);
 }
 
-// With a table for up to 8192 points.
+// The same with a table for up to 8192 points.
 fn match_many(points: &[u32], others: &[u32], partners: &mut [u16])
     requires { ⌜ Single (now others) ⌝ ∗ ⌜ length (now others) / 3 ≤ 8192 ⌝ ∗ ⌜ length (now points) / 3 ≤ length (now partners) ⌝ }
     ensures { λ r. ⌜ Partnered (now (points .entry)) (now (others .entry)) (now (partners .exit)) ⌝ }
@@ -57,7 +57,7 @@ fn match_many(points: &[u32], others: &[u32], partners: &mut [u16])
     match_by(points, others, &table, 16381, partners);
 }
 
-// With a table as large as the other's points need.
+// The same with a table as large as the other mesh's points need.
 pub fn match_points(points: &[u32], others: &[u32], partners: &mut [u16])
     requires { ⌜ Single (now others) ⌝ ∗ ⌜ length (now others) / 3 ≤ 8192 ⌝ ∗ ⌜ length (now points) / 3 ≤ length (now partners) ⌝ }
     ensures { λ r. ⌜ Partnered (now (points .entry)) (now (others .entry)) (now (partners .exit)) ⌝ }
