@@ -1,4 +1,4 @@
--- The definitions that the contracts and laws of `edge` cite.
+-- The definitions of `edge`.
 pub mod Positions
 pub mod Near
 pub mod Table

@@ -1,4 +1,4 @@
--- Rows of an edge's positions among the words of a list. Assumes nothing.
+-- Rows of an edge's positions in a list of words. Assumes nothing.
 use Prim.Native.Nat.{ℕ, suc, _+_, _≤_, _<_}
 use mathlib.Core.Path.{_≡_}
 use mathlib.Core.Logic.{_⊎_}
@@ -11,12 +11,12 @@ use Rattle.edge.specs.Table.{table}
 abbrev pub edgeRow : ℕ → ℕ → List ℕ
 edgeRow n L = table (position n L) (suc n)
 
--- the row of an edge stands in xs from word `from` on
+-- xs holds the row of an edge from word `from` on
 pub record RowAt (xs : List ℕ) (from n L : ℕ) : Type 0 where
   pub fits : from + n < length xs
   pub at : (i : ℕ) → i ≤ n → getD xs (from + i) 0 ≡ position n L i
 
--- ys is xs with the row of an edge in it from word `from` on
+-- ys is xs with the row of an edge written from word `from` on
 pub record Filled (xs : List ℕ) (from n L : ℕ) (ys : List ℕ) : Type 0 where
   pub row : RowAt ys from n L
   pub same : length ys ≡ length xs

@@ -1,4 +1,4 @@
-// Where the points of an edge lie: the row of positions of an edge's segments.
+// The positions of the points of an edge, as a row of words.
 mod carry;
 
 ghost use mathlib.Core.Path.{_≡_};
@@ -10,15 +10,15 @@ ghost use Rattle.edge.specs.Table.{table};
 ghost use Rattle.level.specs.Segments.{Valid};
 use level::Segments;
 
-// A point lies at most half the edge from the middle.
+// Returns k, or half the edge's length if k is more: no point is further from the middle.
 fn at_most_half(k: u32) -> u32
     ensures { λ r. ⌜ (r ≡ min k 32768) × (r ≤ 32768) ⌝ }
 {
     if k < 32768 { k } else { 32768 }
 }
 
-// Fills in the row of an edge's positions from word `from` on: from the middle outwards, two points a turn. The distance from
-// the middle grows by two half segments, and so does the dividend of its quotient, whatever the number of segments.
+// Writes the row of an edge's positions from word `from` on, two points per turn, from the middle outwards. From turn to turn the distance
+// from the middle grows by one segment, so the dividend grows by the same number, and no turn needs a division.
 pub fn fill_row(rows: &mut [u32], from: usize, s: Segments)
     requires { ⌜ Valid (s .count) (s .scaled) ⌝ ∗ ⌜ from + s .count < length (now rows) ⌝ }
     ensures { λ r. ⌜ Filled (now (rows .entry)) from (s .count) (s .scaled) (now (rows .exit)) ⌝ }
@@ -37,7 +37,7 @@ pub fn fill_row(rows: &mut [u32], from: usize, s: Segments)
     }
 }
 
-// The row of an edge, where it stands in `rows` from word `from` on.
+// Returns the row of an edge, which `rows` holds from word `from` on.
 pub fn row_from(rows: &[u32], from: usize, s: Segments) -> &[u32]
     requires { ⌜ RowAt (now rows) from (s .count) (s .scaled) ⌝ }
     ensures { λ r. ⌜ now r ≡ edgeRow (s .count) (s .scaled) ⌝ }
@@ -46,7 +46,7 @@ pub fn row_from(rows: &[u32], from: usize, s: Segments) -> &[u32]
     &rows[from..from + n + 1]
 }
 
-// The positions of an edge's points, and 0 past the last: by division.
+// Returns the positions of an edge's points, followed by zeros, by division.
 pub fn divided_row(s: Segments) -> [u32; 65]
     requires { ⌜ Valid (s .count) (s .scaled) ⌝ }
     ensures { λ r. ⌜ r ≡ table (entry (s .count) (s .scaled)) 65 ⌝ }

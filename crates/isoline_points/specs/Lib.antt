@@ -1,2 +1,2 @@
--- The definitions that the contracts of `isoline_points` cite.
+-- The definitions of `isoline_points`.
 pub mod Equal

@@ -1,4 +1,4 @@
-// The points of isolines, line by line.
+// The points of isolines, isoline by isoline.
 ghost use Prim.Native.Nat.{_+_, _*_, _≤_};
 ghost use mathlib.Core.Path.{_≡_};
 ghost use mathlib.Core.List.{[], _∷_};
@@ -13,7 +13,7 @@ ghost use Rattle.isoline_points.specs.Equal.{MostEqual, StoredIfEqual};
 use edge_table::row_of;
 use level::Segments;
 
-// Lines, where each row has the places of an edge, its end's too.
+// Writes isolines from two rows of places, each with the place of the edge's end.
 fn write_rows(out: &mut [u32], at: usize, lines: &[u32], along: &[u32]) -> usize
     requires { ⌜ GoodRow (now lines) × GoodRow (now along) ⌝ ∗ ⌜ at + 3 * length (isolinePoints (whole (now lines)) (whole (now along))) ≤ length (now out) ⌝ }
     ensures { λ w. ⌜ Wrote (now (out .entry)) at (vertexWords (isolinePoints (whole (now (lines .entry))) (whole (now (along .entry))))) (now (out .exit)) w ⌝ }
@@ -22,7 +22,8 @@ fn write_rows(out: &mut [u32], at: usize, lines: &[u32], along: &[u32]) -> usize
     vertices::grid::write_grid(out, at, &lines[0..n], along)
 }
 
-// Lines at the places of `row`, which is that of `lines`. The row along a line is the table's where its spacing is equal, else divided.
+// Writes isolines at the places of `row`, which is the row of `lines`. The row along an isoline comes from the table if its spacing is
+// equal, else it is computed by division.
 fn write_along(
     out: &mut [u32],
     at: usize,
@@ -44,7 +45,7 @@ fn write_along(
     write_rows(out, at, row, divided)
 }
 
-// The same, where the row of `lines` is taken in this way too.
+// The same, with the row of `lines` from the table or by division too.
 fn write_by_spacing(
     out: &mut [u32],
     at: usize,
@@ -65,7 +66,7 @@ fn write_by_spacing(
     write_along(out, at, table, divided, lines, along)
 }
 
-// The most segments of an edge of equal spacing up to s, where `most` is that of the edges before.
+// Returns the most segments of an edge of equal spacing so far: the greater of `most` and the segments of s, if its spacing is equal.
 fn most_equal(most: u32, s: Segments) -> u32
     requires { ⌜ s .count ≤ 64 ⌝ }
     ensures { λ r. ⌜ MostEqual most s r ⌝ }
@@ -76,8 +77,8 @@ fn most_equal(most: u32, s: Segments) -> u32
     if most < s.count { s.count } else { most }
 }
 
-// A line for each place of `lines` but the last, with a point for each place of `along`.
-// Each row of equal spacing is the table's, of which no more rows are laid out than these need.
+// Writes an isoline for each place of `lines` but the last, with a point for each place of `along`. Rows of equal spacing come from the
+// table, of which no more rows are copied than these two need.
 pub fn write_isolines(out: &mut [u32], at: usize, lines: Segments, along: Segments) -> usize
     requires { ⌜ Valid (lines .count) (lines .scaled) × Valid (along .count) (along .scaled) ⌝ ∗ ⌜ at + 3 * length (isolinePoints (run lines) (run along)) ≤ length (now out) ⌝ }
     ensures { λ w. ⌜ Wrote (now (out .entry)) at (vertexWords (isolinePoints (run lines) (run along))) (now (out .exit)) w ⌝ }

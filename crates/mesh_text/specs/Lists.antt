@@ -4,7 +4,7 @@ use mathlib.Core.List.{List, _++_}
 use Rattle.decimal_text.specs.Heads.{drawnLine}
 use Rattle.decimal_text.specs.Lines.{rows}
 
--- the lines of P points and I indices: the counts, a line a point, a line a primitive of `width` indices
+-- the lines of P points and I indices: the counts, a line per point, a line per primitive of `width` indices
 abbrev pub listText : ℕ → List ℕ → List ℕ → ℕ → ℕ → List ℕ
 listText width vertices indices P I = drawnLine P I ++ rows 3 vertices 0 P ++ rows width indices 0 (I / width)
 

@@ -1,5 +1,4 @@
--- How large the coordinates of a patch's points are.
--- Assumes nothing.
+-- How large the coordinates of a patch's points are. Assumes nothing.
 use Prim.Native.Nat.{ℕ, _≤_}
 use Rattle.patch.specs.declared.kinds.Patch.{Patch}
 use Rattle.patch.specs.declared.kinds.Patch.the-variants.{Triangles, Quads, Isolines}

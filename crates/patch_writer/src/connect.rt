@@ -1,4 +1,4 @@
-// The indices of a cut patch, written from a list's front.
+// Writes the indices of a cut patch to the front of a list.
 ghost use Prim.Native.Nat.{_≤_};
 ghost use lib.ListN.{length};
 ghost use Rattle.buffer.specs.Over.{Wrote};
@@ -9,7 +9,7 @@ ghost use Rattle.patch.specs.declared.subdivision.Subdivision.the-variants.{Pla
 use patch::subdivision::Subdivision;
 use strip::triangle::Triangle;
 
-// The one triangle of the plain triangle patch.
+// Writes the one triangle of the plain triangle patch.
 fn write_plain_triangle(out: &mut [u16], positive: bool) -> usize
     requires { ⌜ 3 ≤ length (now out) ⌝ }
     ensures { λ r. ⌜ Wrote (now (out .entry)) 0 (primitives positive PlainTriangle) (now (out .exit)) r ⌝ }
@@ -17,7 +17,7 @@ fn write_plain_triangle(out: &mut [u16], positive: bool) -> usize
     strip::triangle::put_triangle(out, 0, Triangle { a: 0, b: 1, c: 2 }, positive)
 }
 
-// The two triangles of the plain quad patch.
+// Writes the two triangles of the plain quad patch.
 fn write_plain_quad(out: &mut [u16], positive: bool) -> usize
     requires { ⌜ 6 ≤ length (now out) ⌝ }
     ensures { λ r. ⌜ Wrote (now (out .entry)) 0 (primitives positive PlainQuad) (now (out .exit)) r ⌝ }
@@ -26,7 +26,7 @@ fn write_plain_quad(out: &mut [u16], positive: bool) -> usize
     strip::triangle::put_triangle(out, w, Triangle { a: 0, b: 2, c: 3 }, positive)
 }
 
-// Triangles, turned as asked, or lines.
+// Writes the triangles, in the orientation asked for, or the lines.
 fn write_primitives(out: &mut [u16], cut: Subdivision, positive: bool) -> usize
     requires { ⌜ ValidCut cut ⌝ ∗ ⌜ length (primitives positive cut) ≤ length (now out) ⌝ }
     ensures { λ r. ⌜ Wrote (now (out .entry)) 0 (primitives positive cut) (now (out .exit)) r ⌝ }
@@ -76,7 +76,7 @@ fn write_primitives(out: &mut [u16], cut: Subdivision, positive: bool) -> usize
     }
 }
 
-// Dots in point mode, else triangles or lines.
+// Writes dots in point mode, else triangles or lines.
 pub fn write_indices(out: &mut [u16], cut: Subdivision, point_mode: bool, positive: bool) -> usize
     requires { ⌜ ValidCut cut ⌝ ∗ ⌜ length (points cut) ≤ 65535 ⌝ ∗ ⌜ length (inMode «point_mode» positive cut) ≤ length (now out) ⌝ }
     ensures { λ r. ⌜ Wrote (now (out .entry)) 0 (inMode «point_mode» positive cut) (now (out .exit)) r ⌝ }

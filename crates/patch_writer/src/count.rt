@@ -5,7 +5,7 @@ ghost use Rattle.patch_mesh.specs.Counts.{insidePoints, insideTriangles, pointC
 ghost use Rattle.patch_mesh.specs.Valid.{ValidCut};
 use patch::subdivision::Subdivision;
 
-// The points of a patch, and the words of its triangles or lines.
+// How many points a patch has, and how many index words its triangles or lines have.
 struct Counts {
     points: u32,
     words: u32,
@@ -18,7 +18,7 @@ fn product(x: u32, y: u32) -> u32
     x * y
 }
 
-// A triangle patch whose outer edges have c0, c1 and c2 segments and whose inner level gives n.
+// Returns the counts of a triangle patch whose outer edges have c0, c1 and c2 segments and whose inner level gives n.
 fn triangle_counts(c0: u32, c1: u32, c2: u32, n: u32) -> Counts
     requires { ⌜ (c0 ≤ 64) × (c1 ≤ 64) × (c2 ≤ 64) ⌝ ∗ ⌜ (2 ≤ n) × (n ≤ 64) ⌝ }
     ensures { λ r. ⌜ (r .points ≡ c0 + c1 + c2 + insidePoints n) × (r .words ≡ 3 * (c0 + c1 + c2 + insideTriangles n)) ⌝ }
@@ -32,7 +32,7 @@ fn triangle_counts(c0: u32, c1: u32, c2: u32, n: u32) -> Counts
     }
 }
 
-// A quad patch whose outer edges have c0 to c3 segments and whose inner levels give m and n.
+// Returns the counts of a quad patch whose outer edges have c0 to c3 segments and whose inner levels give m and n.
 fn quad_counts(c0: u32, c1: u32, c2: u32, c3: u32, m: u32, n: u32) -> Counts
     requires { ⌜ (c0 ≤ 64) × (c1 ≤ 64) × (c2 ≤ 64) × (c3 ≤ 64) ⌝ ∗ ⌜ (2 ≤ m) × (m ≤ 64) × (2 ≤ n) × (n ≤ 64) ⌝ }
     ensures { λ r. ⌜ (r .points ≡ c0 + c1 + c2 + c3 + (m - 1) * (n - 1)) × (r .words ≡ 3 * (c0 + c1 + c2 + c3 + 2 * (m - 2) + 2 * (n - 2) + 2 * ((m - 2) * (n - 2)))) ⌝ }
@@ -46,7 +46,7 @@ fn quad_counts(c0: u32, c1: u32, c2: u32, c3: u32, m: u32, n: u32) -> Counts
     }
 }
 
-// Isolines: so many lines of so many segments.
+// Returns the counts of `lines` isolines with `along` segments each.
 fn line_counts(lines: u32, along: u32) -> Counts
     requires { ⌜ (lines ≤ 64) × (along ≤ 64) ⌝ }
     ensures { λ r. ⌜ (r .points ≡ lines * (along + 1)) × (r .words ≡ 2 * (lines * along)) ⌝ }
@@ -109,7 +109,7 @@ pub fn point_count(cut: Subdivision) -> u32
     counts.points
 }
 
-// In point mode there is an index for each point.
+// Returns the number of indices; point mode has one per point.
 pub fn index_count(cut: Subdivision, point_mode: bool) -> u32
     requires { ⌜ ValidCut cut ⌝ }
     ensures { λ r. ⌜ r ≡ countIn «point_mode» cut ⌝ }

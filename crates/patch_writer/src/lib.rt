@@ -1,4 +1,4 @@
-// A cut patch: how many points and indices it has, and the writing of both.
+// A cut patch: how many points and indices it has, and how both are written.
 pub mod connect;
 pub mod count;
 pub mod place;

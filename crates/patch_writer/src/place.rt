@@ -1,4 +1,4 @@
-// The points of a cut patch, written from a list's front.
+// Writes the points of a cut patch to the front of a list.
 ghost use Prim.Native.Nat.{_*_, _≤_};
 ghost use lib.ListN.{length};
 ghost use Rattle.buffer.specs.Over.{Wrote};

@@ -1,4 +1,4 @@
--- The rings of a triangle patch whose places stand in rows, one ring after the other inwards.
+-- The rings of a triangle patch whose places are in rows, one ring after the other inwards.
 -- Assumes nothing.
 use Prim.Native.Nat.{ℕ, zero, suc, _+_, _-_, _*_, _≤_, _<_}
 use mathlib.Core.Path.{_≡_, refl, sym, ap, _∙_}

@@ -13,7 +13,7 @@ ghost use Rattle.triangle_point_rows.specs.Rings.{ringPoints, ringsOf, I
 use vertices::grid::copy_row;
 use vertices::place::triangle_place;
 
-// Edge k of the ring `depth` units in: a point for each place. `high` is 196608 - depth.
+// Writes edge k of the ring `depth` units inside, a point for each place; `high` is 196608 - depth.
 fn write_edge(out: &mut [u32], at: usize, row: &[u32], depth: u32, high: u32, k: u32) -> usize
     requires { ⌜ (k < 3) × (high + depth ≡ 196608) ⌝ ∗ ⌜ Clear depth (listed (now row)) ⌝ ∗ ⌜ at + 3 * length (now row) ≤ length (now out) ⌝ }
     ensures { λ w. ⌜ Wrote (now (out .entry)) at (vertexWords (edgePoints trianglePlace k (listed (now (row .entry))) depth)) (now (out .exit)) w ⌝ }
@@ -28,7 +28,7 @@ fn write_edge(out: &mut [u32], at: usize, row: &[u32], depth: u32, high: u32, k:
     to
 }
 
-// The outline, each edge without its end.
+// Writes the outline; each edge is without its end.
 fn write_outline(out: &mut [u32], at: usize, e0: &[u32], e1: &[u32], e2: &[u32]) -> usize
     requires { ⌜ Clear 0 (listed (now e0)) × Clear 0 (listed (now e1)) × Clear 0 (listed (now e2)) ⌝ ∗ ⌜ at + 3 * length (ring trianglePlace 0 (listed (now e0) ∷ listed (now e1) ∷ listed (now e2) ∷ []) 0) ≤ length (now out) ⌝ }
     ensures { λ w. ⌜ Wrote (now (out .entry)) at (vertexWords (ring trianglePlace 0 (listed (now (e0 .entry)) ∷ listed (now (e1 .entry)) ∷ listed (now (e2 .entry)) ∷ []) 0)) (now (out .exit)) w ⌝ }
@@ -38,7 +38,7 @@ fn write_outline(out: &mut [u32], at: usize, e0: &[u32], e1: &[u32], e2: &[u32])
     write_edge(out, w, e2, 0, 196608, 2)
 }
 
-// A ring of the inside, each edge without its end; the first place is its depth.
+// Writes an inner ring; each edge is without its end, and the first place is the ring's depth.
 fn write_ring(out: &mut [u32], at: usize, row: &[u32]) -> usize
     requires { ⌜ 0 < length (now row) ⌝ ∗ ⌜ Clear (places (now row) 0) (listed (now row)) ⌝ ∗ ⌜ at + 3 * length (ringPoints (now row)) ≤ length (now out) ⌝ }
     ensures { λ w. ⌜ Wrote (now (out .entry)) at (vertexWords (ringPoints (now (row .entry)))) (now (out .exit)) w ⌝ }
@@ -50,8 +50,8 @@ fn write_ring(out: &mut [u32], at: usize, row: &[u32]) -> usize
     write_edge(out, w, row, depth, high, 2)
 }
 
-// A ring and all rings inside it. The next ring has the places but for the first and the last; the last ring is one of three
-// points, or the centre.
+// Writes a ring and all rings inside it. The next ring has the same places without the first and the last; the innermost ring has three
+// points, or is the centre.
 fn write_rings(out: &mut [u32], at: usize, row: &[u32]) -> usize
     requires { ⌜ Inward (now row) ⌝ ∗ ⌜ at + 3 * length (ringsOf (now row)) ≤ length (now out) ⌝ }
     ensures { λ w. ⌜ Wrote (now (out .entry)) at (vertexWords (ringsOf (now (row .entry)))) (now (out .exit)) w ⌝ }
@@ -75,14 +75,14 @@ fn sum(x: u32, y: u32) -> u32
     ((x as u64 + y as u64) % 4294967296) as u32
 }
 
-// What adds to 0 with x, modulo 2^32.
+// Returns -x modulo 2^32.
 fn negative(x: u32) -> u32
     ensures { λ r. ⌜ r ≡ (4294967296 - x) % 4294967296 ⌝ }
 {
     ((4294967296 - x as u64) % 4294967296) as u32
 }
 
-// Eight times three words of `base`, with p, q and r added.
+// Returns eight points of `base`, three words each, plus p, q and r.
 fn eight(base: &[u32], from: usize, p: u32, q: u32, r: u32) -> [u32; 24]
     requires { ⌜ from + 24 ≤ length (now base) ⌝ }
     ensures { λ w. ⌜ w ≡ flat (sums (now (base .entry)) from p q r) 0 8 ⌝ }
@@ -139,8 +139,8 @@ fn write_eights(
     to
 }
 
-// n points, eight or more, by three words of `base` each. The first eight are written, and then the others from the first place on from
-// which they are a multiple of eight: some are written twice, both times the same.
+// Writes n points of `base`, at least eight, plus p, q and r. It writes the first eight, then blocks of eight that end at the last point; so
+// it writes some points twice, with the same words.
 fn write_run(
     out: &mut [u32],
     at: usize,
@@ -160,8 +160,8 @@ fn write_run(
     write_eights(out, at + 3 * m, base, from + 3 * m, k, p, q, r)
 }
 
-// A ring of the inside, each edge without its end, by the outline's points at its places: `base` has those of edge 0 and `other` those of
-// edge 1, and edge 2 is edge 0 from the next word on.
+// Writes an inner ring, each edge without its end, from the points of the outline at the ring's places: `base` holds those of edge 0,
+// `other` those of edge 1. The words of edge 2 are those of `base` from the next word on.
 fn write_wide_ring(
     out: &mut [u32],
     at: usize,
@@ -182,7 +182,7 @@ fn write_wide_ring(
     write_run(out, w, base, from + 1, n, less, less, more)
 }
 
-// The same rings as `write_rings`, of which those with edges of eight segments or more are written eight points at a time.
+// Writes the same rings as `write_rings`; where edges have eight segments or more, eight points at a time.
 fn write_laid_rings(out: &mut [u32], at: usize, base: &[u32], other: &[u32], row: &[u32]) -> usize
     requires { ⌜ Inward (now row) ⌝ ∗ ⌜ Laid (now base) (now other) 0 (now row) ⌝ ∗ ⌜ at + 3 * length (ringsOf (now row)) ≤ length (now out) ⌝ }
     ensures { λ w. ⌜ Wrote (now (out .entry)) at (vertexWords (ringsOf (now (row .entry)))) (now (out .exit)) w ⌝ }
@@ -210,7 +210,7 @@ fn write_wide_rings(out: &mut [u32], at: usize, row: &[u32]) -> usize
     write_laid_rings(out, at, &base, &other, row)
 }
 
-// All rings in the way that is quicker: few places do not pay for laying them out.
+// Writes all rings the faster way: for few places the points of the outline cost more than they save.
 fn write_inside(out: &mut [u32], at: usize, row: &[u32]) -> usize
     requires { ⌜ Inward (now row) ⌝ ∗ ⌜ at + 3 * length (ringsOf (now row)) ≤ length (now out) ⌝ }
     ensures { λ w. ⌜ Wrote (now (out .entry)) at (vertexWords (ringsOf (now (row .entry)))) (now (out .exit)) w ⌝ }
@@ -224,7 +224,7 @@ fn write_inside(out: &mut [u32], at: usize, row: &[u32]) -> usize
     write_wide_rings(out, at, row)
 }
 
-// A patch, where each row has the places of an edge, its end's too.
+// Writes a patch; each row has the places of an edge, its end included.
 pub fn write_rows(
     out: &mut [u32],
     at: usize,

@@ -1,5 +1,4 @@
--- The points of one edge.
--- Assumes nothing.
+-- The points of one edge. Assumes nothing.
 use Prim.Native.Nat.{ℕ}
 use mathlib.Core.List.{List}
 use Rattle.edge.specs.Table.{table}
