@@ -1,18 +1,18 @@
--- What an operation that writes a list answered, and its list afterwards. Assumes nothing.
+-- The answer of an operation that writes a list, and its list afterwards. Assumes nothing.
 use Prim.Native.Nat.{ℕ, zero, suc}
 use mathlib.Core.Path.{_≡_}
 use mathlib.Core.List.{List}
 use Rattle.buffer.specs.Over.{over}
 use Rattle.answer_codes.specs.Told.{Told}
 
--- the list xs after an answer of this number: after 0 it begins with the words, else it is as it was
+-- the list xs after an answer with this number: for 0 it begins with the words and is unchanged after them, else it is unchanged
 abbrev pub after : {A : Type 0} → ℕ → List A → List A → List A
 after zero xs words = over xs 0 words
 after (suc n) xs words = xs
 
 -- an operation answered t where `right` is the right answer, and its list xs became xs′
 pub record Drew (t right : Told) (words xs xs′ : List ℕ) : Type 0 where
-  -- the lowest number that applies, with the count where drawn
+  -- the right answer, with the count if drawn
   pub answer : t ≡ right
-  -- drawn: the counted words at the front and not one more; else untouched
+  -- if drawn, the list begins with the counted words and is unchanged after them; otherwise it is unchanged
   pub list : xs′ ≡ after (t .number) xs words

@@ -11,7 +11,7 @@ pub record Told : Type 0 where
 abbrev pub refused : ℕ → Told
 refused n = record { number = n; values = [] }
 
--- drawn, with the one count of an operation
+-- drawn, with the count of one list
 abbrev pub drew : ℕ → Told
 drew n = record { number = 0; values = n ∷ [] }
 

@@ -4,7 +4,7 @@ use lib.ListN.{getD}
 use Rattle.answer_codes.specs.Told.{Told}
 use Rattle.check_words.specs.declared.found.Found.{Found}
 
--- an answer's number and its two places, 0 where there is none
+-- an answer's number and its two places; 0 for a place that it lacks
 pub record Finds (t : Told) (r : Found) : Type 0 where
   pub number : r .number ≡ t .number
   pub first : r .first ≡ getD (t .values) 0 0

@@ -70,7 +70,7 @@ module _ (bs : List ℕ) (xs : List Float) {a : Asked} (is : a ≡ askedIn bs xs
       → IndicesCalled bs xs l l′ c′ r
   indices-known {l = l} e d = draw-known (λ s p. indicesVerdict s p (length l)) connectionWords e d
 
--- what an operation drew and told is what its call did
+-- the call drew and answered what its operation did
 pub drew-called : {told right : Told} {words l l′ c′ : List ℕ} {r : ℕ} {reply : Reply} → Drew told right words l l′ → Tells told reply
     → (r ≡ reply .number) × (c′ ≡ reply .first ∷ []) → Called right words l l′ c′ r
 drew-called d t s = let said = said-one t s in record { says = says-as (sym (d .answer)) said; list = rw (said .number) (d .list) }

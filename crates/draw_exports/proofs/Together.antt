@@ -77,7 +77,7 @@ module _ (bs : List ℕ) (xs : List Float) where
   indices-called : {i i′ c′ : List ℕ} → IndicesCalled bs xs i i′ c′ 0 → Drawn (indicesVerdict set p (length i)) (connectionWords set p) i i′ c′ I
   indices-called {i} d = zero-drew bs set p 3 I (length i) I d
 
-  -- a call that answered 0 is an operation that said "drawn" with the count that stands in memory
+  -- if a call answered 0, its operation answered "drawn" with the count that is in memory
   pub points-call : {v v′ c′ : List ℕ} → PointsCalled bs xs v v′ c′ 0 → DrewPoints set p v v′ (points.Drawn (getD c′ 0 0))
   points-call d = let k = points-called d in rw (k .counted) (k .drawn)
 

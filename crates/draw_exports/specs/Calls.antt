@@ -1,5 +1,5 @@
--- What a call answers and leaves behind, for every input: bs are the setting bytes, xs the levels, v and v′ the words of the vertex list
--- at entry and at exit, i and i′ those of the index list, and c′ the counts at exit. Assumes nothing.
+-- What a call answers and leaves, for every input: bs are the setting bytes, xs the levels, v and v′ the vertex list at entry and at exit,
+-- i and i′ the index list, and c′ the counts at exit. Assumes nothing.
 use Prim.Native.Nat.{ℕ}
 use mathlib.Core.Path.{_≡_}
 use mathlib.Core.List.{List}
@@ -14,31 +14,31 @@ use Rattle.call_answers.specs.Replies.{unknownSetting, badTop, twoWords, oneWor
 use Rattle.call_inputs.specs.Inputs.{patchIn, settingsIn}
 use Rattle.call_inputs.specs.Asked.{known}
 
--- what measuring has to say
+-- the answer to measuring
 abbrev pub measureSays : List ℕ → List Float → Told
 measureSays bs xs = known bs badTop unknownSetting (measureVerdict (settingsIn bs) (patchIn bs xs))
 
--- what drawing the points into a list of n words has to say
+-- the answer to drawing the points into a list of n words
 abbrev pub pointsSay : List ℕ → List Float → ℕ → Told
 pointsSay bs xs n = known bs badTop unknownSetting (pointsVerdict (settingsIn bs) (patchIn bs xs) n)
 
--- what drawing the indices into a list of n words has to say
+-- the answer to drawing the indices into a list of n words
 abbrev pub indicesSay : List ℕ → List Float → ℕ → Told
 indicesSay bs xs n = known bs badTop unknownSetting (indicesVerdict (settingsIn bs) (patchIn bs xs) n)
 
--- a call of measuring; k′ are the bytes of the levels at exit
+-- the contract of measuring; k′ are the bytes of the clamps at exit
 pub record MeasureCalled (bs : List ℕ) (xs : List Float) (c′ k′ : List ℕ) (r : ℕ) : Type 0 where
   pub says : Says twoWords (measureSays bs xs) c′ r
   pub clamps : k′ ≡ clampBytes (measureSays bs xs .values)
 
--- a call that has to say t, and whose own list l became l′
+-- the contract of a call whose answer is t and whose own list l became l′
 pub record Called (t : Told) (words l l′ c′ : List ℕ) (r : ℕ) : Type 0 where
-  -- 11, 8, or what the operation says
+  -- the answer: 11, 8, or the operation's
   pub says : Says oneWord t c′ r
-  -- drawn: the counted words at the front and not one more; else untouched
+  -- if drawn, the list begins with the counted words and is unchanged after them; otherwise it is unchanged
   pub list : l′ ≡ after r l words
 
--- a call that draws the points, and one that draws the indices
+-- the contracts of drawing the points and of drawing the indices
 abbrev pub PointsCalled : List ℕ → List Float → List ℕ → List ℕ → List ℕ → ℕ → Type 0
 PointsCalled bs xs v v′ c′ r = Called (pointsSay bs xs (length v)) (pointWords (settingsIn bs) (patchIn bs xs)) v v′ c′ r
 

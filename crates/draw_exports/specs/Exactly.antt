@@ -1,4 +1,4 @@
--- When a call that measures or draws answers what. Assumes nothing.
+-- When a call that measures or draws gives which answer. Assumes nothing.
 use Prim.Native.Nat.{ℕ, _*_, _≤_, _<_}
 use mathlib.Core.Path.{_≡_}
 use mathlib.Core.Bool.{true, false}
@@ -21,7 +21,7 @@ use Rattle.call_answers.specs.Replies.{twoWords, oneWord}
 use Rattle.call_inputs.specs.Inputs.{patchIn, settingsIn}
 use Rattle.call_inputs.specs.Exactly.{CalledExactly}
 
--- a patch with a top, discarded or not
+-- the top level is good, and the patch is discarded, or is not
 abbrev pub Discarded : Settings → Patch → Type 0
 Discarded set p = Top (set .top) × (discards p ≡ true)
 
@@ -34,14 +34,14 @@ SizeMeans set p size.BadTop = Top (set .top) → ⊥
 SizeMeans set p size.Discarded = Discarded set p
 SizeMeans set p (size.Counts m k c) = Drawable set p × (m ≡ pointsOf set p) × (k ≡ indicesOf set p) × (c ≡ clampsOf (set .spacing) (set .top) p)
 
--- of drawing the points into a list of v words
+-- when each answer of drawing the points into a list of v words is right
 abbrev pub PointsMeans : Settings → Patch → ℕ → PointsAnswer → Type 0
 PointsMeans set p v points.BadTop = Top (set .top) → ⊥
 PointsMeans set p v points.Discarded = Discarded set p
 PointsMeans set p v points.NoRoomForVertices = Drawable set p × (v < 3 * pointsOf set p)
 PointsMeans set p v (points.Drawn n) = Drawable set p × (3 * pointsOf set p ≤ v) × (n ≡ pointsOf set p)
 
--- of drawing the indices into a list of i words
+-- when each answer of drawing the indices into a list of i words is right
 abbrev pub IndicesMeans : Settings → Patch → ℕ → IndicesAnswer → Type 0
 IndicesMeans set p i indices.BadTop = Top (set .top) → ⊥
 IndicesMeans set p i indices.Discarded = Discarded set p
@@ -52,7 +52,7 @@ IndicesMeans set p i (indices.Drawn n) = Drawable set p × (indicesOf set p ≤ 
 abbrev pub measureWords : List ℕ → List ℕ
 measureWords vs = twoWords vs ++ clampBytes vs
 
--- each number with its words is answered exactly where it means; c′ are the counts at exit and k′ the clamps
+-- each answer is given, by number and words, exactly if it is right; c′ are the counts at exit and k′ the clamps
 abbrev pub MeasureExactly : List ℕ → List Float → List ℕ → List ℕ → ℕ → Type 0
 MeasureExactly bs xs c′ k′ r = CalledExactly measureWords toldSize bs (SizeMeans (settingsIn bs) (patchIn bs xs)) (c′ ++ k′) r
 

@@ -1,4 +1,4 @@
-// Drawing, in two calls: the points of a patch and its indices, each at the front of its own list.
+// Drawing, in two calls: the points of a patch and its indices, each written to the front of its own list.
 ghost use lib.ListN.{length};
 ghost use Rattle.tessellate.specs.Answers.{pointsVerdict, indicesVerdict};
 ghost use Rattle.tessellate.specs.Draws.{pointWords, connectionWords};

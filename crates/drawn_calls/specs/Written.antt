@@ -1,5 +1,4 @@
--- The points and the connections that a call from C drew, read off the lists that it left.
--- Assumes nothing.
+-- The points and the indices that a call from C drew, read from the lists that it left. Assumes nothing.
 use Prim.Native.Nat.{ℕ, _-_, _*_}
 use mathlib.Core.List.{List, map}
 use lib.Ieee.{Float}
@@ -16,15 +15,15 @@ use Rattle.draw_exports.specs.Calls.{PointsCalled, IndicesCalled}
 use Rattle.float_exports.specs.Calls.{FloatsCalled}
 use Rattle.share_exports.specs.Calls.{DrawCalled}
 
--- a call with the setting bytes bs and the levels xs was answered with 0, and these are the words of all points that it drew: as many as its
--- count says, at the front of the vertex list, or on shared lists from the first free word of the designer's part on
+-- a call with the setting bytes bs and the levels xs answered 0, and these are the words of all points that it drew: as many as its count
+-- says, at the front of the vertex list, or on shared lists from the first free word of the designer's part on
 pub data CallDrew (bs : List ℕ) (xs : List Float) : List ℕ → Type 0 where
   points : (v v′ c′ : List ℕ) → PointsCalled bs xs v v′ c′ 0 → CallDrew bs xs (take (3 * getD c′ 0 0) v′)
   with-floats : (v v′ i i′ : List ℕ) (f f′ : List Float) (c′ : List ℕ) → FloatsCalled bs xs v v′ i i′ f f′ c′ 0 → CallDrew bs xs (take (3 * getD c′ 0 0) v′)
   shared : (d : ℕ) (w w′ v v′ i i′ c′ : List ℕ) → DrawCalled bs xs d w w′ v v′ i i′ c′ 0
       → CallDrew bs xs (take (3 * getD c′ 0 0) (drop (firstFree (designerOf d) (stateIn w .vertices)) v′))
 
--- and these are the indices; on shared lists less the number of points that the part held
+-- the same for the indices; on shared lists, each less the number of points that the part held before
 pub data CallConnected (bs : List ℕ) (xs : List Float) : List ℕ → Type 0 where
   indices : (i i′ c′ : List ℕ) → IndicesCalled bs xs i i′ c′ 0 → CallConnected bs xs (take (getD c′ 0 0) i′)
   with-floats : (v v′ i i′ : List ℕ) (f f′ : List Float) (c′ : List ℕ) → FloatsCalled bs xs v v′ i i′ f f′ c′ 0 → CallConnected bs xs (take (getD c′ 1 0) i′)

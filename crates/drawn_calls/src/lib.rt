@@ -1,2 +1,2 @@
-// What the calls from C drew: the third demand of it, the seam between any two of them, and that the call that checks accepts it.
-// Definitions and theorems, with nothing to run.
+// What the calls from C drew: it meets the third demand, any two patches meet at their seam, and the call that checks a mesh accepts it.
+// Definitions and theorems, with no code to run.

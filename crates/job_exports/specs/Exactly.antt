@@ -32,5 +32,5 @@ pub record RecordExactly (n : ℕ) (l : List ℕ) (at : ℕ) (place′ : List �
   pub unknown-version : (r ≡ 6) ↔ ((at < length l) × (isVersion n ≡ false))
   pub cut-record : (r ≡ 7) ↔ ReadThere n l at next-record.CutRecord
   pub unknown-setting : (place : ℕ) → ((r ≡ 8) × (place′ ≡ place ∷ [])) ↔ ReadThere n l at (next-record.UnknownSetting place (after (versionIn n) at))
-  -- the end, which is no refusal
+  -- the end, which is not a refusal
   pub end : (r ≡ 255) ↔ (length l ≤ at)

@@ -7,7 +7,7 @@
 // Reading always writes the version; the settings and the patterns, which are 0 unless a record was read; where to read on
 // (`next`); and the place of an unknown setting. A cursor at the end stays there, and every other answer moves it.
 // The answer is a number: 0 written or read, 5 not a job, 6 unknown version, 7 cut record, 8 unknown setting, 10 no room, 11
-// bad top, and 255 for the end, which is no refusal.
+// bad top, and 255 for the end, which is not a refusal.
 pub mod read;
 pub mod reply;
 pub mod write;

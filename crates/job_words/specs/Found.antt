@@ -12,7 +12,7 @@ use Rattle.job_bytes.specs.Written.{kindByte, spacingByte, orderByte, originByt
 use Rattle.job_words.specs.declared.found.Found.{Found}
 use Rattle.job_words.specs.Inputs.{isVersion, versionIn}
 
--- the number of the end; it is no refusal, and no other answer has it
+-- the number of the end; it is not a refusal, and no other answer has it
 abbrev pub endNumber : ℕ
 endNumber = 255
 

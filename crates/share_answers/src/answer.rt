@@ -1,6 +1,6 @@
-// What drawing into a designer's part answers, by name.
+// The answers to drawing into a designer's part.
 
-// So many points and indices were appended to the designer's part; or why nothing was.
+// This many points and indices were appended to the designer's part; or why nothing was appended.
 pub enum DrawAnswer {
     Drawn { points: u32, indices: u32 },
     Discarded,

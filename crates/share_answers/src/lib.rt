@@ -1,3 +1,3 @@
-// What drawing into a designer's part has to say, before anything is written: the answers, and which of them applies.
+// The answer to drawing into a designer's part, found before anything is written: the answers, and which of them applies.
 pub mod answer;
 pub mod verdict;

@@ -32,7 +32,7 @@ use Rattle.share_draw.specs.Operations.{drawnState, DidDraw}
 use Rattle.share_words.specs.Words.{stateIn, stateWords, quotaIn, designerOf}
 use Rattle.share_exports.specs.Calls.{unknownDesigner, asked, Called, DrawAsked, DrawCalled, Started, StartCalled, clearSays, Cleared, ClearCalled}
 
--- ---- what stands against a call
+-- ---- refusals that the patch does not matter for
 module _ (bs : List ℕ) (d : ℕ) (ok : Bool) (t : Told) where
   abbrev place : ℕ
   place = firstUnknown bs 0
@@ -95,7 +95,7 @@ stored : (n : ℕ) (a b s : State) (w : List ℕ) → a ≡ unlessRefused n b s 
 stored zero a b s w e = ap stateWords e
 stored (suc n) a b s w e = rw (ne-eqb (suc n) 0 (λ h. omega (arith, h)))
 
--- what the operation did, told and stored
+-- what the operation did, answered and stored
 pub drew-known : {e : Designer} {s : State} {set : Settings} {p : Patch} {w w′ v v′ i i′ c′ : List ℕ} {r : DrawResult} {reply : Reply} {n : ℕ}
     → DidDraw e s set p v v′ i i′ r → Tells (toldDraw (r .answer)) reply → w′ ≡ cond (eqb (reply .number) 0) (stateWords (r .state)) w
     → (n ≡ reply .number) × (c′ ≡ reply .first ∷ reply .second ∷ [])

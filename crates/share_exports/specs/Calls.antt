@@ -1,5 +1,5 @@
--- What a call answers and leaves behind, for every input: bs are the setting bytes, xs the levels, w and w′ the words of the state at entry
--- and at exit, v and v′ those of the vertex list, i and i′ those of the index list, and c′ the counts at exit. Assumes nothing.
+-- What a call answers and leaves, for every input: bs are the setting bytes, xs the levels, w and w′ the words of the state at entry and at
+-- exit, v and v′ the vertex list, i and i′ the index list, and c′ the counts at exit. Assumes nothing.
 use Prim.Native.Nat.{ℕ}
 use mathlib.Core.Path.{_≡_}
 use mathlib.Core.Bool.{Bool, cond}
@@ -29,46 +29,46 @@ use Rattle.share_words.specs.Words.{stateIn, stateWords, quotaIn, designerOf}
 abbrev pub unknownDesigner : Told
 unknownDesigner = refused 15
 
--- an operation's answer t is for a designer and settings that are known, after 11 and 14, which are told before all else
+-- the answer t if designer and settings are known; refusals in the order 11, 14, 15, 8
 unfoldable pub asked : List ℕ → ℕ → Bool → Told → Told
 asked bs d ok t =
     cond (isTop (topIn bs))
     (cond ok (cond (ltb 1 d) unknownDesigner (cond (ltb (firstUnknown bs 0) 5) (unknownSetting (firstUnknown bs 0)) t)) (refused 14))
     badTop
 
--- a drawing call, for a designer, a state, settings and a patch
+-- the contract of a drawing call with the answer t, for a designer, a state, settings and a patch
 pub record Called (t : Told) (e : Designer) (s : State) (set : Settings) (p : Patch) (w w′ v v′ i i′ c′ : List ℕ) (r : ℕ) : Type 0 where
   pub says : Says twoWords t c′ r
-  -- drawn: the state and both lists are those of the operation; else they are as they were
+  -- if drawn, the state and both lists are those of the operation; otherwise all are unchanged
   pub state : w′ ≡ unlessRefused r (stateWords (drawnState e s set p)) w
   pub vertices : v′ ≡ unlessRefused r (appended e (pointWords set p) (s .vertices) v) v
   pub indices : i′ ≡ unlessRefused r (appended e (newIndices e s set p) (s .indices) i) i
 
--- what such a call has to say, of the setting bytes bs and the designer's number d
+-- the answer to drawing, for the setting bytes bs and the designer's number d
 abbrev pub drawSays : List ℕ → ℕ → Designer → State → Settings → Patch → ℕ → ℕ → Told
 drawSays bs d e s set p v i = asked bs d (accepted v i s) (drawVerdict e s set p v i)
 
 abbrev pub DrawAsked : List ℕ → ℕ → Designer → State → Settings → Patch → List ℕ → List ℕ → List ℕ → List ℕ → List ℕ → List ℕ → List ℕ → ℕ → Type 0
 DrawAsked bs d e s set p w w′ v v′ i i′ c′ r = Called (drawSays bs d e s set p (length v) (length i)) e s set p w w′ v v′ i i′ c′ r
 
--- a call that draws
+-- the contract of drawing
 abbrev pub DrawCalled : List ℕ → List Float → ℕ → List ℕ → List ℕ → List ℕ → List ℕ → List ℕ → List ℕ → List ℕ → ℕ → Type 0
 DrawCalled bs xs d w w′ v v′ i i′ c′ r = DrawAsked bs d (designerOf d) (stateIn w) (settingsIn bs) (patchIn bs xs) w w′ v v′ i i′ c′ r
 
--- a call that starts on lists of v and i words, with the quotas a and b
+-- a start on lists of v and i words, with the quotas a and b
 pub record Started (v i : ℕ) (a b : Quota) (w w′ : List ℕ) (r : ℕ) : Type 0 where
   pub number : r ≡ startVerdict v i a b .number
   pub state : w′ ≡ unlessRefused r (stateWords (startState v i a b)) w
 
--- the quotas are four words q
+-- the contract of starting, with the quotas as four words q
 abbrev pub StartCalled : List ℕ → ℕ → ℕ → List ℕ → List ℕ → ℕ → Type 0
 StartCalled q v i w w′ r = Started v i (quotaIn q 0) (quotaIn q 2) w w′ r
 
--- what clearing has to say: 14 before all else
+-- the answer to clearing: 14 first, then 15
 unfoldable pub clearSays : ℕ → Bool → Told
 clearSays d ok = cond ok (cond (ltb 1 d) unknownDesigner done) (refused 14)
 
--- a call that clears for the designer of number d, lent lists of v and i words
+-- clearing for the designer's number d, with lists of v and i words lent
 pub record Cleared (d v i : ℕ) (e : Designer) (s : State) (w w′ : List ℕ) (r : ℕ) : Type 0 where
   pub number : r ≡ clearSays d (accepted v i s) .number
   pub state : w′ ≡ unlessRefused r (stateWords (clearedState e s)) w

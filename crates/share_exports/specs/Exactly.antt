@@ -1,4 +1,4 @@
--- When a call on shared lists answers what. Assumes nothing.
+-- When a call on shared lists gives which answer. Assumes nothing.
 use Prim.Native.Nat.{ℕ, _+_, _*_, _≤_, _<_}
 use mathlib.Core.Path.{_≡_}
 use mathlib.Core.Bool.{Bool, true, false}
@@ -23,7 +23,7 @@ use Rattle.share_answers.specs.Answers.{toldDraw, pointsIn}
 use Rattle.share_words.specs.Words.{stateIn, quotaIn, designerOf}
 use Rattle.share_exports.specs.Calls.{unknownDesigner}
 
--- ---- starting: the quotas a and b lie in lists of v and i words
+-- ---- starting: the quotas a and b fit into lists of v and i words
 abbrev pub Fit : ℕ → ℕ → Quota → Quota → Type 0
 Fit v i a b = (a .vertices + b .vertices ≤ v) × (a .indices + b .indices ≤ i)
 
@@ -31,14 +31,14 @@ pub record StartExactly (q : List ℕ) (v i r : ℕ) : Type 0 where
   pub started : (r ≡ 0) ↔ Fit v i (quotaIn q 0) (quotaIn q 2)
   pub too-large : (r ≡ 12) ↔ (Fit v i (quotaIn q 0) (quotaIn q 2) → ⊥)
 
--- ---- clearing, for the designer of number d: w are the words of the state
+-- ---- clearing, for the designer's number d; w are the words of the state
 pub record ClearExactly (d v i : ℕ) (w : List ℕ) (r : ℕ) : Type 0 where
   pub cleared : (r ≡ 0) ↔ ((accepted v i (stateIn w) ≡ true) × (d ≤ 1))
   pub bad-state : (r ≡ 14) ↔ (accepted v i (stateIn w) ≡ false)
   pub unknown-designer : (r ≡ 15) ↔ ((accepted v i (stateIn w) ≡ true) × (1 < d))
 
 -- ---- drawing
--- what is answered: that the designer's number is neither 0 nor 1, the place of the first setting byte out of range, or the operation's answer
+-- the answer to drawing: an unknown designer, the place of the first setting byte out of range, or the operation's answer
 pub data ShareAnswer : Type 0 where
   no-designer : ShareAnswer
   unknown : ℕ → ShareAnswer
@@ -49,15 +49,15 @@ toldShare no-designer = unknownDesigner
 toldShare (unknown place) = unknownSetting place
 toldShare (found a) = toldDraw a
 
--- the settings, the state and the designer are known; `ok` is whether the state and the lists are accepted
+-- the settings and the designer are known, and the state is good; `ok` says whether the state and the lists are accepted
 abbrev pub Known : List ℕ → ℕ → Bool → Type 0
 Known bs d ok = Top (topIn bs) × (ok ≡ true) × (d ≤ 1) × AllBelow choices bs 0
 
--- and the patch is not discarded
+-- the same, and the patch is not discarded
 abbrev pub Drawable : List ℕ → ℕ → Bool → Patch → Type 0
 Drawable bs d ok p = Known bs d ok × (discards p ≡ false)
 
--- when each answer is right, in the order of finding, of a part that holds n points and has v and i words left, for m points and k indices
+-- when each answer is right, in the order of finding, for m points and k indices and a part that holds n points and has v and i words left
 abbrev pub ShareMeans : List ℕ → ℕ → Bool → Patch → ℕ → ℕ → ℕ → ℕ → ℕ → ShareAnswer → Type 0
 ShareMeans bs d ok p n v i m k (found drawing.BadTop) = Top (topIn bs) → ⊥
 ShareMeans bs d ok p n v i m k (found drawing.BadState) = Top (topIn bs) × (ok ≡ false)
@@ -69,7 +69,7 @@ ShareMeans bs d ok p n v i m k (found drawing.NoRoomForVertices) = Drawable bs d
 ShareMeans bs d ok p n v i m k (found drawing.NoRoomForIndices) = Drawable bs d ok p × (n + m ≤ 65535) × (3 * m ≤ v) × (i < k)
 ShareMeans bs d ok p n v i m k (found (drawing.Drawn x y)) = Drawable bs d ok p × (n + m ≤ 65535) × (3 * m ≤ v) × (k ≤ i) × (x ≡ m) × (y ≡ k)
 
--- each number with its words is answered exactly where it means: w are the words of the state at entry, c′ the counts at exit
+-- each answer is given, by number and words, exactly if it is right: w are the words of the state at entry, c′ the counts at exit
 abbrev pub DrawExactly : List ℕ → List Float → ℕ → List ℕ → ℕ → ℕ → List ℕ → ℕ → Type 0
 DrawExactly bs xs d w v i c′ r =
     AnsweredExactly (λ a. toldShare a .number) (λ a. twoWords (toldShare a .values))

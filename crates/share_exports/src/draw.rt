@@ -18,7 +18,7 @@ use share_words::words::designer_of;
 use share_words::words::keep;
 use share_words::words::state_in;
 
-// What stands against a call before its patch is looked at; the number 0 where nothing does.
+// Returns the refusal of a call that its patch does not matter for, or the number 0.
 fn objection(state: State, designer: u32, settings: &[u8; 6], v: usize, i: usize) -> Reply
     ensures { λ r. ⌜ Tells (asked (now (settings .entry)) designer (accepted v i state) done) r ⌝ }
 {
@@ -39,7 +39,7 @@ fn objection(state: State, designer: u32, settings: &[u8; 6], v: usize, i: usize
     refusal(0)
 }
 
-// A patch and settings that are known, for a designer that is.
+// Draws for a known designer, with known settings.
 fn draw_known(
     words: &mut [u64; 10],
     state: State,

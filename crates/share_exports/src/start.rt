@@ -1,4 +1,4 @@
-// Starting: both designers' quotas, or their refusal as a whole.
+// Starting: accepts the quotas of both designers, or refuses them together.
 ghost use lib.ListN.{length};
 ghost use Rattle.share_exports.specs.Calls.{StartCalled};
 use share_state::answer::StartAnswer;

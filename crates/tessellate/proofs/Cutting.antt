@@ -1,4 +1,4 @@
--- What cutting a patch tells of it, and what an operation that draws does then.
+-- What a patch's cut says about the patch, and what an operation that draws does with it.
 -- Assumes nothing.
 use Prim.Native.Nat.{ℕ, suc, _≤_, _<_}
 use mathlib.Core.Path.{_≡_, refl, sym, ap, _∙_}
@@ -104,7 +104,7 @@ module _ (set : Settings) (p : Patch) where
           let i = is-cut e in
           untouched k (f ∙ ap refused s) (told-short set p short need have count (i .top) (i .drawn) h ∙ ap refused s)
 
-      -- and else the words stand at its front
+      -- otherwise the list begins with the words
       pub draw-done : {c : Subdivision} {n : ℕ} {xs′ : List ℕ} → a ≡ Ready c → need ≤ have → n ≡ count → t ≡ drew n → xs′ ≡ over xs 0 words
           → Drew t (verdict set p short need have count) words xs xs′
       draw-done {n = n} e h m f l =

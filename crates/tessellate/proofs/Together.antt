@@ -55,7 +55,7 @@ drawn-means set p short need have count n e = go (isTop (set .top)) (discards p)
         let values : _≡_ {A = List ℕ} (n ∷ []) (count ∷ []) = ap (λ (t : Told). t .values) h in
         record { top = top-as (set .top) e; drawn = d; room = ltb-false have need r; count = cc }
 
--- the counted words stand at the list's front
+-- the list begins with the counted words
 front : {t right : Told} {words xs xs′ : List ℕ} (n k : ℕ) → Drew t right words xs xs′ → t ≡ drew n → k ≡ length words → take k xs′ ≡ words
 front {words = words} {xs = xs} n k d e h = ap (take k) (d .list ∙ rw e) ∙ over-front xs words k h
 

@@ -1,5 +1,4 @@
--- The numbers and values that the customer's table gives for each answer, and which of them applies.
--- Assumes nothing.
+-- The numbers and values that the customer's table gives for each answer, and which of them applies. Assumes nothing.
 use Prim.Native.Nat.{ℕ, _*_}
 use mathlib.Core.Bool.{cond}
 use mathlib.Core.List.{List, [], _∷_}
@@ -21,7 +20,7 @@ use Rattle.tessellate.specs.declared.answer.IndicesAnswer.the-variants a
 use Rattle.tessellate.specs.declared.answer.Size.{Size}
 use Rattle.tessellate.specs.declared.answer.Size.the-variants.{Counts, Discarded as NoCounts, BadTop as NoTop}
 
--- the table, number by number; 2 once stood for more points than an index can number, and is not used again
+-- the number and values of each answer; 2 once meant more points than an index can number, and is not used again
 abbrev pub toldPoints : PointsAnswer → Told
 toldPoints (points.Drawn n) = drew n
 toldPoints points.Discarded = refused 1
@@ -34,34 +33,34 @@ toldIndices indices.Discarded = refused 1
 toldIndices indices.NoRoomForIndices = refused 4
 toldIndices indices.BadTop = refused 11
 
--- measuring gives the counts of both with where each level lies, "discarded" or "bad top"
+-- measuring answers both counts and where each level lies, "discarded" or "bad top"
 abbrev pub toldSize : Size → Told
 toldSize (Counts p i c) = record { number = 0; values = p ∷ i ∷ clampNumbers c }
 toldSize NoCounts = refused 1
 toldSize NoTop = refused 11
 
--- the points and the indices of a patch drawn with these settings
+-- how many points and indices a patch has with these settings
 abbrev pub pointsOf : Settings → Patch → ℕ
 pointsOf set p = length (points (subdivisionOf set p))
 
 abbrev pub indicesOf : Settings → Patch → ℕ
 indicesOf set p = length (indexWords set (subdivisionOf set p))
 
--- what an operation has to say that writes `count` points or indices into `need` words of a list of `have`: first of all a bad top,
--- else the lowest number that applies, where `short` is the number for a list that is too short
+-- the answer of an operation that writes `count` points or indices as `need` words into a list of `have` words: a bad top first, then the
+-- lowest number that applies; `short` is the number for a list that is too short
 unfoldable pub verdict : Settings → Patch → ℕ → ℕ → ℕ → ℕ → Told
 verdict set p short need have count =
     cond (isTop (set .top)) (cond (discards p) (refused 1) (cond (ltb have need) (refused short) (drew count))) (refused 11)
 
--- the points, into a vertex list of v words
+-- the answer to drawing points into a vertex list of v words
 abbrev pub pointsVerdict : Settings → Patch → ℕ → Told
 pointsVerdict set p v = verdict set p 3 (3 * pointsOf set p) v (pointsOf set p)
 
--- the indices, into an index list of i words
+-- the answer to drawing indices into an index list of i words
 abbrev pub indicesVerdict : Settings → Patch → ℕ → Told
 indicesVerdict set p i = verdict set p 4 (indicesOf set p) i (indicesOf set p)
 
--- measuring: first of all a bad top; a discarded patch has neither counts nor clamps
+-- the answer to measuring: a bad top first; a discarded patch has neither counts nor clamps
 unfoldable pub measureVerdict : Settings → Patch → Told
 measureVerdict set p =
     cond (isTop (set .top))

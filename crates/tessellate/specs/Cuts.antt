@@ -1,4 +1,4 @@
--- What a patch is cut into with its settings, if anything. Assumes nothing.
+-- What a patch is cut into with its settings, or why it is not cut. Assumes nothing.
 use mathlib.Core.Bool.{cond}
 use Rattle.level.specs.Top.{isTop}
 use Rattle.patch.specs.declared.kinds.Patch.{Patch}

@@ -1,5 +1,4 @@
--- The promises of the two drawing operations: the answer, and the operation's own list at exit.
--- Assumes nothing.
+-- The contracts of the two drawing operations: the answer, and the operation's own list at exit. Assumes nothing.
 use Prim.Native.Nat.{ℕ}
 use mathlib.Core.List.{List}
 use lib.ListN.{length}
@@ -21,10 +20,10 @@ pointWords set p = vertexWords (points (subdivisionOf set p))
 abbrev pub connectionWords : Settings → Patch → List ℕ
 connectionWords set p = indexWords set (subdivisionOf set p)
 
--- drawing the points: v and v′ are the vertex list at entry and at exit
+-- the contract of drawing the points: v and v′ are the vertex list at entry and at exit
 abbrev pub DrewPoints : Settings → Patch → List ℕ → List ℕ → PointsAnswer → Type 0
 DrewPoints set p v v′ r = Drew (toldPoints r) (pointsVerdict set p (length v)) (pointWords set p) v v′
 
--- drawing the indices: i and i′ are the index list at entry and at exit
+-- the contract of drawing the indices: i and i′ are the index list at entry and at exit
 abbrev pub DrewIndices : Settings → Patch → List ℕ → List ℕ → IndicesAnswer → Type 0
 DrewIndices set p i i′ r = Drew (toldIndices r) (indicesVerdict set p (length i)) (connectionWords set p) i i′

@@ -1,7 +1,7 @@
-// What the operations answer, by name.
+// The answers of the operations.
 use level_clamps::Clamps;
 
-// So many points stand at the vertex list's front; or why nothing was written.
+// The vertex list begins with this many points; or why nothing was written.
 pub enum PointsAnswer {
     Drawn { points: u32 },
     Discarded,
@@ -9,7 +9,7 @@ pub enum PointsAnswer {
     BadTop,
 }
 
-// So many indices stand at the index list's front; or why nothing was written.
+// The index list begins with this many indices; or why nothing was written.
 pub enum IndicesAnswer {
     Drawn { indices: u32 },
     Discarded,
@@ -17,7 +17,7 @@ pub enum IndicesAnswer {
     BadTop,
 }
 
-// How many points and indices a patch has, and where each level that counts lies, if it is not discarded.
+// How many points and indices a patch has, and where each level that counts lies; or why it has no counts.
 pub enum Size {
     Counts {
         points: u32,

@@ -1,4 +1,5 @@
-// What the operations draw or measure: a patch's cut, or why there is none. A bad top is told before a discarded patch.
+// What the operations draw or measure: the segments into which a patch is cut, or why it is not cut. A bad top comes before
+// a discarded patch.
 ghost use mathlib.Core.Path.{_≡_};
 ghost use Rattle.tessellate.specs.Cuts.{cutOf};
 use patch::kinds::Patch;

@@ -1,5 +1,5 @@
-// Drawing, in two operations: the points of a patch and its indices, each at the front of its own list, or the name of what
-// stands against it. Neither knows of the other's list.
+// Drawing, in two operations: one writes the points of a patch to the front of the vertex list, one its indices to the front of the
+// index list. Each writes the whole of it or refuses, whatever the other list is.
 ghost use Rattle.tessellate.specs.Draws.{DrewPoints, DrewIndices};
 use crate::answer::IndicesAnswer;
 use crate::answer::PointsAnswer;

@@ -1,5 +1,4 @@
-// Measuring: how many points and indices drawing would write, and which levels were clamped. It writes nothing and asks for
-// no room.
+// Measuring: how many points and indices drawing would write, and which levels are clamped. It needs no lists.
 ghost use mathlib.Core.Path.{_≡_};
 ghost use Rattle.tessellate.specs.Answers.{toldSize, measureVerdict};
 use crate::answer::Size;
