@@ -1,4 +1,4 @@
--- What is promised of a header that was read and answered. Assumes nothing.
+-- The contract of reading and answering a header. Assumes nothing.
 use Prim.Native.Nat.{ℕ}
 use mathlib.Core.Path.{_≡_}
 use mathlib.Core.Bool.{cond}
@@ -16,14 +16,14 @@ use Rattle.tsj_pieces.specs.declared.header.Start.{Start}
 abbrev pub headerIn : List ℕ → Input → Header
 headerIn hs input = headerOf (take (input .count) hs)
 
--- the text that answers it: none where reading failed
+-- the text that answers it; empty if the read failed
 abbrev pub headerText : List ℕ → Input → List ℕ
 headerText hs input = cond (input .failed) [] (startText (headerIn hs input))
 
--- hs is what was lent for the header, after the call
+-- hs is the list for the header, after the call
 pub record AnsweredHeader (hs : List ℕ) (r : Start) : Type 0 where
   pub read : Filled 5 hs (r .input)
-  -- all of its text was handed to writing
+  -- all of its text was passed to a write
   pub taken : Taken (length (headerText hs (r .input))) (r .output)
-  -- nothing follows where reading or writing failed
+  -- nothing follows if the read or the write failed
   pub rest : r .rest ≡ cond (r .input .failed) Nothing (cond (r .output .failed) Nothing (restOf (headerIn hs (r .input))))

@@ -16,20 +16,20 @@ use job_text::records::put_records;
 use standard_streams::Input;
 use standard_streams::Output;
 
-// The text of some records, and how much of it was written.
+// How far the records are answered, and how much of their text was written.
 pub struct Step {
     pub progress: Progress,
     pub output: Output,
 }
 
-// What was read and written, and whether to go on.
+// What was read and written, and whether another chunk follows.
 pub struct Chunk {
     pub input: Input,
     pub output: Output,
     pub more: bool,
 }
 
-// Answers records from a place on in some bytes, as many as fit `out`.
+// Answers the records from place `at` of `bytes` on, as many as fit into `out`.
 fn answer_some(
     out: &mut [u8],
     bytes: &[u8],
@@ -47,7 +47,7 @@ fn answer_some(
     Step { progress, output }
 }
 
-// Answers every record of some bytes, or as many as are written before a write fails.
+// Answers every record of `bytes`, up to a write that fails.
 fn answer_records(
     out: &mut [u8],
     bytes: &[u8],
@@ -79,15 +79,15 @@ fn answer_records(
     }
 }
 
-// The bytes of a full chunk: 256 whole records.
+// Returns the size of a full chunk in bytes: 256 whole records.
 fn chunk_size(version: Version) -> usize
     ensures { λ r. ⌜ (r ≡ recordSize version * 256) × (r ≤ 7680) ⌝ }
 {
     record_size(version) * 256
 }
 
-// Reads a chunk to the front of `bytes` and answers it. Nothing is written where the read failed. Reading goes on after a full chunk
-// that was answered: fewer bytes are the last.
+// Reads a chunk to the front of `bytes` and answers it. If the read fails, nothing is written. Another chunk follows if this one is full and
+// was written; a chunk with fewer bytes is the last.
 pub fn answer_chunk(
     bytes: &mut [u8],
     out: &mut [u8],

@@ -1,4 +1,4 @@
-// Reading and writing: what fails is reported in a line on standard error.
+// Reads and writes; a failure is reported by a line on standard error.
 ghost use Prim.Native.Nat.{_≤_};
 ghost use lib.ListN.{length};
 ghost use Rattle.standard_streams.specs.Moved.{Filled, Taken};

@@ -1,4 +1,4 @@
-// The header of a job: read and answered.
+// Reads and answers the header of a job.
 ghost use mathlib.Core.Path.{_≡_};
 ghost use Prim.Native.Nat.{_≤_};
 ghost use lib.ListN.{length, take};
@@ -13,14 +13,14 @@ use job_text::header::rest_of;
 use standard_streams::Input;
 use standard_streams::Output;
 
-// What was read and written, and what is to be read next: nothing where one of them failed.
+// What was read and written, and what to read next: nothing if the read or the write failed.
 pub struct Start {
     pub input: Input,
     pub output: Output,
     pub rest: Rest,
 }
 
-// Reads the header to the front of `header`, and answers it from the front of `out`. Nothing is written where the read failed.
+// Reads the header to the front of `header`, and writes its answer, which is at the front of `out`. If the read fails, nothing is written.
 pub fn answer_header(header: &mut [u8], out: &mut [u8]) -> Start
     requires { ⌜ 5 ≤ length (now header) ⌝ ∗ ⌜ room ≤ length (now out) ⌝ }
     ensures { λ r. ⌜ AnsweredHeader (now (header .exit)) r ⌝ }

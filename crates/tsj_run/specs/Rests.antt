@@ -1,4 +1,4 @@
--- What is promised of the records of a job that were read and answered chunk by chunk. Assumes nothing.
+-- The contract of reading and answering the records of a job chunk by chunk. Assumes nothing.
 use Prim.Native.Nat.{ℕ, _+_, _*_, _≤_, _<_}
 use mathlib.Core.Path.{_≡_}
 use mathlib.Core.Bool.{Bool, true, false}
@@ -11,26 +11,26 @@ use Rattle.job_text.specs.Pieces.{saidAfter}
 use Rattle.tsj_run.specs.declared.records.Answered.{Answered}
 use Rattle.tsj_pieces.specs.Chunks.{chunkSize}
 
--- the bytes of a full chunk of what follows a header
+-- the size in bytes of a full chunk of what follows a header
 abbrev pub restSize : Rest → ℕ
 restSize (Records v) = chunkSize v
 restSize Nothing = 0
 
--- the pieces that are answered: full chunks, and the last one unless reading it failed
+-- the pieces that are answered: the full chunks, and the last chunk unless reading it failed
 abbrev pub pieces : Bool → List ℕ → List ℕ → List (List ℕ)
 pieces true earlier last = earlier ∷ []
 pieces false earlier last = earlier ∷ last ∷ []
 
--- where records follow, n bytes are no full chunk
+-- if records follow, n bytes are less than a full chunk
 abbrev pub NotFull : Rest → ℕ → Type 0
 NotFull (Records v) n = n < chunkSize v
 NotFull Nothing n = Unit {0}
 
--- nothing was read after the bytes that are counted
+-- the result of a run that stopped after these counts, with no read that failed
 abbrev pub stoppedAt : ℕ → ℕ → Answered
 stoppedAt read written = record { read = read; last = record { count = 0; failed = false }; output = record { count = written; failed = false } }
 
--- bs is what was lent for the records, after the call
+-- bs is the list for the records, after the call
 pub record AnsweredRest (rest : Rest) (bs : List ℕ) (r : Answered) : Type 0 where
   -- the bytes of the full chunks that were answered before the last chunk was read to the front of bs
   pub earlier : List ℕ
@@ -39,9 +39,9 @@ pub record AnsweredRest (rest : Rest) (bs : List ℕ) (r : Answered) : Type 0 wh
   pub last : Filled (restSize rest) bs (r .last)
   -- every byte is counted
   pub read : r .read ≡ length earlier + r .last .count
-  -- all text of the pieces was handed to writing, up to a write that failed
+  -- all text of the pieces was passed to writes, up to one that failed
   pub taken : Taken (length (saidAfter rest (pieces (r .last .failed) earlier (take (r .last .count) bs)))) (r .output)
-  -- nothing was read after a write that failed: all text of the full chunks before the last was taken
+  -- nothing was read after a failed write: all text of the full chunks before the last chunk was written
   pub before : length (saidAfter rest (earlier ∷ [])) ≤ r .output .count
-  -- unless something failed, reading stops only at the end of the input, or where more than 2^63 bytes were read and written
+  -- unless something failed, reading stops only at the end of the input, or after more than 2^63 bytes were read and written
   pub ended : r .last .failed ≡ false → r .output .failed ≡ false → r .read + r .output .count ≤ 9223372036854775808 → NotFull rest (r .last .count)

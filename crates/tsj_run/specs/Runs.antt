@@ -1,4 +1,4 @@
--- What is promised of a run: the text that was written is that of all bytes that were read. Assumes nothing.
+-- The contract of a run: the text that was written answers all bytes that were read. Assumes nothing.
 use Prim.Native.Nat.{ℕ, _+_}
 use mathlib.Core.Bool.{cond, _||_}
 use mathlib.Core.List.{List, [], _++_}
@@ -15,13 +15,13 @@ use Rattle.tsj_run.specs.Rests.{pieces, AnsweredRest}
 abbrev pub written : Outcome → Output
 written r = record { count = r .start .output .count + r .records .output .count; failed = r .start .output .failed || r .records .output .failed }
 
--- the bytes that are answered: the header, the full chunks, and the last one unless reading it failed
+-- the bytes that are answered: the header, the full chunks, and the last chunk unless reading it failed
 abbrev pub answered : List ℕ → List ℕ → List ℕ → Outcome → List ℕ
 answered hs earlier bs r = take (r .start .input .count) hs ++ joined (pieces (r .records .last .failed) earlier (take (r .records .last .count) bs))
 
--- hs and bs are what was lent for the header and for the records, after the call
+-- hs and bs are the lists for the header and for the records, after the call
 pub record Ran (hs bs : List ℕ) (r : Outcome) : Type 0 where
   pub header : AnsweredHeader hs (r .start)
   pub records : AnsweredRest (r .start .rest) bs (r .records)
-  -- all text of the job was handed to writing, up to a write that failed; none where the header could not be read
+  -- all text of the job was passed to writes, up to one that failed; the text is empty if the header could not be read
   pub whole : Taken (length (cond (r .start .input .failed) [] (jobText (answered hs (records .earlier) bs r)))) (written r)

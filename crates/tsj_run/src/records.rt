@@ -10,17 +10,17 @@ use standard_streams::Input;
 use standard_streams::Output;
 use tsj_pieces::chunk::answer_chunk;
 
-// A proved loop has to end, and nothing says that the input does: no chunk is read after so many bytes were read or written.
+// A proved loop has to end, and the input need not: after more than this many bytes were read or written, no further chunk is read.
 const MOST: usize = 9223372036854775808;
 
-// How many bytes were read in all, what was read last, and how much text was written.
+// How many bytes were read in all, the last read, and how much text was written.
 pub struct Answered {
     pub read: usize,
     pub last: Input,
     pub output: Output,
 }
 
-// Nothing was read after the bytes that are counted.
+// The result of a run that stopped after these counts, with no read that failed.
 fn stopped(read: usize, written: usize) -> Answered
     ensures { λ r. ⌜ r ≡ stoppedAt read written ⌝ }
 {

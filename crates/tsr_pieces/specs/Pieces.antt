@@ -1,4 +1,4 @@
--- What is promised of a piece of a recording that was read and replayed. Assumes nothing.
+-- The contract of reading and replaying a piece of a recording. Assumes nothing.
 use Prim.Native.Nat.{ℕ}
 use mathlib.Core.Path.{_≡_}
 use mathlib.Core.Bool.{_&&_}
@@ -12,18 +12,18 @@ use Rattle.replay.specs.Pieces.{isOpen}
 use Rattle.tsr_pieces.specs.declared.piece.Start.{Start}
 use Rattle.tsr_pieces.specs.declared.piece.Chunk.{Chunk}
 
--- hs is what was lent for the header, after the call
+-- hs is the list for the header, after the call
 pub record ReplayedHeader (hs : List ℕ) (r : Start) : Type 0 where
   pub read : Filled 5 hs (r .input)
   pub is : r .«so_far» ≡ startOf (take (r .input .count) hs)
 
--- the bytes of a full chunk: 256 entries
+-- the size of a full chunk in bytes: 256 entries
 abbrev pub chunkSize : ℕ
 chunkSize = 8704
 
--- bs is what was lent for the entries, after the call
+-- bs is the list for the entries, after the call
 pub record ReplayedChunk (before : Replay) (bs : List ℕ) (r : Chunk) : Type 0 where
   pub read : Filled chunkSize bs (r .input)
   pub is : r .«so_far» ≡ goOn before (take (r .input .count) bs)
-  -- reading goes on exactly where the chunk is full and another can change what is said
+  -- another chunk follows exactly if this one is full and a further piece can change the answer
   pub more : r .more ≡ (eqb (r .input .count) chunkSize && isOpen (r .«so_far»))

@@ -11,23 +11,23 @@ use replay::recording::read_start;
 use standard_streams::Input;
 use standard_streams::read_front;
 
-// The bytes of a full chunk: 256 entries.
+// The size of a full chunk in bytes: 256 entries.
 const CHUNK: usize = 8704;
 
-// What was read, and what is said after it.
+// What was read, and the answer so far.
 pub struct Start {
     pub input: Input,
     pub so_far: Replay,
 }
 
-// What was read, what is said after it, and whether to go on.
+// What was read, the answer so far, and whether another chunk follows.
 pub struct Chunk {
     pub input: Input,
     pub so_far: Replay,
     pub more: bool,
 }
 
-// Another piece can change what is said.
+// Whether another piece can change the answer.
 pub fn is_open(so_far: Replay) -> bool
     ensures { λ r. ⌜ r ≡ isOpen «so_far» ⌝ }
 {
@@ -44,7 +44,7 @@ pub fn is_open(so_far: Replay) -> bool
     }
 }
 
-// Reads the header to `header`.
+// Reads the header to `header`; returns the answer after it.
 pub fn replay_header(header: &mut [u8]) -> Start
     requires { ⌜ length (now header) ≡ 5 ⌝ }
     ensures { λ r. ⌜ ReplayedHeader (now (header .exit)) r ⌝ }
@@ -55,7 +55,8 @@ pub fn replay_header(header: &mut [u8]) -> Start
     Start { input, so_far }
 }
 
-// Reads a chunk to `bytes` and replays it. Reading goes on after a full chunk whose entries agree: fewer bytes are the last.
+// Reads a chunk to `bytes` and replays it. Another chunk follows if this one is full and its entries agree; a chunk with fewer bytes is
+// the last.
 pub fn replay_chunk(
     bytes: &mut [u8],
     so_far: Replay,

@@ -1,4 +1,4 @@
--- What is promised of the entries of a recording that were read and replayed chunk by chunk. Assumes nothing.
+-- The contract of reading and replaying the entries of a recording chunk by chunk. Assumes nothing.
 use Prim.Native.Nat.{ℕ, _+_, _*_, _≤_, _<_}
 use mathlib.Core.Path.{_≡_}
 use mathlib.Core.Bool.{true, false}
@@ -10,11 +10,11 @@ use Rattle.replay.specs.Pieces.{said, isOpen}
 use Rattle.tsr_run.specs.declared.rest.Replayed.{Replayed}
 use Rattle.tsr_pieces.specs.Pieces.{chunkSize}
 
--- nothing was read after the bytes that are counted
+-- the result of a run that stopped after these bytes, with no read that failed
 abbrev pub stoppedAt : ℕ → Replay → Replayed
 stoppedAt read answer = record { read = read; last = record { count = 0; failed = false }; answer = answer }
 
--- bs is what was lent for the entries, after the call; start is what is said of the header
+-- bs is the list for the entries, after the call; start is the answer after the header
 pub record ReplayedChunks (start : Replay) (bs : List ℕ) (r : Replayed) : Type 0 where
   -- the bytes of the full chunks that were replayed before the last chunk was read to the front of bs
   pub earlier : List ℕ
@@ -27,7 +27,7 @@ pub record ReplayedChunks (start : Replay) (bs : List ℕ) (r : Replayed) : Type
   -- unless a read failed or the answer is settled, reading stops only at the end of the input, or after more than 2^63 bytes
   pub ended : r .last .failed ≡ false → isOpen (r .answer) ≡ true → r .read ≤ 9223372036854775808 → r .last .count < chunkSize
 
--- the same, and nothing was read where the header settles the answer
+-- the same, and nothing was read if the header settles the answer
 pub record ReplayedRest (start : Replay) (bs : List ℕ) (r : Replayed) : Type 0 where
   pub chunked : ReplayedChunks start bs r
   pub none : isOpen start ≡ false → r .read ≡ 0

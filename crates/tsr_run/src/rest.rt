@@ -9,18 +9,18 @@ use standard_streams::Input;
 use tsr_pieces::piece::is_open;
 use tsr_pieces::piece::replay_chunk;
 
-// A proved loop has to end, and nothing says that the input does: no chunk is read after so many bytes. All their entries can be
-// counted.
+// A proved loop has to end, and the input need not: after more than this many bytes no further chunk is read. The entries of so many bytes
+// can still be counted.
 const MOST: usize = 9223372036854775808;
 
-// How many bytes were read in all, what was read last, and what is said after it.
+// How many bytes were read in all, the last read, and the answer.
 pub struct Replayed {
     pub read: usize,
     pub last: Input,
     pub answer: Replay,
 }
 
-// Nothing was read after the bytes that are counted.
+// The result of a run that stopped after these bytes, with no read that failed.
 fn stopped(read: usize, answer: Replay) -> Replayed
     ensures { λ r. ⌜ r ≡ stoppedAt read answer ⌝ }
 {
@@ -60,7 +60,7 @@ fn replay_chunks(
     stopped(read, so_far)
 }
 
-// Reads and replays what follows a header: nothing where the header is refused.
+// Reads and replays what follows a header: nothing if the header is refused.
 pub(crate) fn replay_rest(
     bytes: &mut [u8],
     start: Replay,

@@ -1,5 +1,5 @@
-// From standard input to standard output, chunk by chunk. A read that fails is no end of the recording: nothing is said after it, and
-// it and a write that fails are reported on standard error.
+// From standard input to standard output, chunk by chunk. A failed read is not the end of the recording: no answer is written then. A failed
+// read and a failed write are reported on standard error.
 ghost use mathlib.Core.Bool.{cond};
 ghost use mathlib.Core.List.{[]};
 ghost use lib.ListN.{length};
@@ -13,8 +13,7 @@ use standard_streams::Output;
 use tsr_line::sentence::put_replay;
 use tsr_pieces::piece::replay_header;
 
-// What was read of the header, how many bytes were read after it, what was read last, what is said of them, and how much of the line
-// was written.
+// The read of the header, how many bytes were read after it, the last read, the answer, and how much of its line was written.
 pub struct Outcome {
     pub header: Input,
     pub read: usize,
@@ -23,7 +22,7 @@ pub struct Outcome {
     pub output: Output,
 }
 
-// Writes the line of what is said.
+// Writes the line of the answer.
 fn write_line(answer: Replay) -> Output
     ensures { λ r. ⌜ Taken (length (replayLine answer)) r ⌝ }
 {
@@ -49,8 +48,8 @@ fn say(failed: bool, answer: Replay) -> Output
     write_line(answer)
 }
 
-// Replays the recording on standard input. The header is read to `header` and the entries, up to 256 at a time, to the front of
-// `bytes`; patches are drawn into the two lists.
+// Replays the recording on standard input. It reads the header to `header` and the entries, up to 256 at a time, to the front of `bytes`, and
+// draws patches into the two lists.
 pub fn run(
     header: &mut [u8; 5],
     bytes: &mut [u8; 8704],
