@@ -1,4 +1,4 @@
--- The chapter of one drawn patch: its vertices ps and its index words ws.
+-- What the chapter requires of one drawn patch, with the vertices ps and the index words ws.
 -- Assumes nothing.
 use Prim.Native.Nat.{ℕ, _<_}
 use mathlib.Core.Path.{_≡_}
@@ -47,7 +47,7 @@ module _ (rule : EdgeRule) (set : Settings) where
   abbrev pub innerEdge : Float → Run
   innerEdge x = rule .inner (set .spacing) (set .top) x
 
-  -- the number of isolines has equal spacing whatever is asked
+  -- the number of isolines has equal spacing, whatever spacing is asked for
   abbrev pub lineEdge : Float → Run
   lineEdge x = rule .edge Equal (set .top) x
 
@@ -75,17 +75,17 @@ module _ (rule : EdgeRule) (set : Settings) where
       QuadFaces (n .side) (n .grid) (edgeNumber (Quads a b c d i j)) (outerEdge i) (outerEdge j) (innerEdge i) (innerEdge j) (readTriangles ws)
   PrimitivesOf n (Isolines a b) ws = LineSegments (n .line) (lineEdge a .c) (outerEdge b .c) ws
 
--- the chapter, where `rule` is how this tessellator subdivides edges
+-- what the chapter requires, where `rule` is how this tessellator subdivides edges
 pub record Chapter (rule : EdgeRule) (set : Settings) (p : Patch) (ps : List Point) (ws : List ℕ) : Type 0 where
   -- 23.1: coordinates lie from 0 to 1, and u + v + w is 1 on triangles; every index is the number of a vertex
   pub domain : (v : Point) → Member v ps → InPatch (domainOf p) v
   pub numbered : (k : ℕ) → k < length ws → getD ws k 0 < length ps
   -- 23.2: the patch is not discarded
   pub discard : PatchDiscarded p → ⊥
-  -- 23.3: how levels divide edges; and the vertices that lie on outer edge k are those of its own level, no inner one among them
+  -- 23.3: how levels divide edges; and the vertices on outer edge k are those that its own level gives, with no inner vertex among them
   pub spacing : Subdivides rule
   pub outer-edges : Surface p → (k : ℕ) → k < length (outers p) → places (edges p k) ps ≡ along (edgeNumber rule set p k)
-  -- 23.5: every triangle turns the way asked
+  -- 23.5: every triangle turns the way asked for
   pub winding : Surface p → set .«point_mode» ≡ false → (f : Face) → Member f (facesIn ps ws) → Ordered (set .order) (set .origin) (windingArea f)
   -- 23.6, 23.7 and 23.8: triangles, quads and isolines
   pub numbering : Numbering

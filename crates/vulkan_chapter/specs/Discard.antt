@@ -25,8 +25,8 @@ pub record PatchDiscarded (p : Patch) : Type 0 where
   pub relevant : Member level (outers p)
   pub discarding : Discarding level
 
--- an operation that was to draw p answered t, and its list xs became xs′: it answered 1, "discarded", exactly where the chapter discards the
--- patch, and then it wrote nothing
+-- an operation that was asked to draw p answered t, and its list xs became xs′: it answered 1, "discarded", exactly if the chapter discards
+-- the patch, and then it wrote nothing
 pub record DiscardedExactly (p : Patch) (t : Told) (xs xs′ : List ℕ) : Type 0 where
   pub exactly : (t ≡ refused 1) ↔ PatchDiscarded p
   pub untouched : t ≡ refused 1 → xs′ ≡ xs

@@ -21,7 +21,7 @@ pub record OnLine (m : ℕ) (line : ℕ → NumberedLine) (v : ℕ) : Type 0 whe
   pub along : i ≤ line r .segments
   pub is : line r .vertex i ≡ v
 
--- the vertices ps: `lines` divides the edge u = 0, and at each of its places but the last one, v = 1, lies an isoline, divided as `along`
+-- the vertices ps: `lines` divides the edge u = 0, and at each of its places except the last, v = 1, lies an isoline, divided as `along`
 pub record LineVertices (line : ℕ → NumberedLine) (lines along : Run) (ps : List Point) : Type 0 where
   pub segments : (r : ℕ) → r < lines .c → line r .segments ≡ along .c
   pub height : (r i : ℕ) → r < lines .c → i ≤ along .c → at ps (line r .vertex i) .v ≡ lines .q r

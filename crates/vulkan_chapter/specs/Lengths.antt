@@ -9,7 +9,7 @@ use mathlib.Core.Path.{_≡_}
 abbrev pub segment : (ℕ → ℕ) → ℕ → ℕ
 segment q i = q (suc i) - q i
 
--- the units by which two of n equal segments may differ: 1 where n is even, 2 where it is odd. No smaller number will do
+-- the most units by which two of n equal segments differ: 1 if n is even, 2 if it is odd. Both bounds are reached
 abbrev pub off : ℕ → ℕ
 off n = 1 + n % 2
 
@@ -28,14 +28,14 @@ AllEqual n q = (i j : ℕ) → i < n → j < n → segment q i ≤ segment q j +
 abbrev pub Inner : ℕ → ℕ → Type 0
 Inner n i = (0 < i) × (suc i < n)
 
--- n - 2 segments of one length, and two additional ones, exactly alike, that are not longer
+-- n - 2 segments of one length, and two additional segments, exactly equal to each other, that are not longer
 pub record Additional (n : ℕ) (q : ℕ → ℕ) : Type 0 where
   pub rest-equal : (i j : ℕ) → Inner n i → Inner n j → segment q i ≤ segment q j + off n
   pub two-equal : segment q 0 ≡ segment q (n - 1)
   pub two-shorter : (i : ℕ) → Inner n i → segment q 0 ≤ segment q i + off n
 
--- two edges with n segments each, the one with the places q of the smaller level: its additional segments are not longer, exactly, and its
--- other segments not shorter. So the additional segments shrink against the others as n - f grows
+-- two edges with n segments each, where q are the places for the smaller level: there the additional segments are not longer, exactly, and
+-- the other segments not shorter. So the additional segments shrink against the others as n - f grows
 pub record Decreases (n : ℕ) (q q′ : ℕ → ℕ) : Type 0 where
   pub two-shrink : segment q 0 ≤ segment q′ 0
   pub rest-grow : (i j : ℕ) → Inner n i → Inner n j → segment q′ j ≤ segment q i + off n

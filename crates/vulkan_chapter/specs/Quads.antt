@@ -1,4 +1,4 @@
--- 23.7, Quad Tessellation: the grid of rectangles, and what lies between it and the outer edges.
+-- 23.7, Quad Tessellation: the grid of rectangles, and the triangles between it and the outer edges.
 -- A coordinate 1 is 65536 units here.
 -- Assumes nothing.
 use Prim.Native.Nat.{ℕ, zero, suc, _+_, _-_, _≤_, _<_}
@@ -28,29 +28,29 @@ pub data OnEdgeOrGrid (m n : ℕ) (side : ℕ → NumberedLine) (grid : ℕ → 
   on-edge : (k i : ℕ) → k < 4 → i ≤ side k .segments → side k .vertex i ≡ v → OnEdgeOrGrid m n side grid v
   on-grid : (r c : ℕ) → 1 ≤ r → r < m → 1 ≤ c → c < n → grid r c ≡ v → OnEdgeOrGrid m n side grid v
 
--- every level gives one segment, each inner level by itself too
+-- every level gives one segment, also each inner level before it is raised
 abbrev pub AllOne4 : (ℕ → Run) → Run → Run → Type 0
 AllOne4 e own0 own1 = ((k : ℕ) → k < 4 → e k .c ≡ 1) × (own0 .c ≡ 1) × (own1 .c ≡ 1)
 
--- the vertices ps of a patch with the outer edges e 0 to e 3; the inner levels by themselves give own0 and own1, and are taken as `rows`
--- and `columns`
+-- the vertices ps of a patch with the outer edges e 0 to e 3; the inner levels give own0 and own1 before they are raised, and `rows` and
+-- `columns` after that
 pub record QuadVertices (side : ℕ → NumberedLine) (grid : ℕ → ℕ → ℕ) (e : ℕ → Run) (own0 own1 rows columns : Run) (ps : List Point) : Type 0 where
   -- the outer edges are divided by their own levels
   pub outer-segments : (k : ℕ) → k < 4 → side k .segments ≡ e k .c
   pub outer : (k i : ℕ) → k < 4 → i ≤ e k .c → OnEdge square k (e k .q i) (at ps (side k .vertex i))
-  -- where every level gives one segment there are the four corners alone
+  -- if every level gives one segment, the four corners are all vertices
   pub single : AllOne4 e own0 own1 → length ps ≡ 4
-  -- else the grid within, and no other vertex
+  -- else there is the inner grid too, and no other vertex
   pub lines : (AllOne4 e own0 own1 → ⊥) → OnLines (rows .c) (columns .c) (rows .q) (columns .q) grid (at ps)
   pub no-other : (AllOne4 e own0 own1 → ⊥) → (v : ℕ) → v < length ps → OnEdgeOrGrid (rows .c) (columns .c) side grid v
 
--- ---- what lies between them
+-- ---- the triangles between them
 -- a diagonal cuts the rectangle with the corners x, y, z and w, in turn, into the triangles s and t. The chapter leaves open which diagonal
 pub data Halves (x y z w : ℕ) (s t : Triangle) : Type 0 where
   along-xz : SameCorners s (record { a = x; b = y; c = z }) → SameCorners t (record { a = x; b = z; c = w }) → Halves x y z w s t
   along-yw : SameCorners s (record { a = x; b = y; c = w }) → SameCorners t (record { a = y; b = z; c = w }) → Halves x y z w s t
 
--- the same of the rectangle between the lines r and r + 1 and the lines c and c + 1
+-- the same for the rectangle between the lines r and r + 1 and the lines c and c + 1
 abbrev pub HalvesCell : (ℕ → ℕ → ℕ) → ℕ → ℕ → Triangle → Triangle → Type 0
 HalvesCell grid r c = Halves (grid r c) (grid r (c + 1)) (grid (r + 1) (c + 1)) (grid (r + 1) c)
 
@@ -61,7 +61,7 @@ pub record InnerRectangle (m n r c : ℕ) : Type 0 where
   pub first-column : 1 ≤ c
   pub last-column : c + 1 < n
 
--- the edge of the inner rectangle that faces edge k, in the same direction; a single vertex where m or n is two
+-- the edge of the inner rectangle that faces edge k, in the same direction; a single vertex if m or n is two
 abbrev pub innerSide : (ℕ → ℕ → ℕ) → ℕ → ℕ → ℕ → NumberedLine
 innerSide grid m n zero = record { segments = m - 2; vertex = λ i. grid (m - 1 - i) 1 }
 innerSide grid m n (suc zero) = record { segments = n - 2; vertex = λ i. grid 1 (1 + i) }
@@ -91,10 +91,10 @@ pub record OnlyPair (side : ℕ → NumberedLine) (ts : List Triangle) : Type 0 
 
 -- the triangles of that patch
 pub record QuadFaces (side : ℕ → NumberedLine) (grid : ℕ → ℕ → ℕ) (e : ℕ → Run) (own0 own1 rows columns : Run) (ts : List Triangle) : Type 0 where
-  -- where every level gives one segment: one pair that halves the patch
+  -- if every level gives one segment: one pair that halves the patch
   pub single : AllOne4 e own0 own1 → OnlyPair side ts
   -- else each rectangle that touches no outer edge is halved by two triangles
   pub pairs : (AllOne4 e own0 own1 → ⊥) → (r c : ℕ) → InnerRectangle (rows .c) (columns .c) r c → PairDrawn grid r c ts
-  -- every other triangle lies between an outer edge and the inner rectangle, and the whole room there is filled
+  -- every other triangle lies between an outer edge and the inner rectangle, and these triangles fill all of that area
   pub each : (AllOne4 e own0 own1 → ⊥) → (t : Triangle) → Member t ts → InGrid (rows .c) (columns .c) side grid t
   pub filled : (AllOne4 e own0 own1 → ⊥) → (k : ℕ) → k < 4 → Filled (side k) (innerSide grid (rows .c) (columns .c) k) ts

@@ -27,7 +27,7 @@ highEnd Equal t = t
 highEnd FractionalEven t = t
 highEnd FractionalOdd t = t - 1
 
--- f is the level x clamped to that range. An inner level that is a NaN compares with nothing; the chapter leaves it open
+-- f is the level x clamped to that range. A NaN fails every comparison; the chapter leaves open what an inner NaN gives
 pub record Clamped (s : Spacing) (t : ℕ) (x f : Float) : Type 0 where
   pub low : Float
   pub high : Float
@@ -52,7 +52,7 @@ pub record RoundedUp (s : Spacing) (f : Float) (n : ℕ) : Type 0 where
 -- fractional spacing; L is the level's 65536 f
 pub record Fractional (n L : ℕ) (q : ℕ → ℕ) : Type 0 where
   pub additional : Additional n q
-  -- where n - f is 0 all segments are equal
+  -- if n - f is 0, all segments are equal
   pub equal : L ≡ 65536 * n → AllEqual n q
   pub vanishes : 1 < n → Vanishes n L q
 
@@ -61,15 +61,15 @@ LengthsOf Equal n L q = AllEqual n q
 LengthsOf FractionalEven n L q = Fractional n L q
 LengthsOf FractionalOdd n L q = Fractional n L q
 
--- an edge with e .c segments and its vertices at the places e .q 0, e .q 1, .., as the spacing and the clamped level f ask
+-- an edge with e .c segments and its vertices at the places e .q 0, e .q 1, .., as the spacing and the clamped level f require
 pub record Spaced (s : Spacing) (f : Float) (e : Run) : Type 0 where
   pub rounded : RoundedUp s f (e .c)
   pub divided : Divided (e .c) (e .q)
   pub lengths : (L : ℕ) → LeastParts f L → LengthsOf s (e .c) L (e .q)
 
--- ---- a whole way of subdividing edges
--- what a tessellator does with a level, by spacing, maximum level and level: the clamped level, the edge that an outer level gives, and the
--- edge that an inner level is taken to give
+-- ---- how a tessellator subdivides edges
+-- what a tessellator makes of a spacing, a maximum level and a level: the clamped level, the edge that it gives as an outer level, and the
+-- edge that it gives as an inner level
 pub record EdgeRule : Type 0 where
   pub clamp : Spacing → ℕ → Float → Float
   pub edge : Spacing → ℕ → Float → Run
@@ -80,17 +80,17 @@ abbrev pub onePlus : Float
 onePlus = fin false 65537 (negsuc 15)
 
 pub record Subdivides (rule : EdgeRule) : Type 0 where
-  -- every level is clamped, then rounded up, and its edge divided as its spacing asks
+  -- every level is clamped, then rounded up, and its edge is divided as its spacing requires
   pub clamped : (s : Spacing) (t : ℕ) (x : Float) → Top t → Clamped s t x (rule .clamp s t x)
   pub spaced : (s : Spacing) (t : ℕ) (x : Float) → Top t → Spaced s (rule .clamp s t x) (rule .edge s t x)
   -- edges with the same clamped level are the same, even under another maximum level
   pub identical : (s : Spacing) (t t′ : ℕ) (x y : Float) → rule .clamp s t x ≡ rule .clamp s t′ y → rule .edge s t x ≡ rule .edge s t′ y
-  -- of two levels with as many segments, the smaller one has the shorter additional segments
+  -- of two levels with the same number of segments, the smaller level has the shorter additional segments
   pub decreases : (s : Spacing) (t : ℕ) (x y : Float) → Top t → rule .edge s t x .c ≡ rule .edge s t y .c
       → T (le (rule .clamp s t x) (rule .clamp s t y)) → Decreases (rule .edge s t x .c) (rule .edge s t x .q) (rule .edge s t y .q)
-  -- where n - f is 0 the edge is, to the unit, the one of equal spacing with as many segments
+  -- if n - f is 0, the edge is exactly the edge of equal spacing with the same number of segments
   pub whole-level : (s : Spacing) (t : ℕ) (x y : Float) → Top t → HasValue (rule .clamp s t x) false (rule .edge s t x .c) 1
       → rule .edge s t x .c ≡ rule .edge Equal t y .c → rule .edge s t x ≡ rule .edge Equal t y
-  -- 23.6 and 23.7: an inner level that gives one segment is taken as a little more than 1, any other as it is
+  -- 23.6 and 23.7: an inner level that gives one segment is raised to a little more than 1, any other stays as it is
   pub inner-one : (s : Spacing) (t : ℕ) (x : Float) → Top t → rule .edge s t x .c ≡ 1 → Spaced s onePlus (rule .inner s t x)
   pub inner-more : (s : Spacing) (t : ℕ) (x : Float) → Top t → (rule .edge s t x .c ≡ 1 → ⊥) → rule .inner s t x ≡ rule .edge s t x

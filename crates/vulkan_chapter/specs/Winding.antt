@@ -21,7 +21,7 @@ Positive a = HasSign true a
 abbrev pub Negative : ℤ → Type 0
 Negative a = HasSign false a
 
--- the sign of a that the vertex order asks, by the domain's origin
+-- the sign of a that the vertex order asks for, given the domain origin
 abbrev pub Ordered : VertexOrder → DomainOrigin → ℤ → Type 0
 Ordered CounterClockwise UpperLeft a = Negative a
 Ordered Clockwise UpperLeft a = Positive a

@@ -1,1 +1,2 @@
-// The Vulkan specification's chapter on tessellation as definitions, and that all that is drawn meets it: nothing to run.
+// The Vulkan specification's chapter on tessellation as definitions, and that every drawn patch meets it. Definitions and theorems, with no
+// code to run.
