@@ -35,7 +35,7 @@ pub cond-most : (b : Bool) → cond b 1 0 ≤ 1
 cond-most true = omega arith
 cond-most false = omega arith
 
--- ---- counting: c have passed below k, and n are looked at
+-- ---- counting: c of the numbers below k have passed, and n numbers are tested
 pub record Tally (t : ℕ → Bool) (k n c : ℕ) : Type 0 where
   pub within : k ≤ n
   pub small : c ≤ k
@@ -118,7 +118,7 @@ pub passing-none : (t : ℕ → Bool) (n : ℕ) → Below t n → passing t n �
 unfolding passing
 passing-none t n h = flat-none t 0 n (λ j l. let e : 0 + j ≡ j = omega arith in rw e (h j l))
 
--- an entry that is the same as itself is no difference
+-- an entry that is the same as itself is not a difference
 pub itself-none : {A : Type 0} (same : A → A → Bool) (xs : Row A) → ((x : A) → same x x ≡ true) → lacking same xs xs ≡ []
 itself-none same xs h =
     passing-none (lacks same xs xs) (xs .count) (λ k l. lacks-found same xs xs k (some-here (λ i. same (xs .entry i) (xs .entry k)) (xs .count) k l (h (xs .entry k))))

@@ -1,5 +1,4 @@
--- Lists that agree word by word.
--- Assumes nothing.
+-- Lists that agree word by word. Assumes nothing.
 use Prim.Native.Nat.{ℕ, _+_, _≤_, _<_}
 use mathlib.Core.Path.{_≡_, refl, sym}
 use mathlib.Core.Bool.{Bool, true, false, _&&_, true≢false}

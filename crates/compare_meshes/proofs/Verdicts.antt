@@ -1,5 +1,4 @@
--- Each way out of a comparison is the verdict.
--- Assumes nothing.
+-- Each return of a comparison is the right answer. Assumes nothing.
 use Prim.Native.Nat.{ℕ, _*_, _/_, _%_, _≤_, _<_}
 use mathlib.Core.Path.{_≡_, refl, sym, _∙_}
 use mathlib.Core.Bool.{Bool, true, false, cond, _&&_}

@@ -1,5 +1,4 @@
--- How partners and flags are kept, and what follows from them.
--- Assumes nothing.
+-- How partners and flags are updated, and what follows from them. Assumes nothing.
 use Prim.Native.Nat.{ℕ, zero, suc, _+_, _/_, _≤_, _<_}
 use mathlib.Core.Path.{_≡_, refl, sym, ap, _∙_}
 use mathlib.Core.Bool.{Bool, true, false, cond, not, _&&_, true≢false}

@@ -1,4 +1,4 @@
--- The promise of a call, for settings that are refused and for those that are known. Assumes nothing.
+-- The contract of a call, for refused and for known settings. Assumes nothing.
 use Prim.Native.Nat.{ℕ, suc}
 use mathlib.Core.Path.{_≡_, sym, ap, _∙_}
 use mathlib.Core.List.{List, [], _∷_}
@@ -44,7 +44,7 @@ module _ (bs : List ℕ) (xs : List Float) {a : Asked} (is : a ≡ askedIn bs xs
       }
 
   -- ---- drawing, points or indices
-  -- a refusal leaves the list as it was, whatever the operation has to say
+  -- a refusal leaves the list as it was, whatever the operation's answer would be
   pub draw-refused : (right : Told) {words l c′ : List ℕ} {r : ℕ} {reply : Reply} → a ≡ Refused reply → (r ≡ reply .number) × (c′ ≡ reply .first ∷ [])
       → Called (known bs badTop unknownSetting right) words l l c′ r
   draw-refused right {r = r} e s =
@@ -53,7 +53,7 @@ module _ (bs : List ℕ) (xs : List Float) {a : Asked} (is : a ≡ askedIn bs xs
       let z : r ≡ suc (i .less) = said .number ∙ i .number in
       record { says = says-as (i .answer right) said; list = rw z }
 
-  -- known settings: what the operation has to say, and which words it draws, of settings and a patch
+  -- known settings: the operation's answer, and the words that it draws, for these settings and this patch
   draw-known : (right : Settings → Patch → Told) (words : Settings → Patch → List ℕ) {l l′ c′ : List ℕ} {r : ℕ} {set : Settings} {p : Patch} → a ≡ Known set p
       → Called (right set p) (words set p) l l′ c′ r
       → Called (known bs badTop unknownSetting (right (settingsIn bs) (patchIn bs xs))) (words (settingsIn bs) (patchIn bs xs)) l l′ c′ r

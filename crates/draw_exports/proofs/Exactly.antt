@@ -1,4 +1,4 @@
--- A call that measures or draws answers each number exactly where it means. Assumes nothing.
+-- A call that measures or draws gives each number exactly if it is right. Assumes nothing.
 use Prim.Native.Nat.{ℕ, _*_, _≤_, _<_}
 use mathlib.Core.Path.{_≡_, refl, sym, ap, subst, _∙_}
 use mathlib.Core.Bool.{Bool, true, false, cond}

@@ -1,5 +1,5 @@
--- Demand 3 of what the two drawing calls leave behind for the same settings and levels, read off the lists by the counts, and that no
--- spot is cut twice; and equal indices for patches alike. Assumes nothing.
+-- What the two drawing calls leave for the same settings and levels, read from the lists by the counts: demand 3 holds, exactly one
+-- triangle holds each spot, and patches that are alike have equal indices. Assumes nothing.
 use Prim.Native.Nat.{ℕ, _+_, _*_}
 use mathlib.Core.Path.{_≡_, refl, sym, ap, _∙_}
 use mathlib.Core.Bool.{Bool, true, false, cond}

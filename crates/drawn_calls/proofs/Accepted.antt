@@ -1,5 +1,4 @@
--- What the calls drew as triangles is answered with 0 by the call that checks, and so are two empty lists where they answered "discarded".
--- Assumes nothing.
+-- The call that checks a mesh accepts what the calls drew as triangles, and two empty lists if they answered "discarded". Assumes nothing.
 use Prim.Native.Nat.{ℕ}
 use mathlib.Core.Path.{_≡_, refl}
 use mathlib.Core.Bool.{false}

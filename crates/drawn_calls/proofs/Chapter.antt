@@ -1,4 +1,4 @@
--- What calls from C drew meets the Vulkan chapter, whichever calls they were; and the two drawing calls answer "discarded" exactly where the
+-- What calls from C drew meets the Vulkan chapter, whichever calls they were; and the two drawing calls answer "discarded" exactly if the
 -- chapter discards the patch. Assumes nothing.
 use Prim.Native.Nat.{ℕ, _*_}
 use mathlib.Core.Path.{_≡_, refl, sym, ap, _∙_}

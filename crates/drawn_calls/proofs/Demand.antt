@@ -1,5 +1,5 @@
--- What is promised of all calls from C that draw, whichever they are: the third demand, the seam between any two, each spot held once, and
--- equal indices for patches alike. Assumes nothing.
+-- What holds for everything that calls from C draw, whichever calls they are: the third demand, the seam between any two patches, exactly
+-- one triangle for each spot, and equal indices for patches that are alike. Assumes nothing.
 use Prim.Native.Nat.{ℕ}
 use mathlib.Core.Path.{_≡_, sym, _∙_}
 use mathlib.Core.List.{List}

@@ -1,4 +1,4 @@
--- Whichever call drew them, the words are those of the patch: the one law that everything said of drawn calls uses. Assumes nothing.
+-- Whichever call drew them, the words are those of the patch: the law that all theorems on drawn calls use. Assumes nothing.
 use Prim.Native.Nat.{ℕ, _*_}
 use mathlib.Core.Path.{_≡_, refl, ap, _∙_}
 use mathlib.Core.Bool.{false}

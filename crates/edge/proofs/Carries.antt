@@ -1,4 +1,4 @@
--- The carried quotient is the one that the position rule divides for. Assumes nothing.
+-- The carried quotient is the quotient in the rule for positions. Assumes nothing.
 use Prim.Native.Nat.{ℕ, _*_, _/_, _≤_, min}
 use mathlib.Core.Path.{_≡_}
 use native.Mathlib.Nat.{div-eq-of-lt-le, add-mul, mul-le-mul-left}

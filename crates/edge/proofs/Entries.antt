@@ -1,4 +1,4 @@
--- What a row has at an index: the position of a point, and 0 past the last one. Assumes nothing.
+-- The entries of a row: the position of a point, and 0 after the last point. Assumes nothing.
 use mathlib.Core.Path.{_≡_, _∙_}
 use Prim.Native.Nat.{ℕ, _≤_, _<_}
 use native.Mathlib.Omega.{arith}

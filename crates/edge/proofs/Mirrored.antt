@@ -1,4 +1,4 @@
--- An edge looks the same from both ends: points i and n - i lie as far from them. Assumes nothing.
+-- An edge is the same from both ends: point i is as far from one end as point n - i from the other. Assumes nothing.
 use mathlib.Core.Path.{_≡_}
 use Prim.Native.Nat.{ℕ, _+_, _-_, _≤_}
 use native.Mathlib.Decide.{decLe}

@@ -1,4 +1,4 @@
--- Each point between the ends of an edge lies less than one unit from its true place. Assumes nothing.
+-- Each point between the ends of an edge lies less than one unit from its exact place. Assumes nothing.
 use mathlib.Core.Path.{_≡_, sym, ap, _∙_}
 use Prim.Native.Nat.{ℕ, _+_, _*_, _-_, _<_}
 use native.Mathlib.Decide.{decLe}

@@ -23,7 +23,7 @@ startsWith [] bs = true
 startsWith (m ∷ ms) [] = false
 startsWith (m ∷ ms) (b ∷ bs) = eqb b m && startsWith ms bs
 
--- the file has under 5 bytes, or does not begin with the mark ms
+-- the file has fewer than 5 bytes, or does not begin with the mark ms
 abbrev pub lacksMark : List ℕ → List ℕ → Bool
 lacksMark ms bs = ltb (length bs) 5 || not (startsWith ms bs)
 

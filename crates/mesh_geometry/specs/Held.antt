@@ -22,7 +22,7 @@ abbrev pub areaTo : Point → Point → Spot → ℤ
 areaTo p q s = twiceArea (record { p = p; q = q; r = corner s })
 
 -- the spot lies strictly inside the triangle, which has the orientation asked for: the area to each side has that sign. That no
--- triangle of the other orientation holds the spot follows from `Cover`'s field `turned` (mesh/proofs/EitherTurn)
+-- triangle of the other orientation holds the spot follows from `Cover`'s field `turned` (mesh_geometry/proofs/EitherTurn)
 pub record Holds (positive : Bool) (t : Face) (s : Spot) : Type 0 where
   pub pq : HasSign positive (areaTo (t .p) (t .q) s)
   pub qr : HasSign positive (areaTo (t .q) (t .r) s)

@@ -1,5 +1,4 @@
--- What is known of a subdivision in each arm of a match on it.
--- Assumes nothing.
+-- What is known of a subdivision in each arm of a match on it. Assumes nothing.
 use Prim.Native.Nat.{ℕ, _*_, _≤_}
 use mathlib.Core.Path.{_≡_, sym, subst}
 use mathlib.Core.Bool.{Bool}

@@ -1,5 +1,4 @@
--- Dots or primitives, as point mode asks.
--- Assumes nothing.
+-- Dots in point mode, else primitives. Assumes nothing.
 use Prim.Native.Nat.{ℕ, _≤_}
 use mathlib.Core.Path.{_≡_, sym, subst, _∙_}
 use mathlib.Core.Bool.{Bool, true, false}

@@ -17,7 +17,7 @@ mark = 0x54 ∷ 0x53 ∷ 0x52 ∷ []
 abbrev pub entrySize : ℕ
 entrySize = 34
 
--- answer 5, not a recording: under 5 bytes, or another mark
+-- answer 5, not a recording: fewer than 5 bytes, or another mark
 abbrev pub notARecording : List ℕ → Bool
 notARecording bs = lacksMark mark bs
 

@@ -1,4 +1,4 @@
--- The promise of a call, answer by answer. Assumes nothing.
+-- The contract of a call, answer by answer. Assumes nothing.
 use Prim.Native.Nat.{ℕ, zero, suc, _≤_, _<_}
 use mathlib.Core.Path.{_≡_, refl, sym, ap, _∙_}
 use mathlib.Core.Bool.{Bool, true, false, cond}
@@ -40,7 +40,7 @@ module _ (bs : List ℕ) (d : ℕ) (ok : Bool) (t : Told) where
   abbrev chosen : Bool → Bool → Bool → Bool → Told → Told
   chosen a b c e x = cond a (cond b (cond c unknownDesigner (cond e (unknownSetting place) x)) (refused 14)) badTop
 
-  -- nothing does: it has to say what the operation says
+  -- no refusal: the answer is the operation's
   pub asked-none : asked bs d ok done .number ≡ 0 → asked bs d ok t ≡ t
   unfolding asked
   asked-none = go (isTop (topIn bs)) ok (ltb 1 d) (ltb place 5)

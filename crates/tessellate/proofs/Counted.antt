@@ -1,4 +1,4 @@
--- What the code finds out about a patch, in the words of the statements: whether it is discarded, and how many points and indices it has.
+-- What the code finds out about a patch, by the definitions: whether it is discarded, and how many points and indices it has.
 -- Assumes nothing.
 use Prim.Native.Nat.{ℕ, _≤_}
 use mathlib.Core.Path.{_≡_, sym, ap, _∙_}

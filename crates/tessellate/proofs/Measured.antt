@@ -1,4 +1,4 @@
--- Measuring's answer by name: number and values determine it. Assumes nothing.
+-- The answer of measuring is determined by its number and values. Assumes nothing.
 use Prim.Native.Nat.{ℕ}
 use mathlib.Core.Path.{_≡_, refl, sym, ap, _∙_}
 use mathlib.Core.Bool.{Bool, true, false, cond}

@@ -1,6 +1,5 @@
--- What the two drawing operations give for one patch: demand 3 of the two lists together, no spot cut twice, and the same indices for
--- patches alike.
--- Assumes nothing.
+-- What the two drawing operations give for one patch: demand 3 for both lists together, exactly one triangle for each spot, and the same
+-- indices for patches that are alike. Assumes nothing.
 use Prim.Native.Nat.{ℕ, _+_, _*_, _≤_}
 use mathlib.Core.Path.{_≡_, refl, sym, ap, _∙_}
 use mathlib.Core.Bool.{Bool, true, false, cond}
@@ -32,7 +31,7 @@ use Rattle.level.proofs.Top.{top-as}
 use Rattle.tessellate.specs.Draws.{pointWords, connectionWords, DrewPoints, DrewIndices}
 use Rattle.answer_codes.specs.Drew.{Drew}
 
--- what "drawn" means: the top is one, the patch is not discarded, there was room, and the count is right
+-- what "drawn" means: the top level is good, the patch is not discarded, there was room, and the count is right
 pub record Fits (set : Settings) (p : Patch) (need have all n : ℕ) : Type 0 where
   pub top : Top (set .top)
   pub drawn : discards p ≡ false

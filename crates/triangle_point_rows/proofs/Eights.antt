@@ -1,5 +1,4 @@
--- Points eight by eight, from words that were laid out.
--- Assumes nothing.
+-- Points written eight at a time, from points of the outline. Assumes nothing.
 use Prim.Native.Nat.{ℕ, zero, suc, _+_, _-_, _*_, _≤_}
 use mathlib.Core.Path.{_≡_, refl, sym, ap, subst, _∙_}
 use mathlib.Core.List.{List, _++_}

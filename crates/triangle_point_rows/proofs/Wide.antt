@@ -1,5 +1,4 @@
--- A ring's points from the outline's points at its places.
--- Assumes nothing.
+-- The points of a ring from the points of the outline at its places. Assumes nothing.
 use Prim.Native.Nat.{ℕ, zero, suc, _+_, _-_, _*_, _%_, _≤_, _<_}
 use mathlib.Core.Path.{_≡_, refl, sym, ap, _∙_}
 use mathlib.Core.List.{List, _++_, append-assoc}

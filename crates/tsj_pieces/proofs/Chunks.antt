@@ -1,4 +1,4 @@
--- A chunk that was read and answered, as the code makes its answer. Assumes nothing.
+-- The results of reading and answering a chunk meet the contract. Assumes nothing.
 use Prim.Native.Nat.{ℕ, _≤_}
 use mathlib.Core.Path.{_≡_, subst}
 use mathlib.Core.Bool.{true, false, not, _&&_}

@@ -1,4 +1,4 @@
--- A header that was read and answered, as the code makes its answer. Assumes nothing.
+-- The results of reading and answering a header meet the contract. Assumes nothing.
 use Prim.Native.Nat.{ℕ}
 use mathlib.Core.Path.{_≡_, refl, ap, _∙_}
 use mathlib.Core.Bool.{true, false}

@@ -97,7 +97,7 @@ module _ {v : Version} {read written : ℕ} (f : Full v read written) where
       ended = λ _ o _. part-short (r .input .count) (chunkSize v) (not (r .output .failed)) (a .read .most) (sym (a .more) ∙ h) (ap not o);
     }
 
-  -- so many bytes were read or written that no more are read
+  -- the limit of bytes read or written is exceeded, so no more are read
   pub full-stop : (bs : List ℕ) → 9223372036854775808 < read + written → AnsweredRest (Records v) bs (stoppedAt read written)
   full-stop bs h = record {
     earlier = f .earlier;

@@ -57,7 +57,7 @@ whole-pieces (Records v) {bs} {r} b = go (r .last .failed)
     go true = last (b .earlier)
     go false = more {c = b .earlier} (256 * b .chunks) (omega (arith, b .whole)) (last (take (r .last .count) bs))
 
--- under five bytes are no job
+-- fewer than five bytes are not a job
 few-rest : (hs : List ℕ) → length hs < 5 → restOf (headerOf hs) ≡ Nothing
 unfolding headerOf
 few-rest hs h = rw (lt-ltb (length hs) 5 h)

@@ -71,7 +71,7 @@ module _ {start so-far : Replay} {read : ℕ} (f : Full start so-far read) where
       ended = λ _ o _. part-short (r .input .count) chunkSize (isOpen (r .«so_far»)) (a .read .most) (sym (a .more) ∙ h) o;
     }
 
-  -- so many bytes were read that no more are read
+  -- the limit of bytes is exceeded, so no more are read
   pub full-stop : (bs : List ℕ) {r : Replayed} → 9223372036854775808 < read → r ≡ stoppedAt read so-far → ReplayedChunks start bs r
   unfolding said
   full-stop bs h e = rw e (record {

@@ -1,4 +1,4 @@
--- What a run says is said of all bytes that it read. Assumes nothing.
+-- The answer of a run is that of all bytes that it read. Assumes nothing.
 use Prim.Native.Nat.{ℕ, _+_, _*_, _≤_}
 use mathlib.Core.Path.{_≡_, refl, sym, ap, _∙_}
 use mathlib.Core.Bool.{Bool, true, false, cond, _||_}

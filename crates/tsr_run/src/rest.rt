@@ -9,8 +9,8 @@ use standard_streams::Input;
 use tsr_pieces::piece::is_open;
 use tsr_pieces::piece::replay_chunk;
 
-// A proved loop has to end, and the input need not: after more than this many bytes no further chunk is read. The entries of so many bytes
-// can still be counted.
+// A proved loop has to end, and the input need not: after more than this many bytes no further chunk is read. The count of entries cannot
+// overflow before that.
 const MOST: usize = 9223372036854775808;
 
 // How many bytes were read in all, the last read, and the answer.

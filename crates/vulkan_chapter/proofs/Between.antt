@@ -1,4 +1,4 @@
--- 23.6 and 23.7: the triangles of a strip join its two lines, and fill the room between them.
+-- 23.6 and 23.7: the triangles of a strip join its two lines, and fill the area between them.
 -- Assumes nothing.
 use Prim.Native.Nat.{ℕ, zero, suc, _+_, _≤_, _<_}
 use mathlib.Core.Path.{_≡_, refl}

@@ -1,4 +1,4 @@
--- 23.2: a patch is discarded exactly where the chapter asks.
+-- 23.2: a patch is discarded exactly if the chapter discards it.
 -- Assumes nothing.
 use mathlib.Core.Path.{_≡_, refl, sym, _∙_}
 use mathlib.Core.Bool.{Bool, true, false, _||_, true≢false}

@@ -1,4 +1,4 @@
--- Every patch that is not discarded meets the chapter, drawn with any settings whose top is allowed.
+-- Every patch that is not discarded meets the chapter, drawn with any settings whose top level is good.
 -- Assumes nothing.
 use Prim.Native.Nat.{ℕ, zero, suc, _+_, _≤_, _<_}
 use mathlib.Core.Path.{_≡_, refl, sym, _∙_}

@@ -1,4 +1,4 @@
--- 23.3: every level is clamped and rounded, and its edge divided, as the chapter asks.
+-- 23.3: every level is clamped and rounded, and its edge divided, as the chapter requires.
 -- Assumes nothing.
 use Prim.Native.Nat.{ℕ, _+_, _*_, _≤_, _<_}
 use mathlib.Core.Path.{_≡_, refl, ap, ap₂, _∙_}

@@ -1,6 +1,5 @@
--- What the two drawing operations wrote for one patch meets the chapter; a patch is answered as discarded exactly where the chapter
--- discards it.
--- Assumes nothing.
+-- What the two drawing operations wrote for one patch meets the chapter; they answer "discarded" exactly if the chapter discards the
+-- patch. Assumes nothing.
 use Prim.Native.Nat.{ℕ, _*_}
 use mathlib.Core.Path.{_≡_, refl, sym, ap, _∙_}
 use mathlib.Core.Bool.{Bool, true, false, cond}

@@ -1,4 +1,4 @@
--- 23.5: every triangle is ordered as asked.
+-- 23.5: every triangle has the vertex order asked for.
 -- Assumes nothing.
 use Prim.Native.Nat.{ℕ, suc, _+_, _*_}
 use mathlib.Core.Path.{_≡_}

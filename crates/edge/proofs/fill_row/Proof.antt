@@ -1,4 +1,4 @@
--- The code of `fill_row` meets its contract: each turn stores two points, and the carried quotient is the distance's. Assumes nothing.
+-- Meets its contract: each turn stores two points, and the carried quotient is that of their distance. Assumes nothing.
 use borrow.Author.Needs.{needs}
 use native.Mathlib.Omega.{arith}
 use Prim.Native.Nat.{ℕ, _+_, _-_, _*_, _/_, _≤_}

@@ -1,4 +1,4 @@
--- `requests::input::patch_in` meets its contract: one return per kind. Assumes nothing.
+-- Meets its contract: one return per kind. Assumes nothing.
 use borrow.Author.Needs.{needs}
 use Rattle.call_inputs.proofs.input.patch_in.Statement.{statement}
 use Rattle.call_inputs.proofs.input.patch_in.Tie as tie
