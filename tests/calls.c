@@ -157,7 +157,7 @@ typedef struct mesh {
 static yoktvarim_settings *lend_settings(const patch *p) { return lend_copy(&p->settings, sizeof p->settings); }
 static yoktvarim_levels *lend_levels(const patch *p) { return lend_copy(&p->patterns, sizeof p->patterns); }
 
-/* The counts of a patch, 0 and 0 where there are none; the number that answers it. */
+/* The counts of a patch, 0 and 0 if it has no counts; returns the number of the answer. */
 static uint32_t measured(const patch *p, uint32_t *counts)
 {
     uint32_t *lent = lend(8);
@@ -225,7 +225,7 @@ static void write_and_read(const patch *p)
 
 /* ---------------------------------------------------------------- checking and comparing */
 
-/* One damage of some sort, or none. */
+/* One damage of some sort, or no damage. */
 static void damage(mesh *m)
 {
     const uint32_t at = m->index_words < 3 ? 0 : 3 * below(m->index_words / 3);

@@ -57,7 +57,7 @@ fn one_slot(from: u32) -> Mesh {
     mesh
 }
 
-/// A name with the mesh that it stands for.
+/// A name and its mesh.
 type Refused = (&'static str, fn() -> Mesh);
 
 pub const REFUSED: [Refused; 6] = [
@@ -90,7 +90,7 @@ pub const REFUSED: [Refused; 6] = [
     ("4,225 points in one slot", || one_slot(0)),
 ];
 
-/// A name with the two meshes that it stands for.
+/// A name and its two meshes.
 type Pair = (&'static str, fn() -> (Mesh, Mesh));
 
 pub const PAIRS: [Pair; 7] = [
