@@ -6,7 +6,7 @@ import { settingBytes, sixLevels } from './patch.js';
 import { isList, isObject } from './types.js';
 
 /**
- * What each number means, the names of the places told beside it, and how to say it.
+ * The name of each number, the names of its places, and the sentence for it.
  *
  * @type {Readonly<Record<number, [string, string[], (verdict: any) => string]>>}
  */

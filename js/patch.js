@@ -2,9 +2,9 @@
 
 import { isBoolean, isInteger, isNumber, isNumbers, isObject, isObjectOf, isOneOf } from './types.js';
 
-/** What stands for 1: in triangles u, v and w of a point add up to it. */
+/** The number that means 1 in triangles: u, v and w of a point add up to it. */
 export const ONE_IN_TRIANGLES = 196608;
-/** What stands for 1 in quads and isolines, whose w is 0. */
+/** The number that means 1 in quads and isolines, whose w is 0. */
 export const ONE_IN_QUADS = 65536;
 /** The greatest top of settings. */
 export const GREATEST_TOP = 64;
@@ -56,7 +56,7 @@ export function isolines(outer) {
 
 /**
  * Equal spacing, triangles counter-clockwise seen from a lower-left origin, no point mode and the top 64, unless named. Any whole number
- * may be given as the top; one that is none is answered with 'bad top'.
+ * may be given as the top; a bad one is answered with 'bad top'.
  *
  * @param {Partial<import('./index.js').Settings>} [named]
  */
@@ -78,7 +78,7 @@ export function settings(named = {}) {
 }
 
 /**
- * The six levels of a call: outer one to four, inner one and two; 0 where none counts.
+ * The six levels of a call: outer one to four, inner one and two; 0 for a level that does not count.
  *
  * @param {import('./index.js').Patch} patch
  */
@@ -104,7 +104,7 @@ export function settingBytes(kind, named) {
         VERTEX_ORDERS.indexOf(vertexOrder),
         DOMAIN_ORIGINS.indexOf(domainOrigin),
         Number(pointMode),
-        // No number that does not fit a byte is a top; 0 is none either.
+        // A number that does not fit a byte is not a top; neither is 0.
         top >= 0 && top <= 255 ? top : 0,
     ];
 }

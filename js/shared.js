@@ -9,7 +9,7 @@ const DESIGNERS = ['first', 'second'];
 const STATE_WORDS = 10;
 
 /**
- * Where the parts of one list stand in the state: its length, and quota and used words of the first and of the second designer.
+ * Where the parts of one list are in the state: its length, and quota and used words of the first and of the second designer.
  *
  * @param {BigUint64Array} state
  * @param {number} from the list's first word of the state
@@ -25,7 +25,7 @@ const vertexParts = (state) => parts(state, 0);
 const indexParts = (state) => parts(state, 5);
 
 /**
- * A quota as two numbers of 64 bits. No list has more words than the greatest safe integer, so that stands for every greater number.
+ * A quota as two numbers of 64 bits. No list has more words than the greatest safe integer, so that replaces every greater number.
  *
  * @param {string} name
  * @param {{vertices: number, indices: number}} quota in words

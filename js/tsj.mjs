@@ -20,7 +20,7 @@ if (words.length > 1 || words[0]?.startsWith('-')) {
     process.exitCode = 2;
 } else {
     await answer(words).catch((error) => {
-        // A reader that goes away early is no failure.
+        // A reader that stops early is not a failure.
         if (error.code === 'EPIPE') return;
         process.stderr.write(`tsj: ${error.message}\n`);
         process.exitCode = 1;

@@ -1,4 +1,4 @@
-"""Drawing with floats: the three lists, and what stands against it."""
+"""Drawing with floats: the three lists, and the refusals."""
 
 import doctest
 import struct

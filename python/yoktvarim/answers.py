@@ -63,7 +63,7 @@ class Clamp(Enum):
 
 @dataclass(frozen=True)
 class Clamps:
-    """A Clamp for each level that counts: three and one of triangles, four and two of quads, two and none of isolines."""
+    """A Clamp for each level that counts: three and one of triangles, four and two of quads, and two of isolines."""
 
     outer: Tuple[Clamp, ...]
     inner: Tuple[Clamp, ...]
@@ -81,7 +81,7 @@ class Measured(Answer):
 
 @dataclass(frozen=True)
 class PointsDrawn(Answer):
-    """So many points, of 3 words each, stand at the front of the list; the words past them are as they were."""
+    """The list begins with this many points, of 3 words each; the words past them are as they were."""
 
     number = 0
     points: int
@@ -89,7 +89,7 @@ class PointsDrawn(Answer):
 
 @dataclass(frozen=True)
 class IndicesDrawn(Answer):
-    """So many indices stand at the front of the list; the words past them are as they were."""
+    """The list begins with this many indices; the words past them are as they were."""
 
     number = 0
     indices: int

@@ -59,8 +59,8 @@ def measure(patch: Patch, settings: Settings = Settings()) -> Size:
 
 
 def draw_points(patch: Patch, settings: Settings, vertices: Any) -> PointsAnswer:
-    """Writes the points to the front of a list of unsigned 32-bit words, three words u, v, w each; or says by name what stands
-    against it, and the list has not changed then.
+    """Writes the points to the front of a list of unsigned 32-bit words, three words u, v, w each; or refuses
+    by name, and then the list is unchanged.
 
     >>> vertices = array("I", bytes(4 * VERTEX_WORDS))
     >>> draw_points(Triangles(outer=(1, 1, 1), inner=2), Settings(), vertices)
@@ -74,8 +74,8 @@ def draw_points(patch: Patch, settings: Settings, vertices: Any) -> PointsAnswer
 
 
 def draw_indices(patch: Patch, settings: Settings, indices: Any) -> IndicesAnswer:
-    """Writes the indices, which number the points from 0, to the front of a list of unsigned 16-bit words; or says by name what
-    stands against it, and the list has not changed then.
+    """Writes the indices, which number the points from 0, to the front of a list of unsigned 16-bit words; or refuses by
+    name, and then the list is unchanged.
 
     Indices may be kept while points are drawn again: two patches of the same kind, point mode, vertex order and origin,
     neither discarded, have equal indices if both are the plain patch, which nothing divides, or if neither is and each of

@@ -1,4 +1,4 @@
-"""Drawing with floats: points, indices and coordinates as 32-bit floats by one call, into three lists or none."""
+"""Drawing with floats: points, indices and coordinates as 32-bit floats by one call, into all three lists or none of them."""
 
 from ctypes import POINTER, c_float, c_size_t, c_uint16, c_uint32
 from dataclasses import dataclass
@@ -23,7 +23,7 @@ _draw_with_floats = Function(
 
 @dataclass(frozen=True)
 class FloatsDrawn(Answer):
-    """So many points of three words, so many indices, and three floats for each point stand at the fronts of the lists."""
+    """The lists begin with this many points of three words, this many indices, and three floats for each point."""
 
     number = 0
     points: int
@@ -42,7 +42,7 @@ FloatsAnswer = Union[FloatsDrawn, Discarded, NoRoomForVertices, NoRoomForIndices
 
 def draw_with_floats(patch: Patch, settings: Settings, vertices: Any, indices: Any, floats: Any) -> FloatsAnswer:
     """Writes what draw_points and draw_indices write, and each coordinate of a point once more as a float from 0 to 1: the whole
-    number divided once by what stands for 1. All room is tested first: every answer but FloatsDrawn leaves all lists as they were.
+    number divided once by the number that means 1. All room is tested first: every answer but FloatsDrawn leaves all lists as they were.
 
     For quads and isolines a float is exactly that quotient, for triangles it is within 2^-25 of it, and 0 and 1 are exact. A greater
     coordinate is a greater float. The three floats of a triangle's point need not add up to 1.

@@ -5,7 +5,7 @@ from dataclasses import dataclass
 from enum import Enum
 from typing import Any, Sequence, Tuple, Union
 
-# What stands for 1: in a triangle patch u, v and w of a point add up to the first; quads and isolines have the second, and w is 0.
+# The numbers that mean 1: in a triangle patch u, v and w of a point add up to the first; quads and isolines have the second, and w is 0.
 ONE_IN_TRIANGLES = 196608
 ONE_IN_QUADS = 65536
 
@@ -34,7 +34,7 @@ class DomainOrigin(Enum):
 
 
 def _level(name: str, level: Any) -> float:
-    """A number as a level. Text is none, even where it spells one."""
+    """A number as a level. Text is not a level, even if it spells a number."""
     if isinstance(level, (str, bytes, bytearray)):
         raise TypeError(f"{name} takes numbers, not {level!r}")
     return float(level)
@@ -136,7 +136,7 @@ class Settings:
 
 
 def six_levels(patch: Patch) -> Tuple[float, ...]:
-    """The six levels of a call: outer one to four, inner one and two; 0 where none counts."""
+    """The six levels of a call: outer one to four, inner one and two; 0 for a level that does not count."""
     kind = patch_kind(patch)
     # A class derived from a kind may have skipped the tests of its base, so the levels are counted here too.
     if kind is Triangles:
@@ -149,7 +149,7 @@ def six_levels(patch: Patch) -> Tuple[float, ...]:
 def setting_bytes(patch: Patch, settings: Settings) -> Tuple[int, ...]:
     """The six setting bytes of a call, numbered as in a job file of version 2."""
     must_be("settings", settings, Settings)
-    # No number that does not fit a byte is a top; 0 is none either.
+    # A number that does not fit a byte is not a top; neither is 0.
     top = settings.top if 0 <= settings.top <= 255 else 0
     return (
         KINDS.index(patch_kind(patch)),

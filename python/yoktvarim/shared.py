@@ -15,7 +15,7 @@
     Quota(vertices=12, indices=9)
 
 Take any calls since a start, with nobody else writing the two lists. What one designer gets (every answer, every count and every word of
-the own part) is then the same as if the other had made none of them. Nothing is promised about time, and calls are not made at once.
+the own part) is then the same as if the other had made no call. Nothing is promised about time, and calls must not run at the same time.
 """
 
 import operator
@@ -142,7 +142,7 @@ def _asked(name: str, quota: Quota) -> Tuple[int, int]:
 
 
 def _word_count(name: str, count: Any) -> int:
-    """A number of words. The largest number stands for every larger one: no list has so many words, so both are answered alike."""
+    """A number of words. The largest number replaces every larger one: no list has so many words, so the answer is the same."""
     try:
         words = operator.index(count)
     except TypeError:

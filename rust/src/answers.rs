@@ -100,7 +100,7 @@ impl<'a> Reader<'a> {
         }
     }
 
-    /// Takes the answer to the record of this number. With a `width` each line has so many indices, and the last one what is left of
+    /// Takes the answer to the record of this number. With a `width` each line has that many indices, and the last one what is left of
     /// them; without one each line has as many as the first, one to three.
     ///
     /// # Errors
@@ -167,7 +167,7 @@ impl<'a> Reader<'a> {
         }
     }
 
-    /// The numbers of the next line: none above `greatest`, and as many as may be there.
+    /// The numbers of the next line: no number above `greatest`, and as many as may be there.
     fn take_numbers(
         &mut self,
         expected: &str,
@@ -234,7 +234,7 @@ impl<'a> Reader<'a> {
     }
 }
 
-/// The numbers of a line, separated by one space each and none above `greatest`: decimal digits, no sign and no leading zero.
+/// The numbers of a line, separated by one space each, with no number above `greatest`: decimal digits, no sign and no leading zero.
 fn numbers(line: &str, greatest: u64) -> Option<Vec<u64>> {
     line.split(' ')
         .map(|word| number(word).filter(|value| *value <= greatest))

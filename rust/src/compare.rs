@@ -19,7 +19,7 @@
 
 use crate::raw;
 
-/// Why a mesh is refused. Where several apply, the one that stands first here is given.
+/// Why a mesh is refused. Where several apply, the first of this list is given.
 #[derive(Clone, Copy, Debug, PartialEq, Eq)]
 pub enum MeshFault {
     /// The point words or the indices are no multiple of three.
@@ -34,7 +34,7 @@ pub enum MeshFault {
 #[must_use = "only `Differences` means that the list holds what is different"]
 #[derive(Clone, Copy, Debug, PartialEq, Eq)]
 pub enum Comparison {
-    /// So many differences of three words stand at the front of the list. None: both hold the same points and triangles.
+    /// The list begins with this many differences of three words. 0: both hold the same points and triangles.
     Differences { count: u64 },
     /// So many there are, and the list has under three words for each; nothing was written.
     NoRoom { count: u64 },
@@ -87,7 +87,7 @@ pub fn compare_meshes(left: MeshWords, right: MeshWords, differences: &mut [u64]
     }
 }
 
-/// The differences that the written words stand for; give it three words for each that the answer counts.
+/// The differences in the written words; give it three words for each that the answer counts.
 ///
 /// # Panics
 ///

@@ -3,11 +3,11 @@
 use crate::patch::{setting_bytes, six_levels, Patch, Settings};
 use crate::raw::{self, Numbered};
 
-/// What drawing points answers. Where several refusals apply, the one that stands first here is given.
+/// What drawing points answers. Where several refusals apply, the first of this list is given.
 #[must_use = "only `Drawn` means that something was written"]
 #[derive(Clone, Copy, Debug, PartialEq, Eq)]
 pub enum PointsAnswer {
-    /// So many points of three words stand at the front of the list.
+    /// The list begins with this many points of three words.
     Drawn { points: u32 },
     /// The top is not an even number from 2 to 64.
     BadTop,
@@ -17,11 +17,11 @@ pub enum PointsAnswer {
     NoRoomForVertices,
 }
 
-/// What drawing indices answers. Where several refusals apply, the one that stands first here is given.
+/// What drawing indices answers. Where several refusals apply, the first of this list is given.
 #[must_use = "only `Drawn` means that something was written"]
 #[derive(Clone, Copy, Debug, PartialEq, Eq)]
 pub enum IndicesAnswer {
-    /// So many indices stand at the front of the list.
+    /// The list begins with this many indices.
     Drawn { indices: u32 },
     /// The top is not an even number from 2 to 64.
     BadTop,

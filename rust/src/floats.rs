@@ -1,6 +1,6 @@
 //! Drawing with floats: points, indices and `f32` coordinates by one call, into three lists or none.
 //!
-//! A float is the whole coordinate divided once by what stands for 1. For quads and isolines it is exactly that quotient. For
+//! A float is the whole coordinate divided once by the number that means 1. For quads and isolines it is exactly that quotient. For
 //! triangles it differs from it by at most 2^-25; 0 and 1 are exact. A greater coordinate is a greater float, so no two points of
 //! a patch have the same three floats. That the three floats of a triangle's point add up to 1 is not promised.
 //!
@@ -22,11 +22,11 @@ use crate::patch::{setting_bytes, six_levels, Patch, Settings};
 
 pub use crate::raw::{draw_with_floats_by_number, FloatsNumbered};
 
-/// What drawing with floats answers. Where several refusals apply, the one that stands first here is given.
+/// What drawing with floats answers. Where several refusals apply, the first of this list is given.
 #[must_use = "only `Drawn` means that something was written"]
 #[derive(Clone, Copy, Debug, PartialEq, Eq)]
 pub enum FloatsAnswer {
-    /// So many points of three words, so many indices, and three floats for each point stand at the fronts of the lists.
+    /// The lists begin with this many points of three words, this many indices, and three floats for each point.
     Drawn { points: u32, indices: u32 },
     /// The top is not an even number from 2 to 64.
     BadTop,

@@ -251,7 +251,7 @@ impl<'a> Writer<'a> {
     }
 }
 
-/// The records of a job file, or why there are none.
+/// The records of a job file, or why it has no records.
 pub fn read(bytes: &[u8]) -> Result<Records<'_>, HeaderRefusal> {
     let Header { version } = Header::read(bytes)?;
     Ok(Records {
@@ -261,7 +261,7 @@ pub fn read(bytes: &[u8]) -> Result<Records<'_>, HeaderRefusal> {
     })
 }
 
-/// What stands in a job file after its header: records and named refusals. It goes on after an unknown setting, a cut record
+/// What a job file has after its header: records and named refusals. It goes on after an unknown setting, a cut record
 /// is the last, and the end is the end of the iterator.
 #[derive(Clone, Debug)]
 pub struct Records<'a> {

@@ -55,8 +55,8 @@ pub const VERTEX_WORDS: usize = 12_675;
 /// An index list of this many words has room for every patch at every top: 8,192 triangles.
 pub const INDEX_WORDS: usize = 24_576;
 
-/// What stands for 1 in a triangle patch: u, v and w of a point add up to it.
+/// The number that means 1 in a triangle patch: u, v and w of a point add up to it.
 pub const ONE_IN_TRIANGLES: u32 = 196_608;
 
-/// What stands for 1 in a quad patch and in isolines, where w is 0.
+/// The number that means 1 in a quad patch and in isolines, where w is 0.
 pub const ONE_IN_QUADS: u32 = 65_536;

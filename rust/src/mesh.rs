@@ -47,7 +47,7 @@ pub fn mesh(patch: &Patch, settings: &Settings) -> Result<Option<Mesh>, BadTop> 
     }
 }
 
-/// The mesh of a patch that was measured to have so many points and indices.
+/// The mesh of a patch that was measured to have this many points and indices.
 fn drawn(patch: &Patch, settings: &Settings, points: u32, indices: u32) -> Mesh {
     let mut mesh = Mesh {
         points: vec![[0; 3]; points as usize],

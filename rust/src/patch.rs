@@ -84,7 +84,7 @@ pub(crate) fn setting_bytes(patch: &Patch, settings: &Settings) -> [u8; 6] {
     [kind, spacing, order, origin, point_mode, settings.top]
 }
 
-/// The six levels of a call: outer one to four, inner one and two; 0 where none counts.
+/// The six levels of a call: outer one to four, inner one and two; 0 for a level that does not count.
 pub(crate) fn six_levels(patch: &Patch) -> [f32; 6] {
     match *patch {
         Patch::Triangles {

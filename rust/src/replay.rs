@@ -14,7 +14,7 @@ pub struct Outcome {
 #[must_use]
 #[derive(Clone, Copy, Debug, PartialEq, Eq)]
 pub enum Replay {
-    /// Every entry agrees with what is answered today; a header alone has none.
+    /// Every entry agrees with the answer of today; a header alone has no entries.
     AllAgree { entries: u64 },
     /// The first entry, counted from 0, whose answer or counts differ, with both sides.
     Differs {

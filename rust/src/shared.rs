@@ -74,11 +74,11 @@ pub struct Shared {
 #[derive(Clone, Copy, Debug, PartialEq, Eq)]
 pub struct QuotasTooLarge;
 
-/// What drawing answers. Where several refusals apply, the one that stands first here is given.
+/// What drawing answers. Where several refusals apply, the first of this list is given.
 #[must_use = "only `Drawn` means that something was written"]
 #[derive(Clone, Copy, Debug, PartialEq, Eq)]
 pub enum DrawAnswer {
-    /// So many points of three words and so many indices were appended to the designer's part.
+    /// This many points of three words and this many indices were appended to the designer's part.
     Drawn { points: u32, indices: u32 },
     /// The top is not an even number from 2 to 64.
     BadTop,

@@ -154,7 +154,7 @@ fn plain_settings(spacing: reference::Spacing) -> reference::Settings {
     }
 }
 
-/// The mesh of a quad patch with one level, with so many triangles split in three by a point inside, and unused points up to `points`.
+/// The mesh of a quad patch with one level, with this many triangles split in three by a point inside, and unused points up to `points`.
 fn refined(level: f32, splits: usize, points: usize) -> DamagedMesh {
     let patch = reference::Patch::Quads {
         outer: [level; 4],

@@ -49,7 +49,7 @@ fn sides(pair: &Pair) -> (MeshWords<'_>, MeshWords<'_>) {
     )
 }
 
-/// Both programs give the same answer and the same list of so many words.
+/// Both programs give the same answer and the same list of this many words.
 fn agree(pair: &Pair, words: usize, what: &str) -> Comparison {
     let ((left_points, left_indices), (right_points, right_indices)) = sides(pair);
     let mut there = marked::<u64>(words);
@@ -218,7 +218,7 @@ fn agrees_on_the_largest_meshes() {
 
 #[test]
 fn agrees_past_the_points_that_an_index_can_number() {
-    // 65,540 points; the triangle's corners stand past number 65,535 on the right, where no index reaches them.
+    // 65,540 points; the triangle's corners are past number 65,535 on the right, where no index reaches them.
     let points: Vec<u32> = (0..65_540).flat_map(|k| [k, 0, 7]).collect();
     let mut turned = points.clone();
     turned.rotate_right(12);

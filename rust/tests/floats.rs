@@ -21,7 +21,7 @@ use yoktvarim::floats::{
 };
 use yoktvarim::{IndicesAnswer, PointsAnswer, INDEX_WORDS, VERTEX_WORDS};
 
-/// How many words stand behind those that a patch needs.
+/// How many words follow those that a patch needs.
 const BEHIND: usize = 7;
 
 /// A float by its bits: no NaN is taken for another, nor 0 for -0. The mark is a NaN that no division gives.
@@ -96,7 +96,7 @@ fn compare(
     answer
 }
 
-/// What a patch of so many points and indices is answered with in lists of these lengths.
+/// The answer for a patch of this many points and indices in lists of these lengths.
 fn expected(points: usize, indices: usize, [v, i, f]: [usize; 3]) -> FloatsAnswer {
     if v < 3 * points {
         FloatsAnswer::NoRoomForVertices
@@ -325,7 +325,7 @@ fn by_numbers() {
             assert!(is_untouched(&vertices) && is_untouched(&indices));
             assert!(is_untouched(&bits(&floats)));
         }
-        // In empty lists only the first lack of room is told, and only of what would be drawn.
+        // With empty lists only the first lack of room is reported, and only for what would be drawn.
         let short = draw_with_floats_by_number(&settings, &levels, &mut [], &mut [], &mut []);
         let number = if here.number == 0 { 3 } else { here.number };
         assert_eq!(short.number, number, "{record:?}");

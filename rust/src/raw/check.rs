@@ -8,8 +8,8 @@ use super::foreign::yoktvarim_check_mesh;
 #[derive(Clone, Copy, Debug, PartialEq, Eq)]
 pub struct Checked {
     pub number: u32,
-    /// The fault's places in the order of the variant's fields, the setting's place, 0 to 4, beside 8; 0 where nothing is
-    /// told.
+    /// The fault's places in the order of the variant's fields, the setting's place, 0 to 4, with 8; 0 for a place that
+    /// the answer lacks.
     pub places: [u64; 2],
 }
 
