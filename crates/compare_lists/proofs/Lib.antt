@@ -1,3 +1,3 @@
--- The laws of counting and writing differences, lowest first.
+-- The laws of `compare_lists`, lowest first.
 pub mod Passing
 pub mod Parts

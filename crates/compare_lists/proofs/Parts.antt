@@ -1,4 +1,4 @@
--- The four parts of the list of differences: how many there are, and how they are written one after the other.
+-- The four parts of the list of differences: how many differences each has, and how the parts are written one after the other.
 -- Assumes nothing.
 use Prim.Native.Nat.{ℕ, _+_, _≤_}
 use mathlib.Core.Path.{_≡_, refl, sym, ap, _∙_}
@@ -14,7 +14,7 @@ use Rattle.compare_differences.specs.Differences.{leftPoints, rightPoints, left
 use Rattle.compare_lists.proofs.Passing.{words-append}
 
 module _ (l r : Mesh) where
-  -- how many there are
+  -- how many differences there are
   pub parts-count : length (differences l r)
       ≡ length (lacking samePoint (l .points) (r .points)) + length (lacking samePoint (r .points) (l .points))
       + length (lacking sameFace (l .faces) (r .faces)) + length (lacking sameFace (r .faces) (l .faces))
@@ -34,7 +34,7 @@ module _ (l r : Mesh) where
       → Left xs₁ w (words (leftFaces l r) ++ words (rightFaces l r)) xs 0 (words (differences l r))
   after-points h p = left-step p (parts-words ∙ sym (append-assoc (words (leftPoints l r)) (words (rightPoints l r)) (words (leftFaces l r) ++ words (rightFaces l r)))) (left-all refl (omega arith))
 
-  -- and after the left side's triangles
+  -- what is left to write after the triangles of the left side
   pub after-faces : {xs xs₁ xs₂ : List ℕ} {w v : ℕ} → length (words (differences l r)) ≤ length xs → Wrote xs 0 (words (leftPoints l r) ++ words (rightPoints l r)) xs₁ w
       → Wrote xs₁ w (words (leftFaces l r)) xs₂ v → Left xs₂ v (words (rightFaces l r)) xs 0 (words (differences l r))
   after-faces h p q = left-step q refl (after-points h p)

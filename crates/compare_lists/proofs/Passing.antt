@@ -1,5 +1,4 @@
--- The numbers that pass a test: how a loop counts them, and how a loop writes their words.
--- Assumes nothing.
+-- The numbers that pass a test: how a loop counts them, and how a loop writes their words. Assumes nothing.
 use Prim.Native.Nat.{ℕ, zero, suc, _+_, _*_, _-_, _/_, _≤_, _<_}
 use mathlib.Core.Path.{_≡_, refl, sym, ap, _∙_}
 use mathlib.Core.Bool.{Bool, true, false, cond, true≢false}
@@ -57,13 +56,13 @@ tally-done {t} {k} {n} {c} l h =
     let s = ap length (flat-done (one t) k n l) in
     omega arith
 
--- flags that are set pass, and they are those of the test
+-- the flags that are set are those of the numbers that pass the test
 pub flags-pass : {t : ℕ → Bool} {n m c : ℕ} {fs : List ℕ} → Flagged t n fs → n ≡ m → c ≡ length (passing (isSet fs) n) → c ≡ length (passing t m)
 unfolding passing
 flags-pass {t} {n} {m} {c} {fs} h e p =
     p ∙ ap length (flat-below (one (isSet fs)) (one t) 0 n (λ j l. ap (λ (b : Bool). cond b (j ∷ []) []) (flag-tells h j (omega arith)))) ∙ ap (λ (k : ℕ). length (flat (one t) 0 k)) e
 
--- at most all of them pass
+-- no more than all numbers pass
 flat-most : (t : ℕ → Bool) (i k : ℕ) → length (flat (one t) i k) ≤ k
 unfolding flat
 flat-most t i zero = omega arith
@@ -126,16 +125,16 @@ itself-none same xs h =
 same-face-itself : (f : Face) → sameFace f f ≡ true
 same-face-itself f = in-order f f (rw (is-same (f .p) (f .p) refl, is-same (f .q) (f .q) refl, is-same (f .r) (f .r) refl))
 
--- a mesh differs nowhere from itself
+-- a mesh has no differences from itself
 pub differences-itself : (m : Mesh) → differences m m ≡ []
 unfolding differences
 differences-itself m = rw (itself-none samePoint (m .points) (λ p. is-same p p refl), itself-none sameFace (m .faces) same-face-itself)
 
--- nor do meshes of the same words differ
+-- meshes with the same words have no differences
 pub same-none : (lp li rp ri : List ℕ) → lp ≡ rp → li ≡ ri → 0 ≡ length (differences (readMesh lp li) (readMesh rp ri))
 same-none lp li rp ri e h = rw (e, h) (sym (ap length (differences-itself (readMesh rp ri))))
 
--- ---- no more differ than there are, in meshes given as words
+-- ---- meshes given as words have no more differences than points and triangles
 few-points : (pw qw : List ℕ) → length (lacking samePoint (pointsIn pw) (pointsIn qw)) ≤ length pw / 3
 few-points pw qw = omega (arith, passing-most (lacks samePoint (pointsIn pw) (pointsIn qw)) (length (readPoints pw)), points-count pw)
 

@@ -34,7 +34,7 @@ unfolding words
 listed-none [] xs n e h = record { answer = counted-fits 0 0 (length xs) refl (omega arith); list = sym (over-none xs 0) }
 listed-none (d ∷ ds) xs n e h = absurd (omega arith)
 
--- a refusal leaves the list
+-- a refusal leaves the list unchanged
 left-untouched : (f : Fault) (xs ws : List ℕ) → xs ≡ after (told (LeftRefused f) .number) xs ws
 left-untouched NotThrees xs ws = refl
 left-untouched UnknownIndex xs ws = refl

@@ -1,2 +1,2 @@
--- The laws of partners and flags.
+-- The laws of `compare_table_flags`.
 pub mod Tables

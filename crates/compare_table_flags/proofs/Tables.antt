@@ -68,7 +68,7 @@ narrowed-more {t} {fs} {gs} {n} r h l e = record {
 pub narrowed-all : {t : ℕ → Bool} {m n : ℕ} {fs gs : List ℕ} → Narrowed t m fs gs → m ≡ n → Narrowed t n fs gs
 narrowed-all h e = rw e at h
 
--- flags that were set, narrowed by one test, and by two
+-- flags that were all set, narrowed by one test and by two tests
 pub flagged-once : {t : ℕ → Bool} {m n : ℕ} {fs gs : List ℕ} → AllSet m fs → n ≤ m → Narrowed t n fs gs → Flagged t n gs
 flagged-once {t} {m} {n} {fs} {gs} a l h = record {
   room = omega (arith, a .room, h .size);
@@ -108,7 +108,7 @@ flag-test false = refl
 pub flag-tells : {t : ℕ → Bool} {n : ℕ} {fs : List ℕ} → Flagged t n fs → (k : ℕ) → k < n → eqb (getD fs k 0) 1 ≡ t k
 flag-tells {t} h k l = rw (h .each k l) (flag-test (t k))
 
--- a flag of 0; one that falls with a test; one that stays
+-- a flag that was 0, a flag that a test clears, and a flag that stays
 pub flag-gone : (flag : ℕ) (b : Bool) → (flag ≡ 1 → ⊥) → _≡_ {A = ℕ} 0 (cond (eqb flag 1 && b) 1 0)
 flag-gone flag b e = rw (ne-eqb flag 1 e)
 
@@ -118,7 +118,7 @@ flag-falls flag r b e h f = rw (eq-eqb flag 1 e, ← f, h)
 pub flag-stays : (flag : ℕ) (r b : Bool) → flag ≡ 1 → r ≡ false → not r ≡ b → _≡_ {A = ℕ} 1 (cond (eqb flag 1 && b) 1 0)
 flag-stays flag r b e h f = rw (eq-eqb flag 1 e, ← f, h)
 
--- ---- a triangle's corners by their partners
+-- ---- the corners of a triangle by their partners
 module _ (pw ow jw ms : List ℕ) (g : Good ow jw) (small : (k : ℕ) → getD jw k 0 < 65536) (p : Partnered pw ow ms) (t : Triangle) (m : Cornered (length pw / 3) t) where
   face : Face
   face = faceOf (at (readPoints pw)) t
@@ -149,7 +149,7 @@ pub missing-is : (pw iw ow jw : List ℕ) (k : ℕ) (t : Triangle) (r : Bool) �
     → not r ≡ missing pw iw ow jw k
 missing-is pw iw ow jw k t r e h = ap not (h ∙ ap (λ (u : Triangle). among sameFace (facesIn ow jw) (facesIn ow jw .count) (faceOf (at (readPoints pw)) u)) e)
 
--- ---- a triangle that its own mesh has before
+-- ---- a triangle that its own mesh has earlier
 pub first-is : (pw iw : List ℕ) (k : ℕ) (t : Triangle) (q : Bool) → t ≡ triangleAt (readTriangles iw) k → Good pw iw → ((i : ℕ) → getD iw i 0 < 65536) → k < length iw / 3 → q ≡ someFace (readTriangles iw) t k
     → not q ≡ isFirst pw iw k
 first-is pw iw k t q e g small l h = ap not (h ∙ ap (λ (u : Triangle). some (λ i. sameTriangle (triangleAt (readTriangles iw) i) u) k) e ∙ among-own pw iw g small k l)
@@ -161,6 +161,6 @@ known-all h = record { is = λ e. h }
 pub known-none : {t : ℕ → Bool} {n : ℕ} {fs : List ℕ} → KnownFlags false t n fs
 known-none = record { is = λ e. absurd (true≢false (sym e)) }
 
--- ---- the indices of a mesh that can be compared have room in a table for as many points
+-- ---- the indices of a mesh that can be compared fit a table for its points
 pub numbered-in : (pw iw : List ℕ) (n : ℕ) → Good pw iw → length pw / 3 ≤ n → AllNumbered n iw
 numbered-in pw iw n g l = record { at = λ k m. omega (arith, g .indexed .each k m, points-count pw) }

@@ -33,7 +33,7 @@ use Rattle.call_inputs.proofs.Exactly.{Answers, Readable, called-exactly}
 use Rattle.draw_exports.specs.Calls.{MeasureCalled, PointsCalled, IndicesCalled}
 use Rattle.draw_exports.specs.Exactly.{Discarded, Drawable, SizeMeans, PointsMeans, IndicesMeans, measureWords, MeasureExactly, PointsExactly, IndicesExactly}
 
--- ---- one of four answers: by the top, by whether the patch is discarded, and by the room for `need` words in a list of `have`
+-- ---- one of four answers: by the top level, by whether the patch is discarded, and by the room for `need` words in a list of `have`
 abbrev chosen : {A : Type 0} → Bool → Bool → Bool → A → A → A → A → A
 chosen top gone short bad none no-room done = cond top (cond gone none (cond short no-room done)) bad
 
@@ -69,7 +69,7 @@ module _ (set : Settings) (p : Patch) (need have : ℕ) {A : Type 0} (bad none n
       go true false true e f h = c (top-as (set .top) e, f) (ltb-true have need h)
       go true false false e f h = d (top-as (set .top) e, f) (ltb-false have need h)
 
--- where one answer is right and every right answer is that one, it is each answer exactly where that is right
+-- if an answer is right, and no other answer is, then each answer is that one exactly if it is right
 pub both : {A : Type 0} (Means : A → Type 0) {right : A} → Means right → ((a : A) → Means a → right ≡ a) → (a : A) → right ≡ a ↔ Means a
 both Means m back a = (λ e. subst Means e m, back a)
 
@@ -78,7 +78,7 @@ module _ (set : Settings) (p : Patch) where
   abbrev counts : Size
   counts = size.Counts (pointsOf set p) (indicesOf set p) (clampsOf (set .spacing) (set .top) p)
 
-  -- measuring asks for no room
+  -- measuring needs no room
   is-choice : measured set p ≡ choice set p 0 0 size.BadTop size.Discarded size.BadTop counts
   unfolding measured
   is-choice = refl

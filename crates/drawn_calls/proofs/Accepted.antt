@@ -45,13 +45,13 @@ module _ (bs : List ℕ) (xs : List Float) (asked : TrianglesIn bs) where
       check-call-exactly bs xs pw iw s .accepted .1
       (below, inr (record { asked = record { top = top; surface = surface; filled = filled }; kept = drawn }, rw (e, f) (drawn-words-sound set top p surface drawn filled)))
 
-  -- points and indices that calls drew for the same bytes and levels, whichever calls
+  -- points and indices that any calls drew for the same bytes and levels
   pub call-accepted : {pw iw : List ℕ} → CallDrew bs xs pw → CallConnected bs xs iw → {w′ : List ℕ} {r : ℕ} → Says twoWords (checkSays bs xs pw iw) w′ r → r ≡ 0
   call-accepted d c =
       let w = drew-words bs xs d in
       words-accepted (w .top) (w .drawn) (w .known) (w .are) (connected-words bs xs c .are)
 
-  -- a patch that a call said is discarded has nothing drawn, and two empty lists are right
+  -- if a call answered that the patch is discarded, two empty lists are right
   pub discarded-empty : {v v′ c′ : List ℕ} → PointsCalled bs xs v v′ c′ 1 → {w′ : List ℕ} {r : ℕ} → Says twoWords (checkSays bs xs [] []) w′ r → r ≡ 0
   discarded-empty d s =
       let w = points-call-discards bs xs d .exactly .0 refl in

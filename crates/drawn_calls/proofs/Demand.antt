@@ -25,8 +25,8 @@ use Rattle.drawn_calls.proofs.Words.{drew-words, connected-words, drew-
 some-all : (set : Settings) (p : Patch) (ps : List Point) → SomeCallDrew set p ps → AllPoints set p ps
 some-all set p ps (call bs xs pw d) = drew-all bs xs d
 
--- take any two outer edges, of one patch or of two, triangle or quad, drawn with or without the point switch, by whichever calls: with the same
--- spacing byte, level and top byte, the points drawn lie at the same places on them, q(0) to q(n), and these mirror
+-- take any two outer edges with the same spacing byte, level and top byte, of one patch or of two, triangle or quad, drawn by any calls, in
+-- point mode or not: the drawn points lie at the same places on both, q(0) to q(n), and these places mirror
 pub call-seam : (bs bs′ : List ℕ) (xs xs′ : List Float) {pw pw′ : List ℕ} → CallDrew bs xs pw → CallDrew bs′ xs′ pw′ → (j k : ℕ) → EdgeIn bs j → EdgeIn bs′ k
     → EdgesAlikeIn bs bs′ xs xs′ j k → Seam (settingsIn bs) (patchIn bs xs) (patchIn bs′ xs′) j k (readPoints pw) (readPoints pw′)
 call-seam bs bs′ xs xs′ d d′ j k e f a =
@@ -36,11 +36,11 @@ module _ (bs : List ℕ) (xs : List Float) {pw iw : List ℕ} (d : CallDrew bs x
   demand-drawn : Demand (settingsIn bs) (patchIn bs xs) (readPoints pw) iw
   demand-drawn = rw (connected-words bs xs c .are) (all-demand (drew-all bs xs d))
 
-  -- the third demand of points and indices that calls drew for the same bytes and levels
+  -- the third demand for points and indices that calls drew for the same bytes and levels
   pub call-demand : Surface (patchIn bs xs) → ThirdDemand SomeCallDrew (settingsIn bs) (patchIn bs xs) (readPoints pw) iw
   call-demand f = demand-of SomeCallDrew some-all f (drew-all bs xs d) demand-drawn
 
-  -- and no spot is cut twice
+  -- exactly one triangle holds each spot
   pub call-once : SpotsOnce (settingsIn bs) (patchIn bs xs) (readPoints pw) iw
   call-once = demand-once (settingsIn bs) (drew-words bs xs d .top) (patchIn bs xs) demand-drawn
 

@@ -1,4 +1,4 @@
--- The laws of an edge's positions, of rows of them and of `table`, for the crates above; `Outward` and `Carries` serve this crate only.
+-- The laws of positions, of their rows and of `table`, for other crates; `Outward` and `Carries` are used in this crate only.
 pub mod Table
 pub mod Entries
 pub mod Ends

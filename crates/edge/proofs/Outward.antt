@@ -18,11 +18,11 @@ pub record Outward (xs : List ℕ) (from n L left : ℕ) (ys : List ℕ) : Type 
   pub far : (j : ℕ) → (j < from + left) ⊎ (from + n < j + left) → getD ys j 0 ≡ getD xs j 0
 
 module _ (xs : List ℕ) (from n L : ℕ) where
-  -- no point yet
+  -- before the first turn no point is written
   pub outward-none : (left : ℕ) → n < 2 * left → Outward xs from n L left xs
   outward-none left h = record { size = refl; near = λ j a b. absurd (omega arith); far = λ j a. refl }
 
-  -- two points more, i and n - i, which lie d half segments from the middle
+  -- one turn adds two points, i and n - i, which lie d half segments from the middle
   pub outward-more : (ys : List ℕ) (i d v w : ℕ) → from + n < length xs → 2 * i + d ≡ n → v ≡ 32768 - reach L d → w ≡ 32768 + reach L d
       → Outward xs from n L (i + 1) ys → Outward xs from n L i (set (set ys (from + i) v) (from + (n - i)) w)
   outward-more ys i d v w room e ev ew o = record {
@@ -48,7 +48,7 @@ module _ (xs : List ℕ) (from n L : ℕ) where
         ]
       ]
 
-  -- all points
+  -- after the last turn all points are written
   pub outward-all : (ys : List ℕ) → from + n < length xs → Outward xs from n L 0 ys → Filled xs from n L ys
   outward-all ys room o = record {
     row = record { fits = omega (arith, o .size); at = λ i h. o .near i (omega arith) (omega arith) };

@@ -28,7 +28,7 @@ module _ (n L : ℕ) (v : Valid n L) where
   pub reach-all : reach L n ≡ 32768
   reach-all = omega (arith, reach-most L n, reach-least L n 32768 (omega arith) (omega arith) (omega arith))
 
-  -- two less do not
+  -- two half segments fewer do not reach it
   pub reach-short : (d : ℕ) → d + 2 ≤ n → Short L d (reach L d)
   reach-short d h =
       let a = 2147483648 * d in
@@ -36,7 +36,7 @@ module _ (n L : ℕ) (v : Valid n L) where
       let e : reach L d ≡ a / L = omega arith in
       rw e (record { inside = s; from = div-mul-le-self a L; to = lt-div-mul-add (omega arith) })
 
-  -- and more reach further
+  -- more half segments reach further
   pub reach-more : (d e : ℕ) → d + 2 ≤ n → d < e → reach L d < reach L e
   reach-more d e h k =
       let r = reach L d in

@@ -1,5 +1,4 @@
--- Isolines whose places are in rows.
--- Assumes nothing.
+-- Isolines whose places are in rows. Assumes nothing.
 use Prim.Native.Nat.{ℕ, suc, _+_, _-_, _*_, _≤_}
 use mathlib.Core.Path.{_≡_, refl, ap, _∙_}
 use mathlib.Core.List.{List, [], _∷_}

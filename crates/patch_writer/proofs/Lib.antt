@@ -1,4 +1,4 @@
--- The laws of a cut patch.
+-- The laws of `patch_writer`.
 mod Products
 pub mod Cuts
 pub mod Modes

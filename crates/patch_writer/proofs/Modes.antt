@@ -15,11 +15,11 @@ use Rattle.patch_mesh.specs.Valid.{ValidCut}
 use Rattle.patch_mesh.proofs.Counts.{point-count, primitive-count}
 
 module _ (turn : Bool) (c : Subdivision) {mode told : Bool} where
-  -- there is room for what the mode found asks
+  -- there is room for what the mode gives
   pub mode-room : {n : ℕ} → length (inMode mode turn c) ≤ n → mode ≡ told → length (inMode told turn c) ≤ n
   mode-room {n} h e = subst (λ (m : Bool). length (inMode m turn c) ≤ n) e h
 
-  -- and what was written is what the mode asks
+  -- what was written is what the mode gives
   pub in-mode : {xs xs′ : List ℕ} {at w : ℕ} → mode ≡ told → Wrote xs at (inMode told turn c) xs′ w → Wrote xs at (inMode mode turn c) xs′ w
   in-mode {xs} {xs′} {at} {w} e h = subst (λ (m : Bool). Wrote xs at (inMode m turn c) xs′ w) (sym e) h
 

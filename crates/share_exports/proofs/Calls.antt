@@ -52,7 +52,7 @@ module _ (bs : List ℕ) (d : ℕ) (ok : Bool) (t : Told) where
       go true true false true h = absurd (omega arith)
       go true true false false h = refl
 
-  -- something does
+  -- a refusal
   pub asked-some : (n : ℕ) → asked bs d ok done .number ≡ suc n → asked bs d ok t ≡ asked bs d ok done
   unfolding asked
   asked-some n = go (isTop (topIn bs)) ok (ltb 1 d) (ltb place 5)
@@ -109,7 +109,7 @@ drew-known {e} {s} {set} {p} {w} {r = r} {reply = reply} h is k said =
       indices = rw (told .number) (h .indices);
     }
 
--- the same of equal designers, states, settings and patches
+-- the same for equal designers, states, settings and patches
 called-as : (bs : List ℕ) (d : ℕ) {e e′ : Designer} {s s′ : State} {set set′ : Settings} {p p′ : Patch} {w w′ v v′ i i′ c′ : List ℕ} {r : ℕ}
     → e ≡ e′ → s ≡ s′ → set ≡ set′ → p ≡ p′ → DrawAsked bs d e s set p w w′ v v′ i i′ c′ r → DrawAsked bs d e′ s′ set′ p′ w w′ v v′ i i′ c′ r
 called-as bs d a b c f h = rw (← a, ← b, ← c, ← f) h

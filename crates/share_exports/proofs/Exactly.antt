@@ -96,7 +96,7 @@ module _ (bs : List ℕ) (d : ℕ) (ok : Bool) (p : Patch) (n v i : ℕ) where
   abbrev Right : ShareAnswer → Type 0
   Right x = ShareMeans bs d ok p n v i m k x
 
-  -- the answer by name, by what each test found
+  -- the answer, by what each test found
   abbrev named : Bool → Bool → Bool → Bool → Bool → Bool → Bool → Bool → ShareAnswer
   named t o e u g a b c =
       cond t (cond o (cond e no-designer (cond u (unknown place) (cond g (found drawing.Discarded) (cond a (found drawing.TooManyPoints)

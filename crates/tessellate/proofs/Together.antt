@@ -68,7 +68,7 @@ module _ (set : Settings) (p : Patch) where
   point-words-drawn r {P = P} d e =
       front P (3 * P) d e (omega (arith, points-fit r d e .count, words-length (points (subdivisionOf set p))))
 
-  -- the points that were drawn, read off the list
+  -- the points that were drawn, read from the list
   pub points-drawn : (r : PointsAnswer) {v v′ : List ℕ} {P : ℕ} → DrewPoints set p v v′ r → toldPoints r ≡ drew P
       → Top (set .top) × (discards p ≡ false) × (readPoints (take (3 * P) v′) ≡ points (subdivisionOf set p))
   points-drawn r d e =
@@ -82,14 +82,14 @@ module _ (set : Settings) (p : Patch) where
       let f = drawn-means set p 3 (indicesOf set p) (length i) (indicesOf set p) I (sym e ∙ d .answer) in
       (f .top, f .drawn, front I I d e (f .count))
 
-  -- demand 3 of what the two operations give for the same patch and settings
+  -- demand 3 for what the two operations give for the same patch and settings
   pub demand-together : (r : PointsAnswer) (s : IndicesAnswer) {v v′ i i′ : List ℕ} {P I : ℕ} → DrewPoints set p v v′ r → DrewIndices set p i i′ s
       → toldPoints r ≡ drew P → toldIndices s ≡ drew I → Demand set p (readPoints (take (3 * P) v′)) (take I i′)
   demand-together r s d d′ e e′ =
       let ps = points-drawn r d e in
       rw (ps .2, indices-drawn s d′ e′ .2) (demand set (ps .0) p (ps .1))
 
-  -- and no spot is cut twice
+  -- exactly one triangle holds each spot
   pub once-together : (r : PointsAnswer) (s : IndicesAnswer) {v v′ i i′ : List ℕ} {P I : ℕ} → DrewPoints set p v v′ r → DrewIndices set p i i′ s
       → toldPoints r ≡ drew P → toldIndices s ≡ drew I → SpotsOnce set p (readPoints (take (3 * P) v′)) (take I i′)
   once-together r s d d′ e e′ = demand-once set (points-drawn r d e .0) p (demand-together r s d d′ e e′)

@@ -42,7 +42,7 @@ module _ (base : List ℕ) (from p q r : ℕ) where
   pub eights : (k : ℕ) → flat (λ j. flat (sums base (from + 24 * j) p q r) 0 8) 0 k ≡ flat (sums base from p q r) 0 (8 * k)
   eights k = eights-from 0 k
 
-  -- the first eight points, and from the m-th on all others eight by eight
+  -- the first eight points, then all points from the m-th on, eight at a time
   pub run-wrote : (n k m : ℕ) {xs mid out : List ℕ} {at w w′ v : ℕ} → at ≤ length xs → m + 8 * k ≡ n → m ≤ 8 → 8 ≤ n
       → Wrote xs at (flat (sums base from p q r) 0 8) mid w → v ≡ at + 3 * m → Wrote mid v (flat (sums base (from + 3 * m) p q r) 0 (8 * k)) out w′
       → Wrote xs at (flat (sums base from p q r) 0 n) out w′

@@ -105,7 +105,7 @@ laid-first row p q =
       other-start = λ i h. third-at Q n q i h ∙ omega arith;
     }
 
--- d taken away from y, by what adds to 0 with it
+-- y − d, by adding −d modulo 2^32
 taken : (y d : ℕ) → d ≤ y → y < 4294967296 → (y + (4294967296 - d) % 4294967296) % 4294967296 ≡ y - d
 taken y zero h l = omega arith
 taken y (suc d) h l =
@@ -115,7 +115,7 @@ taken y (suc d) h l =
 taken-from : (z y d e less r : ℕ) → less ≡ (4294967296 - d) % 4294967296 → z ≡ y → d ≡ e → e ≤ y → y < 4294967296 → y - e ≡ r → (z + less) % 4294967296 ≡ r
 taken-from z y d e less r p q s h l m = ap (λ (k : ℕ). (k + less) % 4294967296) q ∙ ap (λ (k : ℕ). (y + k) % 4294967296) p ∙ taken y d (omega arith) l ∙ ap (λ (k : ℕ). y - k) s ∙ m
 
--- ---- the three edges of the ring at the places of a row but for the last; `less` is what takes the ring's depth away
+-- ---- the three edges of the ring at all places of a row except the last; `less` is the negative of the ring's depth
 module _ {base other row : List ℕ} {from : ℕ} (laid : Laid base other from row) (some : 2 ≤ length row)
     (clear : Clear (places (take (length row - 1) row) 0) (listed (take (length row - 1) row))) (less : ℕ) (is : less ≡ (4294967296 - getD row 0 0) % 4294967296) where
   depth-is : places (take (length row - 1) row) 0 ≡ getD row 0 0

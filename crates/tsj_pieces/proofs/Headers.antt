@@ -26,7 +26,7 @@ module _ {hs : List ℕ} {input : Input} (f : Filled 5 hs input) where
     pub unread-text : (out : List ℕ) → take (length (headerText hs input)) out ≡ headerText hs input
     unread-text out = rw h
 
-  -- the text of the header was written to the front of out, and handed to writing
+  -- the text of the header is at the front of out, and was passed to a write
   module _ (h : input .failed ≡ false) {found : Header} (e : found ≡ headerIn hs input) {xs out : List ℕ} {w : ℕ} (p : Wrote xs 0 (startText found) out w) where
     text-is : headerText hs input ≡ startText found
     text-is = rw (h, e)

@@ -54,11 +54,11 @@ beyond a b m h = elim (decLe (a + b) m) [
   | no l ↦ omega arith
 ]
 
--- a chunk after which reading goes on is full
+-- a chunk that another chunk follows is full
 full-size : {v : Version} {bs : List ℕ} {r : Chunk} → AnsweredChunk v bs r → r .more ≡ true → r .input .count ≡ chunkSize v
 full-size {v} {bs} {r} a h = part-full (r .input .count) (chunkSize v) (not (r .output .failed)) (sym (a .more) ∙ h)
 
--- and not empty
+-- a full chunk is not empty
 pub full-more : {v : Version} {bs : List ℕ} {r : Chunk} → AnsweredChunk v bs r → r .more ≡ true → 0 < r .input .count
 full-more {v} a h = omega (arith, full-size a h, settings-least v)
 

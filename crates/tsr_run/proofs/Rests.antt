@@ -35,7 +35,7 @@ pub record Full (start so-far : Replay) (read : ℕ) : Type 0 where
 pub full-start : (start : Replay) → Full start start 0
 full-start start = record { earlier = []; chunks = 0; whole = refl; counted = refl; is = sym (go-on-none start) }
 
--- a chunk after which reading goes on is full
+-- a chunk that another chunk follows is full
 pub full-more : {before : Replay} {bs : List ℕ} {r : Chunk} → ReplayedChunk before bs r → r .more ≡ true → r .input .count ≡ chunkSize
 full-more {r = r} a h = part-full (r .input .count) chunkSize (isOpen (r .«so_far»)) (sym (a .more) ∙ h)
 

@@ -89,7 +89,7 @@ module _ (e : ℕ → Run) (rows columns : Run) (good : (k : ℕ) → GoodRun (e
         rw z at (in-grid (v - sum c 4) (omega (arith, listed .size)))
   ]
 
--- ---- what lies between them
+-- ---- the triangles between them
 nearest-is : (c : ℕ → ℕ) (m n k : ℕ) → innerSide (gridOn c n) m n k ≡ record { segments = nearestSegments m n k; vertex = nearestLine c m n k }
 nearest-is c m n zero = refl
 nearest-is c m n (suc zero) = refl

@@ -79,7 +79,7 @@ clamps s t x top = record {
 
 -- ---- rounding a level is rounding its whole parts
 module _ (f : Float) (p : T (positive f)) (L : ℕ) (l : LeastParts f L) where
-  -- f is not above the whole number k exactly where L is not above 65536 k
+  -- f is not above the whole number k exactly if L is not above 65536 k
   whole-from : (k : ℕ) → T (le f (whole k)) → L ≤ 65536 * k
   whole-from k h =
       let above : T (positive (whole k)) = above-of-le f (whole k) p h in
@@ -137,7 +137,7 @@ raised-valid Equal = omega arith
 raised-valid FractionalEven = omega arith
 raised-valid FractionalOdd = omega arith
 
--- of two levels with as many segments, the lower has no greater L
+-- of two levels with the same number of segments, the lower level has no greater L
 scaled-rises : (s : Spacing) (L L′ : ℕ) → segmentsAt s L .count ≡ segmentsAt s L′ .count → L ≤ L′ → segmentsAt s L .scaled ≤ segmentsAt s L′ .scaled
 scaled-rises Equal L L′ e h = omega arith
 scaled-rises FractionalEven L L′ e h = h

@@ -57,7 +57,7 @@ module _ (set : Settings) (p : Patch) where
     untouched = λ e. d .list ∙ rw e;
   }
 
-  -- with an allowed top, each operation answers "discarded" exactly where the chapter discards the patch
+  -- with a good top level, each operation answers "discarded" exactly if the chapter discards the patch
   pub discarded-points : Top (set .top) → (r : PointsAnswer) {v v′ : List ℕ} → DrewPoints set p v v′ r → DiscardedExactly p (toldPoints r) v v′
   discarded-points top r {v} d = discarded-by 3 (3 * pointsOf set p) (length v) (pointsOf set p) (λ e. omega arith) top d
 

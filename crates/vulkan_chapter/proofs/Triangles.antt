@@ -160,7 +160,7 @@ module _ (e : ℕ → Run) (inside : Run) (outer-good : (k : ℕ) → GoodRun (e
         ]
   ]
 
--- ---- what lies between them
+-- ---- the triangles between them
 module _ (c : ℕ → ℕ) (n : ℕ) (two : 2 ≤ n) where
   abbrev R : ℕ → ℕ → NumberedLine
   R = ringLine c n
