@@ -2,7 +2,7 @@
 use Prim.Native.Nat.{ℕ}
 use mathlib.Core.List.{List, [], _∷_}
 
--- an answer's number and the values beside it
+-- an answer's number and its values
 pub record Told : Type 0 where
   pub number : ℕ
   pub values : List ℕ

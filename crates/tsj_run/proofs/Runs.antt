@@ -48,7 +48,7 @@ module _ (rest : Rest) {bs : List ℕ} {r : Answered} (b : AnsweredRest rest bs 
       let last = take (r .last .count) bs in
       empty _ (omega (arith, joined-length (r .last .failed) (b .earlier) last, b .last .counts, b .last .most))
 
--- the pieces are whole records but for the last
+-- all pieces except the last are whole records
 whole-pieces : (rest : Rest) {bs : List ℕ} {r : Answered} (b : AnsweredRest rest bs r) → WholeAfter rest (pieces (r .last .failed) (b .earlier) (take (r .last .count) bs))
 whole-pieces Nothing b = tt
 whole-pieces (Records v) {bs} {r} b = go (r .last .failed)

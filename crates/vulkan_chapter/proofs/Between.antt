@@ -44,7 +44,7 @@ member-joined L (suc n) k h m = elim (decLe n k) [
   | no l ↦ Memᴰ·append-left (L n) (member-joined L n k (omega arith) m)
 ]
 
--- what holds of every triangle, whatever the order of its corners, holds of the turned ones
+-- what holds for every triangle, whatever the order of its corners, holds for the turned triangles
 pub each-turned : (b : Bool) {Q : Triangle → Type 0} (ts : List Triangle) → ((s t : Triangle) → SameCorners s t → Q t → Q s) → All Q ts
     → (t : Triangle) → Member t (map (turned b) ts) → Q t
 each-turned b ts same h t m =
