@@ -17,21 +17,9 @@ Inv-loop points indices positive count k₀ k =
 abbrev μ-loop : tie.MeasureT-loop
 μ-loop points indices positive count k₀ k = count - k
 
-loop-holds : tie.Need-loop-holds Inv-loop μ-loop
-loop-holds c = passed-none _ _
-
-turns-at-requires : tie.Need-turns-at-requires Inv-loop μ-loop
-turns-at-requires c κs = search needs
-
 returns : tie.Need-returns Inv-loop μ-loop
 unfolding firstTurned
 returns c = search-found (triangles-count (c .before .before .before .before .before .before .args .indices .now)) (c .before .before .before .loop .inv) (omega arith) (rw (← c .before .turns-at .ensures) (c .if1 .taken))
-
-add-k : tie.Need-add-k Inv-loop μ-loop
-add-k c = search needs
-
-loop-less : tie.Need-loop-less Inv-loop μ-loop
-loop-less c = search needs
 
 loop-again : tie.Need-loop-again Inv-loop μ-loop
 loop-again c = passed-more (c .before .before .before .loop .inv) (omega arith) (rw (← c .before .turns-at .ensures) (c .if1 .left))
@@ -44,12 +32,5 @@ pub first-turned-spec : {M : Type 1} → statement M
 first-turned-spec =
     tie.close
     (tie.spec
-    Inv-loop
-    μ-loop
-    loop-holds
-    turns-at-requires
-    returns
-    add-k
-    loop-less
-    loop-again
-    returns-2)
+    Inv-loop μ-loop (λ c. passed-none _ _) (λ c κs. search needs) returns (λ c. search needs)
+    (λ c. search needs) loop-again returns-2)

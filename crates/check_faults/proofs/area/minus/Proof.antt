@@ -7,12 +7,6 @@ use borrow.Author.Needs.{needs}
 use Rattle.check_faults.proofs.area.minus.Statement.{statement}
 use Rattle.check_faults.proofs.area.minus.Tie as tie
 
-cast-result : tie.Need-cast-result
-cast-result c = search needs
-
-cast-result-2 : tie.Need-cast-result-2
-cast-result-2 c = search needs
-
 sub-result : tie.Need-sub-result
 sub-result c =
     let a = c .args in
@@ -24,4 +18,4 @@ returns c =
     toZ-ofZ (sub-result c) ∙ rw (word-read (a .a) (omega arith), word-read (a .b) (omega arith))
 
 pub minus-spec : {M : Type 1} → statement M
-minus-spec = tie.close (tie.spec cast-result cast-result-2 sub-result returns)
+minus-spec = tie.close (tie.spec (λ c. search needs) (λ c. search needs) sub-result returns)

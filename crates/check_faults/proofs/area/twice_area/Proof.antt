@@ -42,5 +42,5 @@ pub twice-area-spec : {M : Type 1} → statement M
 twice-area-spec =
     tie.close
     (tie.spec
-    (λ c κs. search needs) (λ c κs. search needs) times-requires (λ c κs. search needs) (λ c κs. search needs)
-    times-requires-2 less-requires returns)
+    (λ c κs. search needs) (λ c κs. search needs) times-requires (λ c κs. search needs)
+    (λ c κs. search needs) times-requires-2 less-requires returns)

@@ -17,24 +17,9 @@ Inv-loop points triangles count k₀ k = Passed (λ i. not (inside triangles (at
 abbrev μ-loop : tie.MeasureT-loop
 μ-loop points triangles count k₀ k = count - k
 
-loop-holds : tie.Need-loop-holds Inv-loop μ-loop
-loop-holds c = passed-none _ _
-
-point-at-requires : tie.Need-point-at-requires Inv-loop μ-loop
-point-at-requires c κs = search needs
-
-is-inside-requires : tie.Need-is-inside-requires Inv-loop μ-loop
-is-inside-requires c κs = search needs
-
 returns : tie.Need-returns Inv-loop μ-loop
 unfolding firstOutside
 returns c = search-found (points-count (c .before .before .before .before .before .before .args .points .now)) (c .before .before .before .before .loop .inv) (omega arith) (rw (← c .before .before .point-at .ensures, ← c .before .is-inside .ensures) (c .if1 .taken))
-
-add-k : tie.Need-add-k Inv-loop μ-loop
-add-k c = search needs
-
-loop-less : tie.Need-loop-less Inv-loop μ-loop
-loop-less c = search needs
 
 loop-again : tie.Need-loop-again Inv-loop μ-loop
 loop-again c = passed-more (c .before .before .before .before .loop .inv) (omega arith) (rw (← c .before .before .point-at .ensures, ← c .before .is-inside .ensures) (c .if1 .left))
@@ -47,13 +32,5 @@ pub first-outside-spec : {M : Type 1} → statement M
 first-outside-spec =
     tie.close
     (tie.spec
-    Inv-loop
-    μ-loop
-    loop-holds
-    point-at-requires
-    is-inside-requires
-    returns
-    add-k
-    loop-less
-    loop-again
-    returns-2)
+    Inv-loop μ-loop (λ c. passed-none _ _) (λ c κs. search needs) (λ c κs. search needs) returns
+    (λ c. search needs) (λ c. search needs) loop-again returns-2)

@@ -19,12 +19,6 @@ Inv-loop points indices p q count k₀ k =
 abbrev μ-loop : tie.MeasureT-loop
 μ-loop points indices p q count k₀ k = count - k
 
-loop-holds : tie.Need-loop-holds Inv-loop μ-loop
-loop-holds c = passed-none _ _
-
-triangle-at-requires : tie.Need-triangle-at-requires Inv-loop μ-loop
-triangle-at-requires c κs = search needs
-
 is-bounded-requires : tie.Need-is-bounded-requires Inv-loop μ-loop
 is-bounded-requires c κs =
     let x = c .before .before .before .before .before in
@@ -32,12 +26,6 @@ is-bounded-requires c κs =
 
 returns : tie.Need-returns Inv-loop μ-loop
 returns c = some-found (triangles-count (c .before .before .before .before .before .before .before .args .indices .now)) (c .before .before .before .before .loop .inv) (omega arith) (rw (← c .before .before .triangle-at .ensures, ← c .before .is-bounded .ensures) (c .if1 .taken))
-
-add-k : tie.Need-add-k Inv-loop μ-loop
-add-k c = search needs
-
-loop-less : tie.Need-loop-less Inv-loop μ-loop
-loop-less c = search needs
 
 loop-again : tie.Need-loop-again Inv-loop μ-loop
 loop-again c = passed-more (c .before .before .before .before .loop .inv) (omega arith) (rw (← c .before .before .triangle-at .ensures, ← c .before .is-bounded .ensures) (c .if1 .left))
@@ -49,13 +37,5 @@ pub is-drawn-spec : {M : Type 1} → statement M
 is-drawn-spec =
     tie.close
     (tie.spec
-    Inv-loop
-    μ-loop
-    loop-holds
-    triangle-at-requires
-    is-bounded-requires
-    returns
-    add-k
-    loop-less
-    loop-again
-    returns-2)
+    Inv-loop μ-loop (λ c. passed-none _ _) (λ c κs. search needs) is-bounded-requires returns
+    (λ c. search needs) (λ c. search needs) loop-again returns-2)

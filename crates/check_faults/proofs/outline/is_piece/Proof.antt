@@ -18,20 +18,8 @@ Inv-loop outline positive p q k₀ k =
 abbrev μ-loop : tie.MeasureT-loop
 μ-loop outline positive p q k₀ k = length outline / 3 - k
 
-loop-holds : tie.Need-loop-holds Inv-loop μ-loop
-loop-holds c = passed-none _ _
-
-is-piece-at-requires : tie.Need-is-piece-at-requires Inv-loop μ-loop
-is-piece-at-requires c κs = search needs
-
 returns : tie.Need-returns Inv-loop μ-loop
 returns c = some-found (points-count (c .before .before .before .before .before .args .outline .now)) (c .before .before .before .loop .inv) (omega arith) (rw (← c .before .is-piece-at .ensures) (c .if1 .taken))
-
-add-k : tie.Need-add-k Inv-loop μ-loop
-add-k c = search needs
-
-loop-less : tie.Need-loop-less Inv-loop μ-loop
-loop-less c = search needs
 
 loop-again : tie.Need-loop-again Inv-loop μ-loop
 loop-again c = passed-more (c .before .before .before .loop .inv) (omega arith) (rw (← c .before .is-piece-at .ensures) (c .if1 .left))
@@ -43,12 +31,5 @@ pub is-piece-spec : {M : Type 1} → statement M
 is-piece-spec =
     tie.close
     (tie.spec
-    Inv-loop
-    μ-loop
-    loop-holds
-    is-piece-at-requires
-    returns
-    add-k
-    loop-less
-    loop-again
-    returns-2)
+    Inv-loop μ-loop (λ c. passed-none _ _) (λ c κs. search needs) returns (λ c. search needs)
+    (λ c. search needs) loop-again returns-2)

@@ -8,18 +8,6 @@ use borrow.Author.Needs.{needs}
 use Rattle.check_faults.proofs.outline.next_point.Statement.{statement}
 use Rattle.check_faults.proofs.outline.next_point.Tie as tie
 
-add-if1 : tie.Need-add-if1
-add-if1 c = search needs
-
-add-point-at : tie.Need-add-point-at
-add-point-at c = search needs
-
-point-at-requires : tie.Need-point-at-requires
-point-at-requires c κs = search needs
-
-point-at-requires-2 : tie.Need-point-at-requires-2
-point-at-requires-2 c κs = search needs
-
 returns : tie.Need-returns
 returns c =
     let x = c .before .before .before in
@@ -35,4 +23,5 @@ returns-2 c =
 pub next-point-spec : {M : Type 1} → statement M
 next-point-spec =
     tie.close
-    (tie.spec add-if1 add-point-at point-at-requires point-at-requires-2 returns returns-2)
+    (tie.spec
+    (λ c. search needs) (λ c. search needs) (λ c κs. search needs) (λ c κs. search needs) returns returns-2)

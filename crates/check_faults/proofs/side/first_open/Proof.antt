@@ -17,24 +17,12 @@ Inv-loop outline points indices positive from count m₀ m = Passed (λ i. not (
 abbrev μ-loop : tie.MeasureT-loop
 μ-loop outline points indices positive from count m₀ m = count - m
 
-mul-count : tie.Need-mul-count Inv-loop μ-loop
-mul-count c = search needs
-
 loop-holds : tie.Need-loop-holds Inv-loop μ-loop
 loop-holds c = let p = c .before .before .before .pre in record { most = p .1 .0; below = λ i l. ap not (p .1 .1 .each i l) }
-
-is-closed-requires : tie.Need-is-closed-requires Inv-loop μ-loop
-is-closed-requires c κs = search needs
 
 returns : tie.Need-returns Inv-loop μ-loop
 unfolding firstOpen
 returns c = search-found (ap (λ n. n * 3) (triangles-count (c .before .before .before .before .before .before .before .args .indices .now))) (c .before .before .before .loop .inv) (omega arith) (rw (← c .before .is-closed .ensures) (c .if1 .taken))
-
-add-m : tie.Need-add-m Inv-loop μ-loop
-add-m c = search needs
-
-loop-less : tie.Need-loop-less Inv-loop μ-loop
-loop-less c = search needs
 
 loop-again : tie.Need-loop-again Inv-loop μ-loop
 loop-again c = passed-more (c .before .before .before .loop .inv) (omega arith) (rw (← c .before .is-closed .ensures) (c .if1 .left))
@@ -47,13 +35,5 @@ pub first-open-spec : {M : Type 1} → statement M
 first-open-spec =
     tie.close
     (tie.spec
-    Inv-loop
-    μ-loop
-    mul-count
-    loop-holds
-    is-closed-requires
-    returns
-    add-m
-    loop-less
-    loop-again
-    returns-2)
+    Inv-loop μ-loop (λ c. search needs) loop-holds (λ c κs. search needs) returns (λ c. search needs)
+    (λ c. search needs) loop-again returns-2)

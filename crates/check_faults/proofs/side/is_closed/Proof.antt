@@ -13,15 +13,6 @@ use Rattle.check_faults.proofs.side.is_joined.Reads as is-joined-reads
 use Rattle.check_faults.proofs.side.start_of.Reads as start-of-reads
 use Rattle.check_searches.proofs.triangle.triangle_at.Reads as triangle-at-reads
 
-triangle-at-requires : tie.Need-triangle-at-requires
-triangle-at-requires c κs = search needs
-
-start-of-requires : tie.Need-start-of-requires
-start-of-requires c κs = search needs
-
-end-of-requires : tie.Need-end-of-requires
-end-of-requires c κs = search needs
-
 is-joined-requires : tie.Need-is-joined-requires
 is-joined-requires c κs =
     let x = c .before .before .before .before .before .before in
@@ -37,4 +28,4 @@ returns c = rw (← c .before .before .before .triangle-at .ensures, ← c .befo
 pub is-closed-spec : {M : Type 1} → statement M
 is-closed-spec =
     tie.close
-    (tie.spec triangle-at-requires start-of-requires end-of-requires is-joined-requires returns)
+    (tie.spec (λ c κs. search needs) (λ c κs. search needs) (λ c κs. search needs) is-joined-requires returns)

@@ -17,27 +17,12 @@ Inv-loop indices count k₀ k = Passed (λ i. leb count (getD indices i 0)) (len
 abbrev μ-loop : tie.MeasureT-loop
 μ-loop indices count k₀ k = length indices - k
 
-loop-holds : tie.Need-loop-holds Inv-loop μ-loop
-loop-holds c = passed-none _ _
-
-mul-if1 : tie.Need-mul-if1 Inv-loop μ-loop
-mul-if1 c = search needs
-
-shared-slice-read-if1 : tie.Need-shared-slice-read-if1 Inv-loop μ-loop
-shared-slice-read-if1 c = search needs
-
 cast-if1 : tie.Need-cast-if1 Inv-loop μ-loop
 cast-if1 c = omega (arith, c .shared-slice-known .given (c .before .before .loop .k))
 
 returns : tie.Need-returns Inv-loop μ-loop
 unfolding firstUnknown
 returns c = search-found refl (c .before .before .before .loop .inv) (omega arith) (le-leb _ _ (c .if1 .taken))
-
-add-k : tie.Need-add-k Inv-loop μ-loop
-add-k c = search needs
-
-loop-less : tie.Need-loop-less Inv-loop μ-loop
-loop-less c = search needs
 
 loop-again : tie.Need-loop-again Inv-loop μ-loop
 loop-again c = passed-more (c .before .before .before .loop .inv) (omega arith) (lt-leb _ _ (c .if1 .left))
@@ -50,14 +35,5 @@ pub first-unknown-spec : {M : Type 1} → statement M
 first-unknown-spec =
     tie.close
     (tie.spec
-    Inv-loop
-    μ-loop
-    loop-holds
-    mul-if1
-    shared-slice-read-if1
-    cast-if1
-    returns
-    add-k
-    loop-less
-    loop-again
-    returns-2)
+    Inv-loop μ-loop (λ c. passed-none _ _) (λ c. search needs) (λ c. search needs) cast-if1 returns
+    (λ c. search needs) (λ c. search needs) loop-again returns-2)

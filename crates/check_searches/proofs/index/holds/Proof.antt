@@ -17,47 +17,15 @@ Inv-loop indices from to x y found₀ k₀ found k = (from ≤ k) × (found ≡ 
 abbrev μ-loop : tie.MeasureT-loop
 μ-loop indices from to x y found₀ k₀ found k = to - k
 
-loop-holds : tie.Need-loop-holds Inv-loop μ-loop
-loop-holds c = (omega arith, λ e. lacks-none _ _ _ _)
-
-mul-found : tie.Need-mul-found Inv-loop μ-loop
-mul-found c = search needs
-
-shared-slice-read-found : tie.Need-shared-slice-read-found Inv-loop μ-loop
-shared-slice-read-found c = search needs
-
-mul-found-2 : tie.Need-mul-found-2 Inv-loop μ-loop
-mul-found-2 c = search needs
-
-shared-slice-read-found-2 : tie.Need-shared-slice-read-found-2 Inv-loop μ-loop
-shared-slice-read-found-2 c = search needs
-
-add-k : tie.Need-add-k Inv-loop μ-loop
-add-k c = search needs
-
-loop-less : tie.Need-loop-less Inv-loop μ-loop
-loop-less c = search needs
-
 loop-again : tie.Need-loop-again Inv-loop μ-loop
 loop-again c =
     let l = c .before .before .before .loop in
     (omega arith, λ e. lacks-more _ (l .inv .0) (l .inv .1) e)
 
-returns : tie.Need-returns Inv-loop μ-loop
-returns c = λ e. lacks-to (c .before .loop .inv .1 e) (omega arith)
-
 pub holds-spec : {M : Type 1} → statement M
 holds-spec =
     tie.close
     (tie.spec
-    Inv-loop
-    μ-loop
-    loop-holds
-    mul-found
-    shared-slice-read-found
-    mul-found-2
-    shared-slice-read-found-2
-    add-k
-    loop-less
-    loop-again
-    returns)
+    Inv-loop μ-loop (λ c. (omega arith, λ e. lacks-none _ _ _ _)) (λ c. search needs) (λ c. search needs)
+    (λ c. search needs) (λ c. search needs) (λ c. search needs) (λ c. search needs) loop-again
+    (λ c. λ e. lacks-to (c .before .loop .inv .1 e) (omega arith)))

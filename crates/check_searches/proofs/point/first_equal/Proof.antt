@@ -16,37 +16,15 @@ Inv-loop points q end i₀ i = Passed (λ k. samePoint (at (readPoints points) k
 abbrev μ-loop : tie.MeasureT-loop
 μ-loop points q end i₀ i = end - i
 
-loop-holds : tie.Need-loop-holds Inv-loop μ-loop
-loop-holds c = passed-none _ _
-
-lies-at-requires : tie.Need-lies-at-requires Inv-loop μ-loop
-lies-at-requires c κs = search needs
-
 returns : tie.Need-returns Inv-loop μ-loop
 returns c = search-found refl (c .before .before .before .loop .inv) (omega arith) (sym (c .before .lies-at .ensures) ∙ c .if1 .taken)
 
-add-i : tie.Need-add-i Inv-loop μ-loop
-add-i c = search needs
-
-loop-less : tie.Need-loop-less Inv-loop μ-loop
-loop-less c = search needs
-
 loop-again : tie.Need-loop-again Inv-loop μ-loop
 loop-again c = passed-more (c .before .before .before .loop .inv) (omega arith) (sym (c .before .lies-at .ensures) ∙ c .if1 .left)
-
-returns-2 : tie.Need-returns-2 Inv-loop μ-loop
-returns-2 c = search-none refl (c .before .loop .inv) (omega arith)
 
 pub first-equal-spec : {M : Type 1} → statement M
 first-equal-spec =
     tie.close
     (tie.spec
-    Inv-loop
-    μ-loop
-    loop-holds
-    lies-at-requires
-    returns
-    add-i
-    loop-less
-    loop-again
-    returns-2)
+    Inv-loop μ-loop (λ c. passed-none _ _) (λ c κs. search needs) returns (λ c. search needs)
+    (λ c. search needs) loop-again (λ c. search-none refl (c .before .loop .inv) (omega arith)))

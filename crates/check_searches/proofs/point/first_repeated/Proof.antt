@@ -16,21 +16,9 @@ Inv-loop points count j₀ j = Passed (repeats (readPoints points)) count j
 abbrev μ-loop : tie.MeasureT-loop
 μ-loop points count j₀ j = count - j
 
-loop-holds : tie.Need-loop-holds Inv-loop μ-loop
-loop-holds c = passed-none _ _
-
-is-repeated-requires : tie.Need-is-repeated-requires Inv-loop μ-loop
-is-repeated-requires c κs = search needs
-
 returns : tie.Need-returns Inv-loop μ-loop
 unfolding firstRepeated
 returns c = search-found (points-count (c .before .before .before .before .before .args .points .now)) (c .before .before .before .loop .inv) (omega arith) (sym (c .before .is-repeated .ensures) ∙ c .if1 .taken)
-
-add-j : tie.Need-add-j Inv-loop μ-loop
-add-j c = search needs
-
-loop-less : tie.Need-loop-less Inv-loop μ-loop
-loop-less c = search needs
 
 loop-again : tie.Need-loop-again Inv-loop μ-loop
 loop-again c = passed-more (c .before .before .before .loop .inv) (omega arith) (sym (c .before .is-repeated .ensures) ∙ c .if1 .left)
@@ -43,12 +31,5 @@ pub first-repeated-spec : {M : Type 1} → statement M
 first-repeated-spec =
     tie.close
     (tie.spec
-    Inv-loop
-    μ-loop
-    loop-holds
-    is-repeated-requires
-    returns
-    add-j
-    loop-less
-    loop-again
-    returns-2)
+    Inv-loop μ-loop (λ c. passed-none _ _) (λ c κs. search needs) returns (λ c. search needs)
+    (λ c. search needs) loop-again returns-2)

@@ -10,5 +10,4 @@ point-at-spec =
     (tie.spec
     (λ c. search needs) (λ c. search needs) (λ c. search needs) (λ c. search needs) (λ c. search needs)
     (λ c. search needs) (λ c. search needs) (λ c. search needs) (λ c. search needs) (λ c. search needs)
-    (λ c. search needs)
-    (λ c. search (point-read, needs)))
+    (λ c. search needs) (λ c. search (point-read, needs)))

@@ -5,16 +5,10 @@ use borrow.Author.Needs.{needs}
 use Rattle.check_searches.proofs.triangle.same_side.Statement.{statement}
 use Rattle.check_searches.proofs.triangle.same_side.Tie as tie
 
-packed-requires : tie.Need-packed-requires
-packed-requires c κs = search needs
-
-packed-requires-2 : tie.Need-packed-requires-2
-packed-requires-2 c κs = search needs
-
 returns : tie.Need-returns
 returns c =
     let a = c .before .before .args in
     rw (c .before .packed .ensures, c .packed2 .ensures) (packed-same (a .x) (a .y) (a .p) (a .q) (omega arith) (omega arith))
 
 pub same-side-spec : {M : Type 1} → statement M
-same-side-spec = tie.close (tie.spec packed-requires packed-requires-2 returns)
+same-side-spec = tie.close (tie.spec (λ c κs. search needs) (λ c κs. search needs) returns)

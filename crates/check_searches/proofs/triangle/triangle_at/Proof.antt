@@ -10,5 +10,4 @@ triangle-at-spec =
     (tie.spec
     (λ c. search needs) (λ c. search needs) (λ c. search needs) (λ c. search needs) (λ c. search needs)
     (λ c. search needs) (λ c. search needs) (λ c. search needs) (λ c. search needs) (λ c. search needs)
-    (λ c. search needs)
-    (λ c. search (triangle-read, needs)))
+    (λ c. search needs) (λ c. search (triangle-read, needs)))
