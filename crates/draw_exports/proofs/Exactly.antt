@@ -24,12 +24,14 @@ use Rattle.tessellate.specs.declared.answer.IndicesAnswer.the-variants as indic
 use Rattle.tessellate.specs.Answers.{toldSize, toldPoints, toldIndices, pointsOf, indicesOf, verdict, pointsVerdict, indicesVerdict}
 use Rattle.level.proofs.Top.{top-as, is-top, no-top, top-no}
 use Rattle.tessellate.proofs.Measured.{measured, measured-told, sizeIn, size-back}
-use Rattle.call_answers.specs.Replies.{unknownSetting, badTop, oneWord}
+use Rattle.answer_codes.specs.Told.{Told}
+use Rattle.call_answers.specs.Replies.{unknownSetting, badTop, oneWord, Says}
 use Rattle.call_answers.proofs.Replies.{says-as}
 use Rattle.call_answers.proofs.ClampBytes.{six-numbers}
-use Rattle.call_inputs.specs.Inputs.{patchIn, settingsIn}
+use Rattle.call_inputs.specs.Inputs.{patchIn, settingsIn, topIn}
 use Rattle.call_inputs.specs.Asked.{known}
-use Rattle.call_inputs.proofs.Exactly.{Answers, Readable, called-exactly}
+use Rattle.call_inputs.specs.Exactly.{CalledExactly}
+use Rattle.call_inputs.proofs.Exactly.{Readable, called-exactly}
 use Rattle.draw_exports.specs.Calls.{MeasureCalled, PointsCalled, IndicesCalled}
 use Rattle.draw_exports.specs.Exactly.{Discarded, Drawable, SizeMeans, PointsMeans, IndicesMeans, measureWords, MeasureExactly, PointsExactly, IndicesExactly}
 
@@ -73,6 +75,14 @@ module _ (set : Settings) (p : Patch) (need have : ℕ) {A : Type 0} (bad none n
 pub both : {A : Type 0} (Means : A → Type 0) {right : A} → Means right → ((a : A) → Means a → right ≡ a) → (a : A) → right ≡ a ↔ Means a
 both Means m back a = (λ e. subst Means e m, back a)
 
+-- a call answers exactly where its operation does: `right` is the operation's answer, and `t` what the call has to say of it
+call-exactly : {A : Type 0} (bs : List ℕ) (words : List ℕ → List ℕ) (told : A → Told) (Means : A → Type 0) (right bad : A) (back : ℕ → List ℕ → A) {t : Told} {w : List ℕ} {r : ℕ}
+    → ((a : A) → right ≡ a ↔ Means a) → told bad ≡ badTop → ((Top (topIn bs) → ⊥) → Means bad) → Readable words told back → told right ≡ t
+    → Says words (known bs badTop unknownSetting t) w r → CalledExactly words told bs Means w r
+call-exactly bs words told Means right bad back exactly number no-top read is says =
+    called-exactly bs told Means right bad (record { exactly = exactly; bad-number = number; bad-top = λ n. exactly bad .1 (no-top n) }) words back read
+    (says-as (ap (known bs badTop unknownSetting) is) says)
+
 -- ---- measuring
 module _ (set : Settings) (p : Patch) where
   abbrev counts : Size
@@ -112,113 +122,93 @@ pub measure-call-exactly : (bs : List ℕ) (xs : List Float) {c′ k′ : List �
 measure-call-exactly bs xs m =
     let set = settingsIn bs in
     let p = patchIn bs xs in
-    let op : Answers bs toldSize (SizeMeans set p) (measured set p) size.BadTop = record {
-      exactly = size-exactly set p;
-      bad-number = refl;
-      bad-top = λ n. size-exactly set p size.BadTop .1 n;
-    } in
-    called-exactly bs toldSize (SizeMeans set p) (measured set p) size.BadTop op measureWords sizeIn size-readable
-    (says-as (ap (known bs badTop unknownSetting) (measured-told set p)) (record { number = m .says .number; counts = rw (m .says .counts, m .clamps) }))
+    call-exactly bs measureWords toldSize (SizeMeans set p) (measured set p) size.BadTop sizeIn (size-exactly set p) refl (λ n. n) size-readable (measured-told set p)
+    (record { number = m .says .number; counts = rw (m .says .counts, m .clamps) })
 
 -- ---- drawing
+-- points and indices have answers of the same four forms: `count` of them are drawn into `need` words of a list of `have`
+module _ (set : Settings) (p : Patch) (need count have : ℕ) {A : Type 0} (bad none no-room : A) (drawn : ℕ → A) where
+  abbrev drawRight : A
+  drawRight = choice set p need have bad none no-room (drawn count)
+
+  draw-exactly : ((P : A → Type 0) → P bad → P none → P no-room → ((n : ℕ) → P (drawn n)) → (a : A) → P a) → (Means : A → Type 0)
+      → Means bad ↔ (Top (set .top) → ⊥) → Means none ↔ Discarded set p → Means no-room ↔ Drawable set p × (have < need)
+      → ((n : ℕ) → Means (drawn n) ↔ Drawable set p × (need ≤ have) × (n ≡ count)) → (a : A) → drawRight ≡ a ↔ Means a
+  draw-exactly cases Means is-bad-top is-discarded is-no-room is-drawn =
+      both Means
+      (choice-cases set p need have _ _ _ _ Means (is-bad-top .1) (is-discarded .1) (λ d h. is-no-room .1 (d, h)) (λ d h. is-drawn count .1 (d, h, refl)))
+      (cases (λ a. Means a → drawRight ≡ a)
+      (λ m. is-bad set p need have _ _ _ _ (is-bad-top .0 m))
+      (λ m. is-none set p need have _ _ _ _ (is-discarded .0 m))
+      (λ m. let w = is-no-room .0 m in is-short set p need have _ _ _ _ (w .0) (w .1))
+      (λ n m. let w = is-drawn n .0 m in is-done set p need have _ _ _ _ (w .0) (w .1) ∙ ap drawn (sym (w .2))))
+
+points-cases : (P : PointsAnswer → Type 0) → P points.BadTop → P points.Discarded → P points.NoRoomForVertices → ((n : ℕ) → P (points.Drawn n)) → (a : PointsAnswer) → P a
+points-cases P a b c d points.BadTop = a
+points-cases P a b c d points.Discarded = b
+points-cases P a b c d points.NoRoomForVertices = c
+points-cases P a b c d (points.Drawn n) = d n
+
+indices-cases : (P : IndicesAnswer → Type 0) → P indices.BadTop → P indices.Discarded → P indices.NoRoomForIndices → ((n : ℕ) → P (indices.Drawn n)) → (a : IndicesAnswer) → P a
+indices-cases P a b c d indices.BadTop = a
+indices-cases P a b c d indices.Discarded = b
+indices-cases P a b c d indices.NoRoomForIndices = c
+indices-cases P a b c d (indices.Drawn n) = d n
+
+abbrev pointsIn : ℕ → List ℕ → PointsAnswer
+pointsIn n c = cond (eqb n 0) (points.Drawn (getD c 0 0)) (cond (eqb n 1) points.Discarded (cond (eqb n 3) points.NoRoomForVertices points.BadTop))
+
+abbrev indicesIn : ℕ → List ℕ → IndicesAnswer
+indicesIn n c = cond (eqb n 0) (indices.Drawn (getD c 0 0)) (cond (eqb n 1) indices.Discarded (cond (eqb n 4) indices.NoRoomForIndices indices.BadTop))
+
+points-readable : Readable oneWord toldPoints pointsIn
+points-readable = record {
+  same = points-cases (λ a. pointsIn (toldPoints a .number) (oneWord (toldPoints a .values)) ≡ a) refl refl refl (λ n. refl);
+  no-eight = points-cases (λ a. eqb (toldPoints a .number) 8 ≡ false) refl refl refl (λ n. refl);
+  place = λ k. refl;
+}
+
+indices-readable : Readable oneWord toldIndices indicesIn
+indices-readable = record {
+  same = indices-cases (λ a. indicesIn (toldIndices a .number) (oneWord (toldIndices a .values)) ≡ a) refl refl refl (λ n. refl);
+  no-eight = indices-cases (λ a. eqb (toldIndices a .number) 8 ≡ false) refl refl refl (λ n. refl);
+  place = λ k. refl;
+}
+
+itself : {X : Type 0} → X ↔ X
+itself = (λ x. x, λ x. x)
+
 module _ (set : Settings) (p : Patch) (have : ℕ) where
   abbrev pointsRight : PointsAnswer
-  pointsRight = choice set p (3 * pointsOf set p) have points.BadTop points.Discarded points.NoRoomForVertices (points.Drawn (pointsOf set p))
+  pointsRight = drawRight set p (3 * pointsOf set p) (pointsOf set p) have points.BadTop points.Discarded points.NoRoomForVertices points.Drawn
+
+  points-exactly : (a : PointsAnswer) → pointsRight ≡ a ↔ PointsMeans set p have a
+  points-exactly = draw-exactly set p (3 * pointsOf set p) (pointsOf set p) have _ _ _ _ points-cases (PointsMeans set p have) itself itself itself (λ n. itself)
+
+  abbrev indicesRight : IndicesAnswer
+  indicesRight = drawRight set p (indicesOf set p) (indicesOf set p) have indices.BadTop indices.Discarded indices.NoRoomForIndices indices.Drawn
+
+  indices-exactly : (a : IndicesAnswer) → indicesRight ≡ a ↔ IndicesMeans set p have a
+  indices-exactly = draw-exactly set p (indicesOf set p) (indicesOf set p) have _ _ _ _ indices-cases (IndicesMeans set p have) itself itself itself (λ n. itself)
 
   points-told : toldPoints pointsRight ≡ pointsVerdict set p have
   unfolding verdict
   points-told = chosen-map toldPoints (isTop (set .top)) (discards p) (ltb have (3 * pointsOf set p)) _ _ _ _
 
-  means-points : (a : PointsAnswer) → PointsMeans set p have a → pointsRight ≡ a
-  means-points points.BadTop n = is-bad set p (3 * pointsOf set p) have _ _ _ _ n
-  means-points points.Discarded d = is-none set p (3 * pointsOf set p) have _ _ _ _ d
-  means-points points.NoRoomForVertices (d, h) = is-short set p (3 * pointsOf set p) have _ _ _ _ d h
-  means-points (points.Drawn n) (d, h, e) = is-done set p (3 * pointsOf set p) have _ _ _ _ d h ∙ ap points.Drawn (sym e)
-
-  points-exactly : (a : PointsAnswer) → pointsRight ≡ a ↔ PointsMeans set p have a
-  points-exactly =
-      both (PointsMeans set p have)
-      (choice-cases set p (3 * pointsOf set p) have _ _ _ _ (PointsMeans set p have) (λ n. n) (λ d. d) (λ d h. (d, h)) (λ d h. (d, h, refl)))
-      means-points
-
-abbrev pointsIn : ℕ → List ℕ → PointsAnswer
-pointsIn n c = cond (eqb n 0) (points.Drawn (getD c 0 0)) (cond (eqb n 1) points.Discarded (cond (eqb n 3) points.NoRoomForVertices points.BadTop))
-
-points-readable : Readable oneWord toldPoints pointsIn
-points-readable = record { same = same; no-eight = no-eight; place = λ k. refl }
-  where
-    same : (a : PointsAnswer) → pointsIn (toldPoints a .number) (oneWord (toldPoints a .values)) ≡ a
-    same (points.Drawn n) = refl
-    same points.Discarded = refl
-    same points.NoRoomForVertices = refl
-    same points.BadTop = refl
-
-    no-eight : (a : PointsAnswer) → eqb (toldPoints a .number) 8 ≡ false
-    no-eight (points.Drawn n) = refl
-    no-eight points.Discarded = refl
-    no-eight points.NoRoomForVertices = refl
-    no-eight points.BadTop = refl
+  indices-told : toldIndices indicesRight ≡ indicesVerdict set p have
+  unfolding verdict
+  indices-told = chosen-map toldIndices (isTop (set .top)) (discards p) (ltb have (indicesOf set p)) _ _ _ _
 
 pub points-call-exactly : (bs : List ℕ) (xs : List Float) {l l′ c′ : List ℕ} {r : ℕ} → PointsCalled bs xs l l′ c′ r → PointsExactly bs xs (length l) c′ r
 points-call-exactly bs xs {l} d =
     let set = settingsIn bs in
     let p = patchIn bs xs in
-    let n = length l in
-    let op : Answers bs toldPoints (PointsMeans set p n) (pointsRight set p n) points.BadTop = record {
-      exactly = points-exactly set p n;
-      bad-number = refl;
-      bad-top = λ h. means-points set p n points.BadTop h;
-    } in
-    called-exactly bs toldPoints (PointsMeans set p n) (pointsRight set p n) points.BadTop op oneWord pointsIn points-readable
-    (says-as (ap (known bs badTop unknownSetting) (points-told set p n)) (d .says))
-
-module _ (set : Settings) (p : Patch) (have : ℕ) where
-  abbrev indicesRight : IndicesAnswer
-  indicesRight = choice set p (indicesOf set p) have indices.BadTop indices.Discarded indices.NoRoomForIndices (indices.Drawn (indicesOf set p))
-
-  indices-told : toldIndices indicesRight ≡ indicesVerdict set p have
-  unfolding verdict
-  indices-told = chosen-map toldIndices (isTop (set .top)) (discards p) (ltb have (indicesOf set p)) _ _ _ _
-
-  means-indices : (a : IndicesAnswer) → IndicesMeans set p have a → indicesRight ≡ a
-  means-indices indices.BadTop n = is-bad set p (indicesOf set p) have _ _ _ _ n
-  means-indices indices.Discarded d = is-none set p (indicesOf set p) have _ _ _ _ d
-  means-indices indices.NoRoomForIndices (d, h) = is-short set p (indicesOf set p) have _ _ _ _ d h
-  means-indices (indices.Drawn n) (d, h, e) = is-done set p (indicesOf set p) have _ _ _ _ d h ∙ ap indices.Drawn (sym e)
-
-  indices-exactly : (a : IndicesAnswer) → indicesRight ≡ a ↔ IndicesMeans set p have a
-  indices-exactly =
-      both (IndicesMeans set p have)
-      (choice-cases set p (indicesOf set p) have _ _ _ _ (IndicesMeans set p have) (λ n. n) (λ d. d) (λ d h. (d, h)) (λ d h. (d, h, refl)))
-      means-indices
-
-abbrev indicesIn : ℕ → List ℕ → IndicesAnswer
-indicesIn n c = cond (eqb n 0) (indices.Drawn (getD c 0 0)) (cond (eqb n 1) indices.Discarded (cond (eqb n 4) indices.NoRoomForIndices indices.BadTop))
-
-indices-readable : Readable oneWord toldIndices indicesIn
-indices-readable = record { same = same; no-eight = no-eight; place = λ k. refl }
-  where
-    same : (a : IndicesAnswer) → indicesIn (toldIndices a .number) (oneWord (toldIndices a .values)) ≡ a
-    same (indices.Drawn n) = refl
-    same indices.Discarded = refl
-    same indices.NoRoomForIndices = refl
-    same indices.BadTop = refl
-
-    no-eight : (a : IndicesAnswer) → eqb (toldIndices a .number) 8 ≡ false
-    no-eight (indices.Drawn n) = refl
-    no-eight indices.Discarded = refl
-    no-eight indices.NoRoomForIndices = refl
-    no-eight indices.BadTop = refl
+    call-exactly bs oneWord toldPoints (PointsMeans set p (length l)) (pointsRight set p (length l)) points.BadTop pointsIn (points-exactly set p (length l)) refl (λ n. n) points-readable
+    (points-told set p (length l)) (d .says)
 
 pub indices-call-exactly : (bs : List ℕ) (xs : List Float) {l l′ c′ : List ℕ} {r : ℕ} → IndicesCalled bs xs l l′ c′ r → IndicesExactly bs xs (length l) c′ r
 indices-call-exactly bs xs {l} d =
     let set = settingsIn bs in
     let p = patchIn bs xs in
-    let n = length l in
-    let op : Answers bs toldIndices (IndicesMeans set p n) (indicesRight set p n) indices.BadTop = record {
-      exactly = indices-exactly set p n;
-      bad-number = refl;
-      bad-top = λ h. means-indices set p n indices.BadTop h;
-    } in
-    called-exactly bs toldIndices (IndicesMeans set p n) (indicesRight set p n) indices.BadTop op oneWord indicesIn indices-readable
-    (says-as (ap (known bs badTop unknownSetting) (indices-told set p n)) (d .says))
+    call-exactly bs oneWord toldIndices (IndicesMeans set p (length l)) (indicesRight set p (length l)) indices.BadTop indicesIn (indices-exactly set p (length l)) refl (λ n. n) indices-readable
+    (indices-told set p (length l)) (d .says)
