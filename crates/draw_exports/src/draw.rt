@@ -18,6 +18,13 @@ fn points_of(patch: Patch, settings: Settings, vertices: &mut [u32], count: &mut
     say_one(of_points(answer), count)
 }
 
+fn indices_of(patch: Patch, settings: Settings, indices: &mut [u16], count: &mut [u32; 1]) -> u32
+    ensures { λ r. ⌜ Called (indicesVerdict settings patch (length (now (indices .entry)))) (connectionWords settings patch) (now (indices .entry)) (now (indices .exit)) (now (count .exit)) r ⌝ }
+{
+    let answer = tessellate::draw::draw_indices(patch, settings, indices);
+    say_one(of_indices(answer), count)
+}
+
 #[no_mangle]
 pub extern "C" fn yoktvarim_draw_points(
     settings: &[u8; 6],
@@ -29,18 +36,8 @@ pub extern "C" fn yoktvarim_draw_points(
 {
     match read_call(settings, levels) {
         Asked::Refused { reply } => say_one(reply, count),
-        Asked::Known {
-            settings: set,
-            patch,
-        } => points_of(patch, set, vertices, count),
+        Asked::Known { settings, patch } => points_of(patch, settings, vertices, count),
     }
-}
-
-fn indices_of(patch: Patch, settings: Settings, indices: &mut [u16], count: &mut [u32; 1]) -> u32
-    ensures { λ r. ⌜ Called (indicesVerdict settings patch (length (now (indices .entry)))) (connectionWords settings patch) (now (indices .entry)) (now (indices .exit)) (now (count .exit)) r ⌝ }
-{
-    let answer = tessellate::draw::draw_indices(patch, settings, indices);
-    say_one(of_indices(answer), count)
 }
 
 #[no_mangle]
@@ -54,9 +51,6 @@ pub extern "C" fn yoktvarim_draw_indices(
 {
     match read_call(settings, levels) {
         Asked::Refused { reply } => say_one(reply, count),
-        Asked::Known {
-            settings: set,
-            patch,
-        } => indices_of(patch, set, indices, count),
+        Asked::Known { settings, patch } => indices_of(patch, settings, indices, count),
     }
 }

@@ -9,7 +9,5 @@ yoktvarim-draw-indices-spec =
     tie.close
     (tie.spec
     (λ c κs. search needs) (λ c. search needs) (λ c κs. search needs) (λ c. search needs)
-    (λ c κs. search needs)
-    (λ c. search (draw-refused, needs))
-    (λ c. search needs)
+    (λ c κs. search needs) (λ c. search (draw-refused, needs)) (λ c. search needs)
     (λ c. search (indices-known, needs)))
