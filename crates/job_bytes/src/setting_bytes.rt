@@ -21,16 +21,6 @@ pub fn kind_byte(kind: Kind) -> u8
     }
 }
 
-pub fn spacing_byte(spacing: Spacing) -> u8
-    ensures { λ r. ⌜ r ≡ spacingByte spacing ⌝ }
-{
-    match spacing {
-        Spacing::Equal => 0,
-        Spacing::FractionalEven => 1,
-        Spacing::FractionalOdd => 2,
-    }
-}
-
 pub fn order_byte(order: VertexOrder) -> u8
     ensures { λ r. ⌜ r ≡ orderByte order ⌝ }
 {
@@ -46,6 +36,16 @@ pub fn origin_byte(origin: DomainOrigin) -> u8
     match origin {
         DomainOrigin::UpperLeft => 0,
         DomainOrigin::LowerLeft => 1,
+    }
+}
+
+pub fn spacing_byte(spacing: Spacing) -> u8
+    ensures { λ r. ⌜ r ≡ spacingByte spacing ⌝ }
+{
+    match spacing {
+        Spacing::Equal => 0,
+        Spacing::FractionalEven => 1,
+        Spacing::FractionalOdd => 2,
     }
 }
 

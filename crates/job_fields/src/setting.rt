@@ -32,16 +32,6 @@ pub fn first_unknown(bytes: &[u8], at: usize) -> usize
     place
 }
 
-pub fn kind_of(byte: u8) -> Kind
-    ensures { λ r. ⌜ r ≡ kindOf byte ⌝ }
-{
-    match byte {
-        0 => Kind::Triangles,
-        1 => Kind::Quads,
-        _ => Kind::Isolines,
-    }
-}
-
 fn spacing_of(byte: u8) -> Spacing
     ensures { λ r. ⌜ r ≡ spacingOf byte ⌝ }
 {
@@ -67,6 +57,16 @@ fn origin_of(byte: u8) -> DomainOrigin
     match byte {
         0 => DomainOrigin::UpperLeft,
         _ => DomainOrigin::LowerLeft,
+    }
+}
+
+pub fn kind_of(byte: u8) -> Kind
+    ensures { λ r. ⌜ r ≡ kindOf byte ⌝ }
+{
+    match byte {
+        0 => Kind::Triangles,
+        1 => Kind::Quads,
+        _ => Kind::Isolines,
     }
 }
 
