@@ -37,34 +37,18 @@ fn match_by(points: &[u32], others: &[u32], table: &[u16], slots: usize, partner
     }
 }
 
-// The same with a table for up to 64 points.
-fn match_few(points: &[u32], others: &[u32], partners: &mut [u16])
-    requires { ⌜ Single (now others) ⌝ ∗ ⌜ length (now others) / 3 ≤ 64 ⌝ ∗ ⌜ length (now points) / 3 ≤ length (now partners) ⌝ }
-    ensures { λ r. ⌜ Partnered (now (points .entry)) (now (others .entry)) (now (partners .exit)) ⌝ }
-{
-    let mut table = [0u16; 379];
-    point_table::fill(others, &mut table, 251);
-    match_by(points, others, &table, 251, partners);
-}
-
-// The same with a table for up to 8192 points.
-fn match_many(points: &[u32], others: &[u32], partners: &mut [u16])
-    requires { ⌜ Single (now others) ⌝ ∗ ⌜ length (now others) / 3 ≤ 8192 ⌝ ∗ ⌜ length (now points) / 3 ≤ length (now partners) ⌝ }
-    ensures { λ r. ⌜ Partnered (now (points .entry)) (now (others .entry)) (now (partners .exit)) ⌝ }
-{
-    let mut table = [0u16; 32765];
-    point_table::fill(others, &mut table, 16381);
-    match_by(points, others, &table, 16381, partners);
-}
-
-// The same with a table as large as the other mesh's points need.
+// The same with a table as large as the other mesh's points need: for up to 64 points, or for up to 8192.
 pub fn match_points(points: &[u32], others: &[u32], partners: &mut [u16])
     requires { ⌜ Single (now others) ⌝ ∗ ⌜ length (now others) / 3 ≤ 8192 ⌝ ∗ ⌜ length (now points) / 3 ≤ length (now partners) ⌝ }
     ensures { λ r. ⌜ Partnered (now (points .entry)) (now (others .entry)) (now (partners .exit)) ⌝ }
 {
     if others.len() <= 192 {
-        match_few(points, others, partners);
+        let mut table = [0u16; 379];
+        point_table::fill(others, &mut table, 251);
+        match_by(points, others, &table, 251, partners);
     } else {
-        match_many(points, others, partners);
+        let mut table = [0u16; 32765];
+        point_table::fill(others, &mut table, 16381);
+        match_by(points, others, &table, 16381, partners);
     }
 }
