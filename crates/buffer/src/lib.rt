@@ -1,4 +1,4 @@
-// Writes a few words into a slice: the only stores that the index and vertex writers use.
+// Writes a few words into a slice: the only stores that the writers of indices, vertices and differences use.
 ghost use mathlib.Core.List.{[], _∷_};
 ghost use Prim.Native.Nat.{_+_, _≤_};
 ghost use lib.ListN.{length};
@@ -38,5 +38,15 @@ pub fn put3_u32(out: &mut [u32], at: usize, u: u32, v: u32, w: u32) -> usize
     out[at] = u;
     out[at + 1] = v;
     out[at + 2] = w;
+    at + 3
+}
+
+pub fn put3_u64(out: &mut [u64], at: usize, a: u64, b: u64, c: u64) -> usize
+    requires { ⌜ at + 3 ≤ length (now out) ⌝ }
+    ensures { λ r. ⌜ Wrote (now (out .entry)) at (a ∷ b ∷ c ∷ []) (now (out .exit)) r ⌝ }
+{
+    out[at] = a;
+    out[at + 1] = b;
+    out[at + 2] = c;
     at + 3
 }
