@@ -12,19 +12,14 @@ use Rattle.tessellate.proofs.draw.draw_indices.Statement.{statement}
 use Rattle.tessellate.proofs.draw.draw_indices.Tie as tie
 
 index-count-requires : tie.Need-index-count-requires
-index-count-requires c κs =
-    let arm = c .before in
-    let cut = arm .before .before in
-    let a = cut .before .before .args in
-    cut-valid (a .settings) (a .patch) (cut .cut-with .ensures) (arm .cut .given .1)
+index-count-requires c κs = cut-valid _ _ (c .before .before .before .cut-with .ensures) (c .before .cut .given .1)
 
 returns : tie.Need-returns
 returns c =
     let arm = c .before .before .before in
-    let cut = arm .before .before in
-    let a = cut .before .before .args in
+    let is = arm .before .before .cut-with .ensures in
     let e = arm .cut .given .1 in
-    draw-short (a .settings) (a .patch) (cut .cut-with .ensures) _ _ _ _ 3 e refl (omega (arith, cut-indices (a .settings) (a .patch) (cut .cut-with .ensures) e (c .before .index-count .ensures), c .if1 .taken)) refl
+    draw-short _ _ is _ _ _ _ 3 e refl (omega (arith, cut-indices _ _ is e (c .before .index-count .ensures), c .if1 .taken)) refl
 
 write-indices-requires : tie.Need-write-indices-requires
 write-indices-requires c κs =
@@ -37,16 +32,10 @@ write-indices-requires c κs =
     (v, (cut-few (a .settings) (a .patch) (cut .cut-with .ensures) e, omega (arith, c .before .before .if1 .left, c .before .before .before .index-count .ensures, count)))
 
 returns-2 : tie.Need-returns-2
-returns-2 c =
-    let cut = c .before .before in
-    let a = cut .before .before .args in
-    draw-bad (a .settings) (a .patch) (cut .cut-with .ensures) _ _ _ _ (c .enum-told .given .1) refl
+returns-2 c = draw-bad _ _ (c .before .before .cut-with .ensures) _ _ _ _ (c .enum-told .given .1) refl
 
 returns-3 : tie.Need-returns-3
-returns-3 c =
-    let cut = c .before .before in
-    let a = cut .before .before .args in
-    draw-discarded (a .settings) (a .patch) (cut .cut-with .ensures) _ _ _ _ (c .enum-told2 .given .1) refl
+returns-3 c = draw-discarded _ _ (c .before .before .cut-with .ensures) _ _ _ _ (c .enum-told2 .given .1) refl
 
 returns-4 : tie.Need-returns-4
 unfolding indexWords

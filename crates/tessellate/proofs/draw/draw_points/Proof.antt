@@ -12,19 +12,14 @@ use Rattle.tessellate.proofs.draw.draw_points.Statement.{statement}
 use Rattle.tessellate.proofs.draw.draw_points.Tie as tie
 
 point-count-requires : tie.Need-point-count-requires
-point-count-requires c κs =
-    let arm = c .before in
-    let cut = arm .before .before in
-    let a = cut .before .before .args in
-    cut-valid (a .settings) (a .patch) (cut .cut-with .ensures) (arm .cut .given .1)
+point-count-requires c κs = cut-valid _ _ (c .before .before .before .cut-with .ensures) (c .before .cut .given .1)
 
 returns : tie.Need-returns
 returns c =
     let arm = c .before .before .before in
-    let cut = arm .before .before in
-    let a = cut .before .before .args in
+    let is = arm .before .before .cut-with .ensures in
     let e = arm .cut .given .1 in
-    draw-short (a .settings) (a .patch) (cut .cut-with .ensures) _ _ _ _ 2 e refl (omega (arith, cut-points (a .settings) (a .patch) (cut .cut-with .ensures) e (c .before .point-count .ensures), c .if1 .taken)) refl
+    draw-short _ _ is _ _ _ _ 2 e refl (omega (arith, cut-points _ _ is e (c .before .point-count .ensures), c .if1 .taken)) refl
 
 write-points-requires : tie.Need-write-points-requires
 write-points-requires c κs =
@@ -35,16 +30,10 @@ write-points-requires c κs =
     (v, omega (arith, c .before .if1 .left, c .before .before .point-count .ensures, point-count (arm .cut .given .0 .0) v))
 
 returns-2 : tie.Need-returns-2
-returns-2 c =
-    let cut = c .before .before in
-    let a = cut .before .before .args in
-    draw-bad (a .settings) (a .patch) (cut .cut-with .ensures) _ _ _ _ (c .enum-told .given .1) refl
+returns-2 c = draw-bad _ _ (c .before .before .cut-with .ensures) _ _ _ _ (c .enum-told .given .1) refl
 
 returns-3 : tie.Need-returns-3
-returns-3 c =
-    let cut = c .before .before in
-    let a = cut .before .before .args in
-    draw-discarded (a .settings) (a .patch) (cut .cut-with .ensures) _ _ _ _ (c .enum-told2 .given .1) refl
+returns-3 c = draw-discarded _ _ (c .before .before .cut-with .ensures) _ _ _ _ (c .enum-told2 .given .1) refl
 
 returns-4 : tie.Need-returns-4
 returns-4 c =
