@@ -67,23 +67,13 @@ enum yoktvarim_kind {
 };
 
 /* Values of yoktvarim_settings.spacing. */
-enum yoktvarim_spacing {
-    YOKTVARIM_EQUAL = 0,
-    YOKTVARIM_FRACTIONAL_EVEN = 1,
-    YOKTVARIM_FRACTIONAL_ODD = 2
-};
+enum yoktvarim_spacing { YOKTVARIM_EQUAL = 0, YOKTVARIM_FRACTIONAL_EVEN = 1, YOKTVARIM_FRACTIONAL_ODD = 2 };
 
 /* Values of yoktvarim_settings.vertex_order: the way triangles turn. */
-enum yoktvarim_vertex_order {
-    YOKTVARIM_CLOCKWISE = 0,
-    YOKTVARIM_COUNTER_CLOCKWISE = 1
-};
+enum yoktvarim_vertex_order { YOKTVARIM_CLOCKWISE = 0, YOKTVARIM_COUNTER_CLOCKWISE = 1 };
 
 /* Values of yoktvarim_settings.domain_origin: the corner where (0, 0) lies when the turn of a triangle is judged. */
-enum yoktvarim_domain_origin {
-    YOKTVARIM_UPPER_LEFT = 0,
-    YOKTVARIM_LOWER_LEFT = 1
-};
+enum yoktvarim_domain_origin { YOKTVARIM_UPPER_LEFT = 0, YOKTVARIM_LOWER_LEFT = 1 };
 
 /* Values of yoktvarim_settings.point_mode. */
 enum yoktvarim_point_mode {
@@ -92,9 +82,7 @@ enum yoktvarim_point_mode {
 };
 
 /* The greatest value of yoktvarim_settings.top. */
-enum {
-    YOKTVARIM_GREATEST_TOP = 64
-};
+enum { YOKTVARIM_GREATEST_TOP = 64 };
 
 /* Six bytes, in this order. A struct filled with zeros has the top 0, which every call that takes settings refuses as a bad top. */
 typedef struct yoktvarim_settings {
@@ -117,9 +105,9 @@ typedef struct yoktvarim_levels {
 /* The answers of measuring and drawing, with floats too. Where several refusals apply, the call returns BAD_TOP first, then
  * UNKNOWN_SETTING, then the lowest number. */
 typedef enum yoktvarim_answer {
-    YOKTVARIM_DRAWN = 0,                /* the call wrote as many points, or indices, as the count says */
-    YOKTVARIM_MEASURED = 0,             /* 0 from yoktvarim_measure: drawing would write as many as the counts say */
-    YOKTVARIM_DISCARDED = 1,            /* an outer level that counts is NaN or not above 0 */
+    YOKTVARIM_DRAWN = 0,     /* the call wrote as many points, or indices, as the count says */
+    YOKTVARIM_MEASURED = 0,  /* 0 from yoktvarim_measure: drawing would write as many as the counts say */
+    YOKTVARIM_DISCARDED = 1, /* an outer level that counts is NaN or not above 0 */
     /* 2 meant more points than an index can number, which no patch has; it is not used again */
     YOKTVARIM_NO_ROOM_FOR_VERTICES = 3, /* the vertex list has fewer than 3 words for each point */
     YOKTVARIM_NO_ROOM_FOR_INDICES = 4,  /* the index list is too short */
@@ -129,10 +117,7 @@ typedef enum yoktvarim_answer {
 } yoktvarim_answer;
 
 /* 1 for YOKTVARIM_DRAWN and YOKTVARIM_MEASURED, which are the same number; 0 for every other answer. */
-YOKTVARIM_MUST_USE static inline unsigned yoktvarim_is_drawn(yoktvarim_answer answer)
-{
-    return answer == YOKTVARIM_DRAWN;
-}
+YOKTVARIM_MUST_USE static inline unsigned yoktvarim_is_drawn(yoktvarim_answer answer) { return answer == YOKTVARIM_DRAWN; }
 
 /* Values of yoktvarim_clamps: where a level lies against the range it is clamped to. The ends of the range are inside. The range is 1 to
  * the top for equal spacing, 2 to the top for fractional even, and 1 to one less than the top for fractional odd. The number of
@@ -141,7 +126,7 @@ enum yoktvarim_clamp {
     YOKTVARIM_NOT_TOLD = 0, /* the level does not count for the kind, or the patch was not measured */
     YOKTVARIM_BELOW = 1,    /* replaced by the low end; also an inner NaN */
     YOKTVARIM_INSIDE = 2,
-    YOKTVARIM_ABOVE = 3     /* replaced by the high end */
+    YOKTVARIM_ABOVE = 3 /* replaced by the high end */
 };
 
 /* Six bytes, one for each of yoktvarim_levels. */
@@ -151,10 +136,7 @@ typedef struct yoktvarim_clamps {
 } yoktvarim_clamps;
 
 /* Lists of these sizes have room for every patch at every top: 4,225 points of 3 words each, and 8,192 triangles. */
-enum {
-    YOKTVARIM_VERTEX_WORDS = 12675,
-    YOKTVARIM_INDEX_WORDS = 24576
-};
+enum { YOKTVARIM_VERTEX_WORDS = 12675, YOKTVARIM_INDEX_WORDS = 24576 };
 
 /* The number that means 1 in the coordinates of a point. */
 enum {
@@ -166,8 +148,8 @@ enum {
  * counts has two words, both always written. With MEASURED counts[0] is the number of points and counts[1] that of indices; drawing
  * needs 3 * counts[0] words for vertices and counts[1] for indices. With UNKNOWN_SETTING they are the setting's place and 0, else 0 and 0.
  * All of clamps is always written: with MEASURED it is BELOW, INSIDE or ABOVE for each level that counts, and NOT_TOLD elsewhere. */
-YOKTVARIM_MUST_USE yoktvarim_answer yoktvarim_measure(const yoktvarim_settings *settings, const yoktvarim_levels *levels,
-                                                      uint32_t *counts, yoktvarim_clamps *clamps);
+YOKTVARIM_MUST_USE yoktvarim_answer yoktvarim_measure(const yoktvarim_settings *settings, const yoktvarim_levels *levels, uint32_t *counts,
+                                                      yoktvarim_clamps *clamps);
 
 /* Drawing is two calls, each with a list of its own. Each call writes to the front of its list and leaves the words after that as they
  * were; every answer but DRAWN leaves the whole list as it was. *count is always written: with UNKNOWN_SETTING it is the setting's
@@ -209,8 +191,7 @@ YOKTVARIM_MUST_USE yoktvarim_answer yoktvarim_draw_indices(const yoktvarim_setti
  * DRAWN, DISCARDED, NO_ROOM_FOR_VERTICES, NO_ROOM_FOR_INDICES, UNKNOWN_SETTING, NO_ROOM_FOR_FLOATS or BAD_TOP. */
 YOKTVARIM_MUST_USE yoktvarim_answer yoktvarim_draw_with_floats(const yoktvarim_settings *settings, const yoktvarim_levels *levels,
                                                                uint32_t *vertices, uint64_t vertex_words, uint16_t *indices,
-                                                               uint64_t index_words, float *floats, uint64_t float_words,
-                                                               uint32_t *counts);
+                                                               uint64_t index_words, float *floats, uint64_t float_words, uint32_t *counts);
 
 /* ---------------------------------------------------------------- job files */
 
@@ -241,22 +222,13 @@ typedef enum yoktvarim_job_answer {
 } yoktvarim_job_answer;
 
 /* 1 for YOKTVARIM_JOB_WRITTEN, 0 for every other answer. */
-YOKTVARIM_MUST_USE static inline unsigned yoktvarim_is_written(yoktvarim_job_answer answer)
-{
-    return answer == YOKTVARIM_JOB_WRITTEN;
-}
+YOKTVARIM_MUST_USE static inline unsigned yoktvarim_is_written(yoktvarim_job_answer answer) { return answer == YOKTVARIM_JOB_WRITTEN; }
 
 /* 1 for YOKTVARIM_JOB_READ, 0 for every other answer, also at the end. */
-YOKTVARIM_MUST_USE static inline unsigned yoktvarim_is_read(yoktvarim_job_answer answer)
-{
-    return answer == YOKTVARIM_JOB_READ;
-}
+YOKTVARIM_MUST_USE static inline unsigned yoktvarim_is_read(yoktvarim_job_answer answer) { return answer == YOKTVARIM_JOB_READ; }
 
 /* The size of a header, and the greatest size of a record. */
-enum {
-    YOKTVARIM_HEADER_BYTES = 5,
-    YOKTVARIM_RECORD_BYTES = 30
-};
+enum { YOKTVARIM_HEADER_BYTES = 5, YOKTVARIM_RECORD_BYTES = 30 };
 
 /* The bits of yoktvarim_levels. A record keeps all six, also those that do not count for its kind, and every bit of a NaN. */
 typedef struct yoktvarim_patterns {
@@ -339,17 +311,14 @@ typedef enum yoktvarim_verdict {
 } yoktvarim_verdict;
 
 /* 1 for YOKTVARIM_ACCEPTED, 0 for every other verdict. */
-YOKTVARIM_MUST_USE static inline unsigned yoktvarim_is_accepted(yoktvarim_verdict verdict)
-{
-    return verdict == YOKTVARIM_ACCEPTED;
-}
+YOKTVARIM_MUST_USE static inline unsigned yoktvarim_is_accepted(yoktvarim_verdict verdict) { return verdict == YOKTVARIM_ACCEPTED; }
 
 /* Checks a mesh that anybody made for a patch: whether points, three words u, v, w each, and indices, three to a triangle, are a right
  * mesh of the patch. Lists of any length and content may be given; they are only read. places has two words, both always written; one
  * that the verdict does not mention is 0. */
 YOKTVARIM_MUST_USE yoktvarim_verdict yoktvarim_check_mesh(const yoktvarim_settings *settings, const yoktvarim_levels *levels,
-                                                          const uint32_t *points, uint64_t point_words,
-                                                          const uint16_t *indices, uint64_t index_words, uint64_t *places);
+                                                          const uint32_t *points, uint64_t point_words, const uint16_t *indices,
+                                                          uint64_t index_words, uint64_t *places);
 
 /* ---------------------------------------------------------------- two designers on shared lists */
 
@@ -366,24 +335,21 @@ YOKTVARIM_MUST_USE yoktvarim_verdict yoktvarim_check_mesh(const yoktvarim_settin
 /* The answers of the calls on shared lists. Where several refusals apply, the call returns the first in this list; so BAD_STATE comes
  * before UNKNOWN_SETTING and DISCARDED, whatever their numbers are. */
 typedef enum yoktvarim_share_answer {
-    YOKTVARIM_SHARE_DONE = 0,                  /* started, cleared, or drawn: the call appended counts[0] points and counts[1] indices */
-    YOKTVARIM_SHARE_QUOTAS_TOO_LARGE = 12,     /* start: together the quotas exceed a list */
-    YOKTVARIM_SHARE_BAD_TOP = 11,              /* draw: as YOKTVARIM_BAD_TOP */
-    YOKTVARIM_SHARE_BAD_STATE = 14,            /* draw, clear: a list has another length than at the start, or in the state the quotas
+    YOKTVARIM_SHARE_DONE = 0,                 /* started, cleared, or drawn: the call appended counts[0] points and counts[1] indices */
+    YOKTVARIM_SHARE_QUOTAS_TOO_LARGE = 12,    /* start: together the quotas exceed a list */
+    YOKTVARIM_SHARE_BAD_TOP = 11,             /* draw: as YOKTVARIM_BAD_TOP */
+    YOKTVARIM_SHARE_BAD_STATE = 14,           /* draw, clear: a list has another length than at the start, or in the state the quotas
                                                 * exceed a list, more than a quota is used, or part of a point is used */
-    YOKTVARIM_SHARE_UNKNOWN_DESIGNER = 15,     /* draw, clear: the designer is neither 0 nor 1 */
-    YOKTVARIM_SHARE_UNKNOWN_SETTING = 8,       /* draw: as YOKTVARIM_UNKNOWN_SETTING, with the place in counts[0] */
-    YOKTVARIM_SHARE_DISCARDED = 1,             /* draw: as YOKTVARIM_DISCARDED */
-    YOKTVARIM_SHARE_TOO_MANY_POINTS = 13,      /* draw: the part would have more than 65,535 points */
-    YOKTVARIM_SHARE_NO_ROOM_FOR_VERTICES = 3,  /* draw: too little is left of this designer's quota of vertex words */
-    YOKTVARIM_SHARE_NO_ROOM_FOR_INDICES = 4    /* draw: too little is left of this designer's quota of index words */
+    YOKTVARIM_SHARE_UNKNOWN_DESIGNER = 15,    /* draw, clear: the designer is neither 0 nor 1 */
+    YOKTVARIM_SHARE_UNKNOWN_SETTING = 8,      /* draw: as YOKTVARIM_UNKNOWN_SETTING, with the place in counts[0] */
+    YOKTVARIM_SHARE_DISCARDED = 1,            /* draw: as YOKTVARIM_DISCARDED */
+    YOKTVARIM_SHARE_TOO_MANY_POINTS = 13,     /* draw: the part would have more than 65,535 points */
+    YOKTVARIM_SHARE_NO_ROOM_FOR_VERTICES = 3, /* draw: too little is left of this designer's quota of vertex words */
+    YOKTVARIM_SHARE_NO_ROOM_FOR_INDICES = 4   /* draw: too little is left of this designer's quota of index words */
 } yoktvarim_share_answer;
 
 /* 1 for YOKTVARIM_SHARE_DONE, 0 for every other answer. */
-YOKTVARIM_MUST_USE static inline unsigned yoktvarim_is_done(yoktvarim_share_answer answer)
-{
-    return answer == YOKTVARIM_SHARE_DONE;
-}
+YOKTVARIM_MUST_USE static inline unsigned yoktvarim_is_done(yoktvarim_share_answer answer) { return answer == YOKTVARIM_SHARE_DONE; }
 
 /* What a designer asks for at the start, in words. */
 typedef struct yoktvarim_quota {
@@ -447,10 +413,7 @@ typedef enum yoktvarim_comparison {
 } yoktvarim_comparison;
 
 /* 1 for YOKTVARIM_COMPARED, 0 for every other answer. Two meshes are the same where this is 1 and *count is 0. */
-YOKTVARIM_MUST_USE static inline unsigned yoktvarim_is_compared(yoktvarim_comparison answer)
-{
-    return answer == YOKTVARIM_COMPARED;
-}
+YOKTVARIM_MUST_USE static inline unsigned yoktvarim_is_compared(yoktvarim_comparison answer) { return answer == YOKTVARIM_COMPARED; }
 
 /* The three words of a difference; the list holds one difference after the other. */
 typedef struct yoktvarim_difference {
@@ -471,8 +434,7 @@ YOKTVARIM_MUST_USE yoktvarim_comparison yoktvarim_compare_meshes(const uint32_t 
                                                                  const uint16_t *left_indices, uint64_t left_index_words,
                                                                  const uint32_t *right_points, uint64_t right_point_words,
                                                                  const uint16_t *right_indices, uint64_t right_index_words,
-                                                                 uint64_t *differences, uint64_t difference_words,
-                                                                 uint64_t *count);
+                                                                 uint64_t *differences, uint64_t difference_words, uint64_t *count);
 
 /* ---------------------------------------------------------------- replaying a recording */
 
@@ -487,10 +449,7 @@ typedef enum yoktvarim_replay_answer {
 } yoktvarim_replay_answer;
 
 /* 1 for YOKTVARIM_ALL_AGREE, 0 for every other answer. */
-YOKTVARIM_MUST_USE static inline unsigned yoktvarim_all_agree(yoktvarim_replay_answer answer)
-{
-    return answer == YOKTVARIM_ALL_AGREE;
-}
+YOKTVARIM_MUST_USE static inline unsigned yoktvarim_all_agree(yoktvarim_replay_answer answer) { return answer == YOKTVARIM_ALL_AGREE; }
 
 /* One side of an entry: the number of an answer and the counts of points and indices, which are 0 unless the number is 0, drawn. The
  * recorded side can be any number of one byte and any two counts of two bytes. */

@@ -73,7 +73,20 @@ static void *lend_copy(const void *from, size_t size) { return memcpy(lend(size)
 /* ---------------------------------------------------------------- what came of the calls */
 
 enum {
-    MEASURE, POINTS, INDICES, FLOATS, WRITE_HEADER, WRITE_RECORD, READ_HEADER, READ_RECORD, CHECK, COMPARE, REPLAY, START, DRAW, CLEAR,
+    MEASURE,
+    POINTS,
+    INDICES,
+    FLOATS,
+    WRITE_HEADER,
+    WRITE_RECORD,
+    READ_HEADER,
+    READ_RECORD,
+    CHECK,
+    COMPARE,
+    REPLAY,
+    START,
+    DRAW,
+    CLEAR,
     CALLS
 };
 static const char *const names[CALLS] = {"measure",      "draw_points", "draw_indices", "draw_with_floats", "write_header",
@@ -116,8 +129,8 @@ typedef struct patch {
 
 static uint32_t level(uint32_t most)
 {
-    static const uint32_t special[] = {0, 0x80000000, 0x3F800000, 0x3F800001, 0x40000000, 0x427C0000, 0x42800000, 0xBF800000,
-                                       0x7F800000, 0xFF800000, 0x7FC00000, 0xFFC12345, 0x7F812345, 1, 0x3F000000};
+    static const uint32_t special[] = {0,          0x80000000, 0x3F800000, 0x3F800001, 0x40000000, 0x427C0000, 0x42800000, 0xBF800000,
+                                       0x7F800000, 0xFF800000, 0x7FC00000, 0xFFC12345, 0x7F812345, 1,          0x3F000000};
     union {
         float number;
         uint32_t bits;
@@ -187,8 +200,8 @@ static void draw(const patch *p, const uint32_t *counts, mesh *m)
 static void draw_with_floats(const patch *p, const uint32_t *counts)
 {
     const uint32_t vertex_words = near(3 * counts[0]), index_words = near(counts[1]), float_words = near(3 * counts[0]);
-    note(FLOATS, yoktvarim_draw_with_floats(lend_settings(p), lend_levels(p), lend(4 * vertex_words), vertex_words,
-                                            lend(2 * index_words), index_words, lend(4 * float_words), float_words, lend(8)));
+    note(FLOATS, yoktvarim_draw_with_floats(lend_settings(p), lend_levels(p), lend(4 * vertex_words), vertex_words, lend(2 * index_words),
+                                            index_words, lend(4 * float_words), float_words, lend(8)));
     give_back();
 }
 
@@ -261,12 +274,8 @@ static void damage(mesh *m)
         if (m->index_words > 0)
             m->indices[below(m->index_words)] = (uint16_t)below(m->point_words / 3 + 2);
         break;
-    case 6: /* a word more */
-        *(one_in(2) ? &m->point_words : &m->index_words) += 1;
-        break;
-    case 7: /* no triangles */
-        m->index_words = 0;
-        break;
+    case 6: /* a word more */ *(one_in(2) ? &m->point_words : &m->index_words) += 1; break;
+    case 7: /* no triangles */ m->index_words = 0; break;
     default: break;
     }
 }
@@ -282,11 +291,10 @@ static void check(const patch *p, const mesh *m)
 static uint64_t compare(const mesh *left, const mesh *right, uint32_t words)
 {
     uint64_t *count = lend(8), found;
-    note(COMPARE, yoktvarim_compare_meshes(lend_copy(left->points, 4 * left->point_words), left->point_words,
-                                           lend_copy(left->indices, 2 * left->index_words), left->index_words,
-                                           lend_copy(right->points, 4 * right->point_words), right->point_words,
-                                           lend_copy(right->indices, 2 * right->index_words), right->index_words, lend(8 * words),
-                                           words, count));
+    note(COMPARE, yoktvarim_compare_meshes(
+                      lend_copy(left->points, 4 * left->point_words), left->point_words, lend_copy(left->indices, 2 * left->index_words),
+                      left->index_words, lend_copy(right->points, 4 * right->point_words), right->point_words,
+                      lend_copy(right->indices, 2 * right->index_words), right->index_words, lend(8 * words), words, count));
     found = *count;
     give_back();
     return found;

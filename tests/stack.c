@@ -5,20 +5,23 @@
 
 enum { MANY_POINTS = 8200, MANY_TRIANGLES = 8500 };
 
-static const yoktvarim_settings triangles = {YOKTVARIM_TRIANGLES, YOKTVARIM_EQUAL, YOKTVARIM_COUNTER_CLOCKWISE,
+static const yoktvarim_settings triangles = {YOKTVARIM_TRIANGLES,  YOKTVARIM_EQUAL,      YOKTVARIM_COUNTER_CLOCKWISE,
                                              YOKTVARIM_LOWER_LEFT, YOKTVARIM_PRIMITIVES, YOKTVARIM_GREATEST_TOP};
-static const yoktvarim_settings quads = {YOKTVARIM_QUADS, YOKTVARIM_EQUAL, YOKTVARIM_COUNTER_CLOCKWISE,
+static const yoktvarim_settings quads = {YOKTVARIM_QUADS,      YOKTVARIM_EQUAL,      YOKTVARIM_COUNTER_CLOCKWISE,
                                          YOKTVARIM_LOWER_LEFT, YOKTVARIM_PRIMITIVES, YOKTVARIM_GREATEST_TOP};
-static const yoktvarim_settings even = {YOKTVARIM_QUADS, YOKTVARIM_FRACTIONAL_EVEN, YOKTVARIM_COUNTER_CLOCKWISE,
-                                        YOKTVARIM_LOWER_LEFT, YOKTVARIM_PRIMITIVES, YOKTVARIM_GREATEST_TOP};
-static const yoktvarim_settings odd = {YOKTVARIM_QUADS, YOKTVARIM_FRACTIONAL_ODD, YOKTVARIM_CLOCKWISE,
-                                       YOKTVARIM_UPPER_LEFT, YOKTVARIM_PRIMITIVES, YOKTVARIM_GREATEST_TOP};
-static const yoktvarim_settings lines = {YOKTVARIM_ISOLINES, YOKTVARIM_EQUAL, YOKTVARIM_COUNTER_CLOCKWISE,
+static const yoktvarim_settings even = {YOKTVARIM_QUADS,      YOKTVARIM_FRACTIONAL_EVEN, YOKTVARIM_COUNTER_CLOCKWISE,
+                                        YOKTVARIM_LOWER_LEFT, YOKTVARIM_PRIMITIVES,      YOKTVARIM_GREATEST_TOP};
+static const yoktvarim_settings odd = {YOKTVARIM_QUADS,      YOKTVARIM_FRACTIONAL_ODD, YOKTVARIM_CLOCKWISE,
+                                       YOKTVARIM_UPPER_LEFT, YOKTVARIM_PRIMITIVES,     YOKTVARIM_GREATEST_TOP};
+static const yoktvarim_settings lines = {YOKTVARIM_ISOLINES,   YOKTVARIM_EQUAL,      YOKTVARIM_COUNTER_CLOCKWISE,
                                          YOKTVARIM_LOWER_LEFT, YOKTVARIM_PRIMITIVES, YOKTVARIM_GREATEST_TOP};
 static const yoktvarim_settings *const all_settings[] = {&triangles, &quads, &even, &odd, &lines};
-static const yoktvarim_levels all_levels[] = {
-    {{64, 64, 64, 64}, {64, 64}}, {{63.5f, 63.5f, 63.5f, 63.5f}, {63.5f, 63.5f}}, {{12.3f, 37.7f, 5.1f, 55.5f}, {41.2f, 23.9f}},
-    {{16, 16, 16, 16}, {16, 16}}, {{4, 4, 4, 4}, {4, 4}},                         {{1, 1, 1, 1}, {1, 1}}};
+static const yoktvarim_levels all_levels[] = {{{64, 64, 64, 64}, {64, 64}},
+                                              {{63.5f, 63.5f, 63.5f, 63.5f}, {63.5f, 63.5f}},
+                                              {{12.3f, 37.7f, 5.1f, 55.5f}, {41.2f, 23.9f}},
+                                              {{16, 16, 16, 16}, {16, 16}},
+                                              {{4, 4, 4, 4}, {4, 4}},
+                                              {{1, 1, 1, 1}, {1, 1}}};
 enum { SETTINGS = 5, LEVELS = 6 };
 
 /* A mesh, with room for more than any table takes. */
@@ -76,8 +79,7 @@ static int share_on(const yoktvarim_settings *settings, const yoktvarim_levels *
     static yoktvarim_shared state;
     static const yoktvarim_quota quotas[2] = {{3 * MANY_POINTS, 3 * MANY_TRIANGLES}, {0, 0}};
     return (int)yoktvarim_share_start(left.points, 3 * MANY_POINTS, left.indices, 3 * MANY_TRIANGLES, quotas, &state) +
-           (int)yoktvarim_share_draw(&state, 0, settings, levels, left.points, 3 * MANY_POINTS, left.indices, 3 * MANY_TRIANGLES,
-                                     counts) +
+           (int)yoktvarim_share_draw(&state, 0, settings, levels, left.points, 3 * MANY_POINTS, left.indices, 3 * MANY_TRIANGLES, counts) +
            (int)yoktvarim_share_clear(&state, 0, left.points, 3 * MANY_POINTS, left.indices, 3 * MANY_TRIANGLES);
 }
 
@@ -129,9 +131,7 @@ static void spoil(mesh *m, int how)
         memmove(m->indices, m->indices + 3, (m->index_words - 3) * sizeof *m->indices);
         m->index_words -= 3;
         break;
-    case 3:
-        m->index_words -= 3;
-        break;
+    case 3: m->index_words -= 3; break;
     case 4:
         for (i = 0; 6 * i + 6 <= m->index_words; i++)
             memcpy(m->indices + 3 * i, m->indices + 6 * i, 3 * sizeof *m->indices);
@@ -151,8 +151,7 @@ static void spoil(mesh *m, int how)
         for (; m->index_words < 3 * MANY_TRIANGLES; m->index_words += 3)
             memcpy(m->indices + m->index_words, m->indices, 3 * sizeof *m->indices);
         break;
-    default:
-        break;
+    default: break;
     }
 }
 
@@ -221,10 +220,10 @@ int run(void)
         inputs *on;
         size_t limit;
     } cases[] = {
-        {"measuring", measure, YOKTVARIM_STACK_MEASURE},   {"drawing", drawing, YOKTVARIM_STACK_DRAW},
+        {"measuring", measure, YOKTVARIM_STACK_MEASURE},         {"drawing", drawing, YOKTVARIM_STACK_DRAW},
         {"drawing with floats", floats, YOKTVARIM_STACK_FLOATS}, {"job files", jobs, YOKTVARIM_STACK_JOB},
-        {"checking", checking, YOKTVARIM_STACK_CHECK},     {"replaying", replaying, YOKTVARIM_STACK_REPLAY},
-        {"shared lists", sharing, YOKTVARIM_STACK_SHARE},  {"comparing", comparing, YOKTVARIM_STACK_COMPARE},
+        {"checking", checking, YOKTVARIM_STACK_CHECK},           {"replaying", replaying, YOKTVARIM_STACK_REPLAY},
+        {"shared lists", sharing, YOKTVARIM_STACK_SHARE},        {"comparing", comparing, YOKTVARIM_STACK_COMPARE},
     };
     int failed = 0;
     for (size_t i = 0; i < sizeof cases / sizeof *cases; i++)

@@ -11,8 +11,7 @@ static uint16_t indices[YOKTVARIM_INDEX_WORDS];
 static void show(const yoktvarim_settings *settings, const yoktvarim_levels *levels, uint32_t point_count, uint32_t index_count)
 {
     uint64_t places[2];
-    yoktvarim_verdict verdict =
-        yoktvarim_check_mesh(settings, levels, points, 3 * (size_t)point_count, indices, index_count, places);
+    yoktvarim_verdict verdict = yoktvarim_check_mesh(settings, levels, points, 3 * (size_t)point_count, indices, index_count, places);
     if (yoktvarim_is_accepted(verdict))
         printf("accepted\n");
     else
@@ -21,8 +20,8 @@ static void show(const yoktvarim_settings *settings, const yoktvarim_levels *lev
 
 int main(void)
 {
-    yoktvarim_settings settings = {YOKTVARIM_QUADS, YOKTVARIM_FRACTIONAL_ODD, YOKTVARIM_CLOCKWISE,
-                                   YOKTVARIM_UPPER_LEFT, YOKTVARIM_PRIMITIVES, YOKTVARIM_GREATEST_TOP};
+    yoktvarim_settings settings = {YOKTVARIM_QUADS,      YOKTVARIM_FRACTIONAL_ODD, YOKTVARIM_CLOCKWISE,
+                                   YOKTVARIM_UPPER_LEFT, YOKTVARIM_PRIMITIVES,     YOKTVARIM_GREATEST_TOP};
     yoktvarim_levels levels = {{3, 2.5f, 7, 1}, {4, 5}};
     uint32_t point_count, index_count;
     if (!yoktvarim_is_drawn(yoktvarim_draw_points(&settings, &levels, points, YOKTVARIM_VERTEX_WORDS, &point_count)) ||

@@ -10,8 +10,8 @@ static uint16_t indices[YOKTVARIM_INDEX_WORDS];
 static float floats[YOKTVARIM_VERTEX_WORDS];
 
 /* Draws into lists of so many words, into both or neither: the room for both is tested before anything is written. */
-static yoktvarim_answer draw(const yoktvarim_settings *settings, const yoktvarim_levels *levels, size_t vertex_words,
-                             size_t index_words, uint32_t *counts)
+static yoktvarim_answer draw(const yoktvarim_settings *settings, const yoktvarim_levels *levels, size_t vertex_words, size_t index_words,
+                             uint32_t *counts)
 {
     yoktvarim_clamps clamps;
     yoktvarim_answer answer = yoktvarim_measure(settings, levels, counts, &clamps);
@@ -38,24 +38,12 @@ static void show_answer(yoktvarim_answer answer, const uint32_t *counts)
         for (uint32_t i = 0; i < counts[1]; i += 3)
             printf("%u %u %u\n", (unsigned)indices[i], (unsigned)indices[i + 1], (unsigned)indices[i + 2]);
         break;
-    case YOKTVARIM_DISCARDED:
-        printf("discarded\n");
-        break;
-    case YOKTVARIM_NO_ROOM_FOR_VERTICES:
-        printf("no room for vertices\n");
-        break;
-    case YOKTVARIM_NO_ROOM_FOR_INDICES:
-        printf("no room for indices\n");
-        break;
-    case YOKTVARIM_UNKNOWN_SETTING:
-        printf("unknown setting at place %" PRIu32 "\n", counts[0]);
-        break;
-    case YOKTVARIM_NO_ROOM_FOR_FLOATS:
-        printf("no room for floats\n");
-        break;
-    case YOKTVARIM_BAD_TOP:
-        printf("bad top\n");
-        break;
+    case YOKTVARIM_DISCARDED: printf("discarded\n"); break;
+    case YOKTVARIM_NO_ROOM_FOR_VERTICES: printf("no room for vertices\n"); break;
+    case YOKTVARIM_NO_ROOM_FOR_INDICES: printf("no room for indices\n"); break;
+    case YOKTVARIM_UNKNOWN_SETTING: printf("unknown setting at place %" PRIu32 "\n", counts[0]); break;
+    case YOKTVARIM_NO_ROOM_FOR_FLOATS: printf("no room for floats\n"); break;
+    case YOKTVARIM_BAD_TOP: printf("bad top\n"); break;
     }
 }
 
@@ -71,8 +59,8 @@ static void show(const yoktvarim_settings *settings, const yoktvarim_levels *lev
 static void show_floats(const yoktvarim_settings *settings, const yoktvarim_levels *levels, size_t float_words)
 {
     uint32_t counts[2];
-    yoktvarim_answer answer = yoktvarim_draw_with_floats(settings, levels, vertices, YOKTVARIM_VERTEX_WORDS, indices,
-                                                         YOKTVARIM_INDEX_WORDS, floats, float_words, counts);
+    yoktvarim_answer answer = yoktvarim_draw_with_floats(settings, levels, vertices, YOKTVARIM_VERTEX_WORDS, indices, YOKTVARIM_INDEX_WORDS,
+                                                         floats, float_words, counts);
     show_answer(answer, counts);
     /* Counts are 0 where nothing was drawn. */
     for (uint32_t p = 0; p < counts[0]; p++)
@@ -83,14 +71,10 @@ static void show_floats(const yoktvarim_settings *settings, const yoktvarim_leve
 static const char *word(uint8_t clamp)
 {
     switch (clamp) {
-    case YOKTVARIM_BELOW:
-        return "below";
-    case YOKTVARIM_INSIDE:
-        return "inside";
-    case YOKTVARIM_ABOVE:
-        return "above";
-    default:
-        return "-"; /* YOKTVARIM_NOT_TOLD: a triangle patch has no such level */
+    case YOKTVARIM_BELOW: return "below";
+    case YOKTVARIM_INSIDE: return "inside";
+    case YOKTVARIM_ABOVE: return "above";
+    default: return "-"; /* YOKTVARIM_NOT_TOLD: a triangle patch has no such level */
     }
 }
 
@@ -111,7 +95,7 @@ static int show_size(const yoktvarim_settings *settings, const yoktvarim_levels 
 static int slide(yoktvarim_settings settings)
 {
     settings.spacing = YOKTVARIM_FRACTIONAL_ODD;
-    yoktvarim_levels levels = { .outer = { 1, 1, 1 }, .inner = { 1.5f } };
+    yoktvarim_levels levels = {.outer = {1, 1, 1}, .inner = {1.5f}};
     uint32_t count;
     if (!yoktvarim_is_drawn(yoktvarim_draw_indices(&settings, &levels, indices, YOKTVARIM_INDEX_WORDS, &count)))
         return 0;
@@ -135,7 +119,7 @@ int main(void)
         .point_mode = YOKTVARIM_PRIMITIVES,
         .top = YOKTVARIM_GREATEST_TOP,
     };
-    yoktvarim_levels levels = { .outer = { 1, 1, 1 }, .inner = { 2 } };
+    yoktvarim_levels levels = {.outer = {1, 1, 1}, .inner = {2}};
 
     /* Lists of these sizes have room for every patch. */
     show(&settings, &levels, YOKTVARIM_VERTEX_WORDS, YOKTVARIM_INDEX_WORDS);
@@ -148,7 +132,7 @@ int main(void)
     show(&settings, &levels, 3 * counts[0], counts[1] - 1);
 
     /* It also says which levels lie outside 1 to 64, the range of equal spacing: 0.5 counts as 1, and 100 as 64. */
-    yoktvarim_levels clamped = { .outer = { 0.5f, 64, 100 }, .inner = { 2 } };
+    yoktvarim_levels clamped = {.outer = {0.5f, 64, 100}, .inner = {2}};
     if (!show_size(&settings, &clamped, counts))
         return 1;
 

@@ -10,25 +10,16 @@
 static uint8_t job[YOKTVARIM_HEADER_BYTES + 2 * YOKTVARIM_RECORD_BYTES];
 
 /* Appends a record at *length, and prints the answer where there is no room or the record is refused. */
-static void append(uint32_t version, const yoktvarim_settings *settings, const yoktvarim_patterns *patterns, uint8_t *bytes,
-                   size_t room, size_t *length)
+static void append(uint32_t version, const yoktvarim_settings *settings, const yoktvarim_patterns *patterns, uint8_t *bytes, size_t room,
+                   size_t *length)
 {
     uint32_t count;
     switch (yoktvarim_write_record(version, settings, patterns, bytes + *length, room - *length, &count)) {
-    case YOKTVARIM_JOB_WRITTEN:
-        *length += count;
-        break;
-    case YOKTVARIM_JOB_UNKNOWN_SETTING:
-        printf("unknown setting at place %" PRIu32 "\n", count);
-        break;
-    case YOKTVARIM_JOB_BAD_TOP:
-        printf("bad top\n");
-        break;
-    case YOKTVARIM_JOB_NO_ROOM:
-        printf("no room\n");
-        break;
-    default:
-        printf("unknown version\n");
+    case YOKTVARIM_JOB_WRITTEN: *length += count; break;
+    case YOKTVARIM_JOB_UNKNOWN_SETTING: printf("unknown setting at place %" PRIu32 "\n", count); break;
+    case YOKTVARIM_JOB_BAD_TOP: printf("bad top\n"); break;
+    case YOKTVARIM_JOB_NO_ROOM: printf("no room\n"); break;
+    default: printf("unknown version\n");
     }
 }
 
@@ -66,17 +57,10 @@ static size_t copy(const uint8_t *file, size_t length, uint8_t *bytes, size_t ro
             show(&settings, &patterns);
             append(version, &settings, &patterns, bytes, room, &written);
             break;
-        case YOKTVARIM_JOB_UNKNOWN_SETTING:
-            printf("unknown setting at place %" PRIu32 "\n", place);
-            break;
-        case YOKTVARIM_JOB_CUT_RECORD:
-            printf("cut record\n");
-            break;
-        case YOKTVARIM_JOB_END:
-            printf("end\n");
-            return written;
-        default:
-            return 0; /* the header was read, so the version is known */
+        case YOKTVARIM_JOB_UNKNOWN_SETTING: printf("unknown setting at place %" PRIu32 "\n", place); break;
+        case YOKTVARIM_JOB_CUT_RECORD: printf("cut record\n"); break;
+        case YOKTVARIM_JOB_END: printf("end\n"); return written;
+        default: return 0; /* the header was read, so the version is known */
         }
     }
 }
@@ -91,7 +75,7 @@ int main(void)
         .point_mode = YOKTVARIM_PRIMITIVES,
         .top = 16,
     };
-    yoktvarim_levels levels = { .outer = { 1, 1, 1 }, .inner = { 2 } };
+    yoktvarim_levels levels = {.outer = {1, 1, 1}, .inner = {2}};
     yoktvarim_patterns patterns = yoktvarim_patterns_of(&levels);
 
     /* A file of version 2: a header, then two records, the second with a NaN that keeps its payload. */

@@ -13,8 +13,7 @@ static uint16_t indices[WORDS];
 static void draw(yoktvarim_shared *state, uint32_t designer, const yoktvarim_settings *settings, const yoktvarim_levels *levels)
 {
     uint32_t counts[2];
-    yoktvarim_share_answer answer =
-        yoktvarim_share_draw(state, designer, settings, levels, vertices, WORDS, indices, WORDS, counts);
+    yoktvarim_share_answer answer = yoktvarim_share_draw(state, designer, settings, levels, vertices, WORDS, indices, WORDS, counts);
     printf("designer %" PRIu32 ": answer %d, %" PRIu32 " points, %" PRIu32 " indices", designer, (int)answer, counts[0], counts[1]);
     if (designer < 2)
         printf(", used %" PRIu64 " %" PRIu64, state->vertices.share[designer].used, state->indices.share[designer].used);
@@ -31,11 +30,11 @@ int main(void)
         .point_mode = YOKTVARIM_PRIMITIVES,
         .top = YOKTVARIM_GREATEST_TOP,
     };
-    const yoktvarim_levels levels = { .outer = { 1, 1, 1 }, .inner = { 2 } };
+    const yoktvarim_levels levels = {.outer = {1, 1, 1}, .inner = {2}};
     yoktvarim_shared state;
 
     /* Quotas that add up past a list are refused as a whole, and the state is not written. */
-    yoktvarim_quota quotas[2] = { { 24, 24 }, { 25, 24 } };
+    yoktvarim_quota quotas[2] = {{24, 24}, {25, 24}};
     printf("start: %d\n", (int)yoktvarim_share_start(vertices, WORDS, indices, WORDS, quotas, &state));
     quotas[1].vertices = 24;
     if (!yoktvarim_is_done(yoktvarim_share_start(vertices, WORDS, indices, WORDS, quotas, &state)))

@@ -20,12 +20,20 @@ os.environ.setdefault("YOKTVARIM_LIBRARY", str(ROOT / "target/staticlib/libyoktv
 sys.path.insert(0, str(ROOT / "python"))
 sys.dont_write_bytecode = True
 
-import yoktvarim
-from yoktvarim import Designer, DomainOrigin, Isolines, Mesh, Quads, Quota, Settings, Shared, Spacing, Triangles, VertexOrder
+# Found by the path that was set just now, so not among the imports above (E402).
+import yoktvarim  # noqa: E402
+from yoktvarim import Designer, DomainOrigin, Isolines, Mesh, Quads, Quota, Settings, Shared, Spacing  # noqa: E402
+from yoktvarim import Triangles, VertexOrder  # noqa: E402
 
 CASES = 1500
 LEVELS = (float("nan"), float("inf"), 0.0, -1.0, 0.5, 1.0, 1.0000001, 2.0, 3.0, 63.0, 64.0)
-WORDS = {"isolines not checked": "isolines", "dots not checked": "dots", "part drawn": "drawn", "floats drawn": "drawn", "shared": "started"}
+WORDS = {
+    "isolines not checked": "isolines",
+    "dots not checked": "dots",
+    "part drawn": "drawn",
+    "floats drawn": "drawn",
+    "shared": "started",
+}
 
 
 def name(answer):
@@ -131,7 +139,10 @@ class Calls(unittest.TestCase):
             answer = yoktvarim.check_mesh(patch, settings, *listed(*lists))
             call = {"call": "check", "patch": told_patch(patch), "settings": told_settings(settings), "mesh": lists}
             cases.append((call, {"is": name(answer), **vars(answer)}))
-        faults = "accepted, bad top, isolines, dots, should be discarded, not threes, unknown index, outside, equal points, turned, side twice, open side"
+        faults = (
+            "accepted, bad top, isolines, dots, should be discarded, not threes, unknown index, outside, "
+            "equal points, turned, side twice, open side"
+        )
         self.assertLessEqual(set(faults.split(", ")), self.agree(cases))
 
     def test_compare(self):

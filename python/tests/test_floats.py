@@ -37,7 +37,11 @@ def quotient(whole, one):
 
 class Floats(unittest.TestCase):
     def test_the_three_lists(self):
-        for patch, one in ((Triangles((3, 5.5, 2), 7), ONE_IN_TRIANGLES), (Quads((1, 2, 3, 4.5), (5, 6)), ONE_IN_QUADS), (Isolines((3, 2)), ONE_IN_QUADS)):
+        for patch, one in (
+            (Triangles((3, 5.5, 2), 7), ONE_IN_TRIANGLES),
+            (Quads((1, 2, 3, 4.5), (5, 6)), ONE_IN_QUADS),
+            (Isolines((3, 2)), ONE_IN_QUADS),
+        ):
             for spacing in Spacing:
                 settings = Settings(spacing=spacing)
                 mesh = yoktvarim.mesh(patch, settings)

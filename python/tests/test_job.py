@@ -90,7 +90,11 @@ class Files(unittest.TestCase):
         class Hair(Isolines):
             pass
 
-        for derived, kind, levels in ((Face, Triangles, ((1, 2, 3), 4)), (Tile, Quads, ((1, 2, 3, 4), (5, 6))), (Hair, Isolines, ((1, 2),))):
+        for derived, kind, levels in (
+            (Face, Triangles, ((1, 2, 3), 4)),
+            (Tile, Quads, ((1, 2, 3, 4), (5, 6))),
+            (Hair, Isolines, ((1, 2),)),
+        ):
             record = Record.of(kind(*levels))
             self.assertEqual(Record.of(derived(*levels)), record)
             self.assertEqual(Record(derived, record.settings, record.bits), record)
