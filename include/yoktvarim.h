@@ -33,6 +33,12 @@
 #include <stdint.h>
 #include <string.h>
 
+/* The version of this header and of the library it belongs to; tools/version writes these lines. */
+#define YOKTVARIM_VERSION_MAJOR 0
+#define YOKTVARIM_VERSION_MINOR 1
+#define YOKTVARIM_VERSION_PATCH 0
+#define YOKTVARIM_VERSION "0.1.0"
+
 #ifdef __cplusplus
 extern "C" {
 #endif

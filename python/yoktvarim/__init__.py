@@ -16,6 +16,8 @@ An answer is always an object that is named for what happened, never a number:
     Discarded()
 """
 
+__version__ = "0.1.0"  # tools/version writes this line
+
 # What callers use; the modules below have no other public names.
 
 from .answers import (

@@ -3,6 +3,7 @@
 import ctypes
 import functools
 import os
+import subprocess
 from pathlib import Path
 from typing import Any, Iterator
 
@@ -20,13 +21,22 @@ class LibraryMismatch(RuntimeError):
 
 
 def places() -> Iterator[str]:
-    """Where the library may be: beside this module, under the prefix it was installed to, or where the loader looks."""
+    """Where the library may be: beside this module, in the prefix it was installed to, where the loader looks, or where pkg-config says."""
     here = Path(__file__).resolve()
     yield str(here.parent / NAME)
     # PREFIX/share/yoktvarim/python/yoktvarim/library.py
-    if len(here.parents) > 4:
+    if here.parts[-5:-2] == ("share", "yoktvarim", "python"):
         yield str(here.parents[4] / "lib" / NAME)
     yield NAME
+    from . import __version__  # here, since the package imports this module while it is imported itself
+
+    wanted = f"yoktvarim = {__version__}"
+    try:
+        asked = subprocess.run(["pkg-config", "--variable=libdir", wanted], stdout=subprocess.PIPE, stderr=subprocess.DEVNULL)
+    except OSError:
+        return
+    if asked.returncode == 0:
+        yield os.path.join(os.fsdecode(asked.stdout).rstrip("\n"), NAME)
 
 
 @functools.lru_cache(maxsize=None)
@@ -42,7 +52,11 @@ def library() -> ctypes.CDLL:
             return ctypes.CDLL(place)
         except OSError as error:
             told.append(str(error))
-    raise LibraryNotFound(f"{NAME} is not found; name its file in {VARIABLE}. Tried: " + "; ".join(told))
+    raise LibraryNotFound(
+        f"{NAME} is not found. Install it with `tools/install PREFIX` in a checkout of Yoktvarim, and name its file, "
+        f"PREFIX/lib/{NAME}, in {VARIABLE}; or name PREFIX/lib in LD_LIBRARY_PATH, or PREFIX/lib/pkgconfig in PKG_CONFIG_PATH. "
+        f"Tried: " + "; ".join(told)
+    )
 
 
 class Function:
