@@ -123,7 +123,10 @@ typedef enum yoktvarim_answer {
 } yoktvarim_answer;
 
 /* 1 for YOKTVARIM_DRAWN and YOKTVARIM_MEASURED, which are the same number; 0 for every other answer. */
-YOKTVARIM_MUST_USE static inline unsigned yoktvarim_is_drawn(yoktvarim_answer answer) { return answer == YOKTVARIM_DRAWN; }
+YOKTVARIM_MUST_USE static inline unsigned yoktvarim_is_drawn(yoktvarim_answer answer)
+{
+    return answer == YOKTVARIM_DRAWN;
+}
 
 /* Values of yoktvarim_clamps: where a level lies against the range it is clamped to. The ends of the range are inside. The range is 1 to
  * the top for equal spacing, 2 to the top for fractional even, and 1 to one less than the top for fractional odd. The number of
@@ -228,10 +231,16 @@ typedef enum yoktvarim_job_answer {
 } yoktvarim_job_answer;
 
 /* 1 for YOKTVARIM_JOB_WRITTEN, 0 for every other answer. */
-YOKTVARIM_MUST_USE static inline unsigned yoktvarim_is_written(yoktvarim_job_answer answer) { return answer == YOKTVARIM_JOB_WRITTEN; }
+YOKTVARIM_MUST_USE static inline unsigned yoktvarim_is_written(yoktvarim_job_answer answer)
+{
+    return answer == YOKTVARIM_JOB_WRITTEN;
+}
 
 /* 1 for YOKTVARIM_JOB_READ, 0 for every other answer, also at the end. */
-YOKTVARIM_MUST_USE static inline unsigned yoktvarim_is_read(yoktvarim_job_answer answer) { return answer == YOKTVARIM_JOB_READ; }
+YOKTVARIM_MUST_USE static inline unsigned yoktvarim_is_read(yoktvarim_job_answer answer)
+{
+    return answer == YOKTVARIM_JOB_READ;
+}
 
 /* The size of a header, and the greatest size of a record. */
 enum { YOKTVARIM_HEADER_BYTES = 5, YOKTVARIM_RECORD_BYTES = 30 };
@@ -317,7 +326,10 @@ typedef enum yoktvarim_verdict {
 } yoktvarim_verdict;
 
 /* 1 for YOKTVARIM_ACCEPTED, 0 for every other verdict. */
-YOKTVARIM_MUST_USE static inline unsigned yoktvarim_is_accepted(yoktvarim_verdict verdict) { return verdict == YOKTVARIM_ACCEPTED; }
+YOKTVARIM_MUST_USE static inline unsigned yoktvarim_is_accepted(yoktvarim_verdict verdict)
+{
+    return verdict == YOKTVARIM_ACCEPTED;
+}
 
 /* Checks a mesh that anybody made for a patch: whether points, three words u, v, w each, and indices, three to a triangle, are a right
  * mesh of the patch. Lists of any length and content may be given; they are only read. places has two words, both always written; one
@@ -355,7 +367,10 @@ typedef enum yoktvarim_share_answer {
 } yoktvarim_share_answer;
 
 /* 1 for YOKTVARIM_SHARE_DONE, 0 for every other answer. */
-YOKTVARIM_MUST_USE static inline unsigned yoktvarim_is_done(yoktvarim_share_answer answer) { return answer == YOKTVARIM_SHARE_DONE; }
+YOKTVARIM_MUST_USE static inline unsigned yoktvarim_is_done(yoktvarim_share_answer answer)
+{
+    return answer == YOKTVARIM_SHARE_DONE;
+}
 
 /* What a designer asks for at the start, in words. */
 typedef struct yoktvarim_quota {
@@ -419,7 +434,10 @@ typedef enum yoktvarim_comparison {
 } yoktvarim_comparison;
 
 /* 1 for YOKTVARIM_COMPARED, 0 for every other answer. Two meshes are the same where this is 1 and *count is 0. */
-YOKTVARIM_MUST_USE static inline unsigned yoktvarim_is_compared(yoktvarim_comparison answer) { return answer == YOKTVARIM_COMPARED; }
+YOKTVARIM_MUST_USE static inline unsigned yoktvarim_is_compared(yoktvarim_comparison answer)
+{
+    return answer == YOKTVARIM_COMPARED;
+}
 
 /* The three words of a difference; the list holds one difference after the other. */
 typedef struct yoktvarim_difference {
@@ -455,7 +473,10 @@ typedef enum yoktvarim_replay_answer {
 } yoktvarim_replay_answer;
 
 /* 1 for YOKTVARIM_ALL_AGREE, 0 for every other answer. */
-YOKTVARIM_MUST_USE static inline unsigned yoktvarim_all_agree(yoktvarim_replay_answer answer) { return answer == YOKTVARIM_ALL_AGREE; }
+YOKTVARIM_MUST_USE static inline unsigned yoktvarim_all_agree(yoktvarim_replay_answer answer)
+{
+    return answer == YOKTVARIM_ALL_AGREE;
+}
 
 /* One side of an entry: the number of an answer and the counts of points and indices, which are 0 unless the number is 0, drawn. The
  * recorded side can be any number of one byte and any two counts of two bytes. */

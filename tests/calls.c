@@ -17,9 +17,15 @@ static uint32_t chance(void)
     return (uint32_t)((seed * 0x2545F4914F6CDD1Du) >> 32);
 }
 
-static uint32_t below(uint32_t count) { return (uint32_t)(((uint64_t)chance() * count) >> 32); }
+static uint32_t below(uint32_t count)
+{
+    return (uint32_t)(((uint64_t)chance() * count) >> 32);
+}
 
-static int one_in(uint32_t count) { return below(count) == 0; }
+static int one_in(uint32_t count)
+{
+    return below(count) == 0;
+}
 
 /* A length near the one that is needed. */
 static uint32_t near(uint32_t length)
@@ -68,7 +74,10 @@ static void *lend(size_t size)
 }
 
 /* A list that holds these bytes. */
-static void *lend_copy(const void *from, size_t size) { return memcpy(lend(size), from, size); }
+static void *lend_copy(const void *from, size_t size)
+{
+    return memcpy(lend(size), from, size);
+}
 
 /* ---------------------------------------------------------------- what came of the calls */
 
@@ -118,7 +127,10 @@ static uint32_t note(int which, uint32_t answer)
 }
 
 /* All lists are given back. */
-static void give_back(void) { arena_used = guard_count = 0; }
+static void give_back(void)
+{
+    arena_used = guard_count = 0;
+}
 
 /* ---------------------------------------------------------------- patches */
 
@@ -167,8 +179,14 @@ typedef struct mesh {
     uint32_t point_words, index_words;
 } mesh;
 
-static yoktvarim_settings *lend_settings(const patch *p) { return lend_copy(&p->settings, sizeof p->settings); }
-static yoktvarim_levels *lend_levels(const patch *p) { return lend_copy(&p->patterns, sizeof p->patterns); }
+static yoktvarim_settings *lend_settings(const patch *p)
+{
+    return lend_copy(&p->settings, sizeof p->settings);
+}
+static yoktvarim_levels *lend_levels(const patch *p)
+{
+    return lend_copy(&p->patterns, sizeof p->patterns);
+}
 
 /* The counts of a patch, 0 and 0 if it has no counts; returns the number of the answer. */
 static uint32_t measured(const patch *p, uint32_t *counts)

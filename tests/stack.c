@@ -108,12 +108,30 @@ static int replay_on(const yoktvarim_settings *settings, const yoktvarim_levels 
     return (int)yoktvarim_replay(recording, sizeof recording, &told);
 }
 
-static int measure(int input) { return patch_call(input, measure_on); }
-static int drawing(int input) { return patch_call(input, draw_on); }
-static int floats(int input) { return patch_call(input, floats_on); }
-static int sharing(int input) { return patch_call(input, share_on); }
-static int jobs(int input) { return patch_call(input, job_on); }
-static int replaying(int input) { return patch_call(input, replay_on); }
+static int measure(int input)
+{
+    return patch_call(input, measure_on);
+}
+static int drawing(int input)
+{
+    return patch_call(input, draw_on);
+}
+static int floats(int input)
+{
+    return patch_call(input, floats_on);
+}
+static int sharing(int input)
+{
+    return patch_call(input, share_on);
+}
+static int jobs(int input)
+{
+    return patch_call(input, job_on);
+}
+static int replaying(int input)
+{
+    return patch_call(input, replay_on);
+}
 
 /* How a mesh is spoilt: not at all, a triangle repeated, the first one missing, the last one missing, every second one missing, two points
  * equal, more points than the tables take, more triangles. */

@@ -9,7 +9,10 @@
 __attribute__((import_module("bare"), import_name("write"))) void system_write(const char *bytes, size_t count);
 __attribute__((import_module("bare"), import_name("end"), noreturn)) void system_end(int status);
 
-__attribute__((export_name("start"))) void start(void) { system_end(run()); }
+__attribute__((export_name("start"))) void start(void)
+{
+    system_end(run());
+}
 
 #else
 
@@ -60,7 +63,10 @@ static void system_end(int status)
 }
 
 void bare_start(void);
-void bare_start(void) { system_end(run()); }
+void bare_start(void)
+{
+    system_end(run());
+}
 
 #endif
 
@@ -106,7 +112,10 @@ static size_t length_of(const char *text)
     return length;
 }
 
-void say(const char *text) { system_write(text, length_of(text)); }
+void say(const char *text)
+{
+    system_write(text, length_of(text));
+}
 
 static void say_digits(uint64_t number, unsigned base)
 {
@@ -120,9 +129,15 @@ static void say_digits(uint64_t number, unsigned base)
     say(digits + at);
 }
 
-void say_decimal(uint64_t number) { say_digits(number, 10); }
+void say_decimal(uint64_t number)
+{
+    say_digits(number, 10);
+}
 
-void say_hexadecimal(uint64_t number) { say_digits(number, 16); }
+void say_hexadecimal(uint64_t number)
+{
+    say_digits(number, 16);
+}
 
 void must(int holds, const char *what)
 {
@@ -140,14 +155,26 @@ enum { PAINT = 0xA5, STACK = 1 << 19, NEAR = 256 };
 #if defined(__wasm__)
 
 /* The module's stack lies below STACK_TOP, which the module's linker was given, and is empty between calls. */
-static unsigned char *stack_top(void) { return (unsigned char *)STACK_TOP; }
-static unsigned char *stack_low(void) { return (unsigned char *)NEAR; }
+static unsigned char *stack_top(void)
+{
+    return (unsigned char *)STACK_TOP;
+}
+static unsigned char *stack_low(void)
+{
+    return (unsigned char *)NEAR;
+}
 
 #else
 
 /* The stack below the frame of the function that calls this. */
-static inline __attribute__((always_inline)) unsigned char *stack_top(void) { return __builtin_frame_address(0); }
-static inline __attribute__((always_inline)) unsigned char *stack_low(void) { return stack_top() - STACK; }
+static inline __attribute__((always_inline)) unsigned char *stack_top(void)
+{
+    return __builtin_frame_address(0);
+}
+static inline __attribute__((always_inline)) unsigned char *stack_low(void)
+{
+    return stack_top() - STACK;
+}
 
 #endif
 

@@ -1,0 +1,1 @@
+"""Judges the meshes that a graphics device cut, by the proved calls of the module yoktvarim. For tools/check_device, mesh_text and mesh_obj."""
