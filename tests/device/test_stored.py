@@ -2,7 +2,7 @@
 
 import unittest
 
-from support import JOB, STORED, TOOLS, InFolder, run
+from support import JOB, ROOT, STORED, TOOLS, InFolder, run
 
 CHECK = TOOLS / "check_device"
 
@@ -64,7 +64,7 @@ class Stored(InFolder):
         self.refused(run(CHECK, "--text", self.file("cut.txt", "TSJ 2\ndiscarded"), JOB), "line 2: no newline at its end")
         self.refused(run(CHECK, "--text", self.file("short.txt", "TSJ 2\ndiscarded\n"), JOB), "version 2 and 1 records, and the job has")
         self.refused(run(CHECK, "--text", self.folder / "none.txt", JOB), "No such file")
-        self.refused(run(CHECK, "--text", STORED / "lavapipe.txt", STORED / "lavapipe.txt"), "not a job file")
+        self.refused(run(CHECK, "--text", STORED / "lavapipe.txt", ROOT / "README.md"), "not a job file")
 
     def test_words_that_are_no_call(self):
         for words in (["--text", "x"], ["--size", "0"], ["--sideways"], ["--top", "15"], ["--top", "0"]):
