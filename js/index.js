@@ -24,15 +24,12 @@ export { patchOf, record } from './job.js';
 export { GREATEST_TOP, isolines, ONE_IN_QUADS, ONE_IN_TRIANGLES, quads, settings, triangles } from './patch.js';
 export { jobText } from './text.js';
 
-/** The module beside this file. */
-const BESIDE = new URL('./yoktvarim.wasm', import.meta.url);
-
 /**
- * Loads the module from its bytes or from an address, and returns all operations.
+ * Loads the module from its bytes or from an address, without either the module beside this file, and returns all operations.
  *
  * @param {BufferSource | string | URL} [source]
  */
-export async function load(source = BESIDE) {
+export async function load(source = new URL('./yoktvarim.wasm', import.meta.url)) {
     const bytes = typeof source === 'string' || source instanceof URL ? await read(source) : source;
     const { instance } = await WebAssembly.instantiate(bytes);
     const calls = instance.exports;
