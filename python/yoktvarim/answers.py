@@ -15,7 +15,7 @@ from typing import ClassVar, List, Tuple
 
 @dataclass(frozen=True)
 class Answer:
-    """An answer is neither true nor false, so that no refusal passes for a yes: ask which class it has."""
+    """An answer is neither true nor false, so that no refusal passes for success: ask which class it has."""
 
     number: ClassVar[int]
 
