@@ -68,6 +68,7 @@ fn write_all_points(
 
 // Writes the words of all differences to the front.
 pub fn write_differences(
+    out: &mut [u64],
     left_points: &[u32],
     left_indices: &[u16],
     right_points: &[u32],
@@ -77,7 +78,6 @@ pub fn write_differences(
     left_face_flags: &[u8],
     right_point_flags: &[u8],
     right_face_flags: &[u8],
-    out: &mut [u64],
 ) -> usize
     requires { ⌜ Good (now «left_points») (now «left_indices») ⌝ ∗ ⌜ Good (now «right_points») (now «right_indices») ⌝ ∗ ⌜ MeshFlags known (now «left_points») (now «left_indices») (now «right_points») (now «right_indices») (now «left_point_flags») (now «left_face_flags») (now «right_point_flags») (now «right_face_flags») ⌝ ∗ ⌜ length (words (differences (readMesh (now «left_points») (now «left_indices»)) (readMesh (now «right_points») (now «right_indices»)))) ≤ length (now out) ⌝ }
     ensures { λ r. ⌜ Wrote (now (out .entry)) 0 (words (differences (readMesh (now («left_points» .entry)) (now («left_indices» .entry))) (readMesh (now («right_points» .entry)) (now («right_indices» .entry))))) (now (out .exit)) r ⌝ }

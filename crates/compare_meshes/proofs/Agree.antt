@@ -26,5 +26,6 @@ agree-more {xs} {ys} {n} true h e = record {
 }
 agree-more false h e = absurd (true≢false (sym e))
 
-pub agree-all : (xs ys : List ℕ) → length xs ≡ length ys → Agree xs ys (length xs) → xs ≡ ys
-agree-all xs ys e h = ext-getD 0 xs ys e (h .each)
+-- two lists of the same length, of which all words were compared
+pub agree-all : {xs ys : List ℕ} {n : ℕ} → length xs ≡ length ys → n ≤ length xs → length xs ≤ n → Agree xs ys n → xs ≡ ys
+agree-all {xs} {ys} e l m h = ext-getD 0 xs ys e (λ k b. h .each k (omega arith))

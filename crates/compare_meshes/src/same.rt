@@ -1,14 +1,14 @@
 // Whether two meshes have the same words.
 ghost use mathlib.Core.Path.{_≡_};
 ghost use mathlib.Core.Bool.{true};
+ghost use lib.ListN.{length};
 
-// Whether two lists of points have the same words. It always reads all of them, so that it can compare several at once.
+// Whether two lists of points of the same length have the same words. It always reads all of them, so that it can compare several at
+// once.
 fn same_points(xs: &[u32], ys: &[u32]) -> bool
+    requires { ⌜ length (now xs) ≡ length (now ys) ⌝ }
     ensures { λ r. ⌜ (r ≡ true → now (xs .entry) ≡ now (ys .entry)) ⌝ }
 {
-    if xs.len() != ys.len() {
-        return false;
-    }
     let mut same = true;
     let mut k = 0;
     while k < xs.len() {
@@ -20,11 +20,9 @@ fn same_points(xs: &[u32], ys: &[u32]) -> bool
 
 // The same for indices.
 fn same_indices(xs: &[u16], ys: &[u16]) -> bool
+    requires { ⌜ length (now xs) ≡ length (now ys) ⌝ }
     ensures { λ r. ⌜ (r ≡ true → now (xs .entry) ≡ now (ys .entry)) ⌝ }
 {
-    if xs.len() != ys.len() {
-        return false;
-    }
     let mut same = true;
     let mut k = 0;
     while k < xs.len() {
@@ -43,6 +41,12 @@ pub(crate) fn same_mesh(
 ) -> bool
     ensures { λ r. ⌜ (r ≡ true → (now («left_points» .entry) ≡ now («right_points» .entry)) × (now («left_indices» .entry) ≡ now («right_indices» .entry))) ⌝ }
 {
+    if left_points.len() != right_points.len() {
+        return false;
+    }
+    if left_indices.len() != right_indices.len() {
+        return false;
+    }
     if !same_points(left_points, right_points) {
         return false;
     }

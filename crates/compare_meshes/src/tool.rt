@@ -65,6 +65,7 @@ fn list_by_flags(
         return Comparison::NoRoom(n);
     }
     write_differences(
+        out,
         left_points,
         left_indices,
         right_points,
@@ -74,7 +75,6 @@ fn list_by_flags(
         left_face_flags,
         right_point_flags,
         right_face_flags,
-        out,
     );
     Comparison::Differences(n)
 }
