@@ -4,9 +4,9 @@ import os
 import shutil
 import unittest
 
-from support import BUILT, ROOT, InFolder, run
+from support import ROOT, InFolder, run
 
-BASIC = ("bash", "dirname", "readlink", "find", "mkdir", "mktemp", "mv", "rm", "sed", "env")
+BASIC = ("bash", "cat", "dirname", "env", "find", "mkdir", "mktemp", "mv", "readlink", "rm", "sed", "sha256sum")
 BUILDERS = ("g++", "glslangValidator", "pkg-config")
 
 
@@ -47,17 +47,15 @@ class Build(InFolder):
         self.assertFalse((self.folder / "cache").exists())
 
     def test_a_source_that_does_not_compile(self):
-        (self.folder / "cache/yoktvarim").mkdir(parents=True)
-        shutil.copy(ROOT / "target/capture/shaders.h", self.folder / "cache/yoktvarim")  # newer than its sources
-        (self.folder / "share/yoktvarim/capture/failure.h").write_text("#error broken\n")
+        (self.folder / "share/yoktvarim/capture/shaders/pass.vert").write_text("no shader\n")
         done = run(self.folder / "share/yoktvarim/tools/capture", "-h", env={**os.environ, "XDG_CACHE_HOME": str(self.folder / "cache")})
-        self.assertEqual(done.returncode, 1)
-        self.assertTrue(done.stderr.endswith("capture: the program does not compile\n"), done.stderr)
-        self.assertEqual(sorted(path.name for path in (self.folder / "cache/yoktvarim").iterdir()), ["shaders.h"])
+        self.assertEqual((done.returncode, done.stdout), (1, ""))
+        self.assertTrue(done.stderr.endswith("capture: the shaders do not compile\n"), done.stderr)
+        self.assertEqual([path for path in (self.folder / "cache").rglob("*") if path.is_file()], [])
 
-    def test_units(self):
-        done = run(BUILT / "units")
-        self.assertEqual((done.returncode, done.stdout), (0, ""))
+    def test_an_install_that_is_not_whole(self):
+        (self.folder / "lib/libyoktvarim.a").unlink()
+        self.refused(self.capture(BASIC), "the install is not whole")
 
 
 if __name__ == "__main__":
