@@ -1,1 +1,2 @@
-"""Judges the meshes that a graphics device cut, by the proved calls of the module yoktvarim. For tools/check_device, mesh_text and mesh_obj."""
+"""Judges the meshes that a graphics device cut, by the proved calls of the module yoktvarim: the commands check_device, mesh_text and
+mesh_obj of tools/."""

@@ -2,24 +2,21 @@
 
 import os
 import subprocess
-import sys
 import tempfile
 import unittest
 from pathlib import Path
+
+import yoktvarim
+from yoktvarim import Isolines
+
+from device_check.library import find_library
+from device_check.text import Drawn
 
 ROOT = Path(__file__).resolve().parent.parent.parent
 STORED = Path(__file__).resolve().parent / "stored"
 JOB = STORED / "job.tsj"
 TOOLS = ROOT / "tools"
 BUILT = Path(os.environ["CAPTURE_TESTS"])  # the folder with what tests/capture built
-
-sys.path.insert(0, str(ROOT / "python"))
-
-from device_check.library import find_library
-from device_check.text import Drawn
-
-import yoktvarim
-from yoktvarim import Isolines
 
 find_library()
 

@@ -4,13 +4,13 @@ import os
 import subprocess
 import unittest
 
-from support import BUILT, JOB, ROOT, STORED, TOOLS, InFolder, run
+from yoktvarim import Spacing
 
 from device_check.job import read_job
 from device_check.judge import judge
 from device_check.text import read_text
 
-from yoktvarim import Spacing
+from support import BUILT, JOB, ROOT, STORED, TOOLS, InFolder, run
 
 LOADER = os.environ["CAPTURE_LOADER"]
 CAPTURE = TOOLS / "capture"

@@ -4,13 +4,13 @@ import unittest
 from dataclasses import replace
 from fractions import Fraction
 
-from support import cut
+from yoktvarim import Isolines, Quads, Record, Settings, Triangles, UnknownSetting
 
 from device_check.finding import Outcome
 from device_check.judge import judge
-from device_check.text import Discarded, Drawn, Refused
+from device_check.text import Discarded, Refused
 
-from yoktvarim import Isolines, Quads, Record, Settings, Triangles, UnknownSetting
+from support import cut
 
 TRIANGLES = Record.of(Triangles((2, 3, 1), 3))
 QUADS = Record.of(Quads((2, 3, 4, 1), (3, 5)))

@@ -3,12 +3,12 @@
 import unittest
 from dataclasses import replace
 
-from support import cut
+from yoktvarim import Quads, Record, Settings, Spacing, Triangles
 
 from device_check.edges import edges_of, places
 from device_check.seams import find_seams
 
-from yoktvarim import Quads, Record, Settings, Spacing, Triangles
+from support import cut
 
 TRIANGLES = Record.of(Triangles((2, 3, 1), 3))
 QUADS = Record.of(Quads((2, 3, 4, 1), (3, 5)))
