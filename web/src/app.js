@@ -187,8 +187,8 @@ export class App {
         const { state, unread } = fromLink(location.hash.slice(1), this.#views.map(({ name }) => name));
         this.state = state;
         const [one, ...more] = unread.map((each) => `“${each}”`);
-        const what = more.length > 0 ? `${[one, ...more].join(', ')}, and these values are` : `${one}, and this value is`;
-        notice(one ? sentence(`the link has ${what} as in a new page: it cannot be read`) : '');
+        const what = more.length > 0 ? `${[one, ...more].join(', ')}, which cannot be read; these values are` : `${one}, which cannot be read; its value is`;
+        notice(one ? sentence(`the link has ${what} as in a new page`) : '');
     }
 
     #follow() {
@@ -196,6 +196,7 @@ export class App {
             scene: () => this.#scene,
             looked: (found) => this.#looked(found),
             chosen: (found) => this.#view().chosen?.(found),
+            zoom: () => this.state.zoom,
             moved: (zoom) => this.change((state) => (state.zoom = zoom), this.#gesture),
         };
         followKeys(this.picture.element, looking);

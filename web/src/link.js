@@ -56,16 +56,17 @@ export function fromLink(link, views) {
     const words = new URLSearchParams(link.replaceAll('_', '+'));
     const state = newState();
     if ([...words.keys()].some((name) => name.startsWith('held.'))) state.held = newPatch();
-    const unread = new Map(words);
-    if (views.includes(words.get('view'))) state.view = unread.get('view');
-    if (state.view === words.get('view')) unread.delete('view');
+    const unread = new Set(words);
+    const isRead = (name) => unread.delete([...unread].find(([each]) => each === name));
+    if (views.includes(words.get('view'))) state.view = words.get('view');
+    if (state.view === words.get('view')) isRead('view');
     for (const [prefix, values] of partsOf(state)) {
         for (const [name, value] of Object.entries(values)) {
             const text = words.get(prefix + name);
             const found = text === null ? undefined : read(name, value, text);
             if (found === undefined) continue;
             values[name] = found;
-            unread.delete(prefix + name);
+            isRead(prefix + name);
         }
     }
     return { state, unread: [...unread].map(([name, text]) => (text === '' ? name : `${name}=${text}`)) };

@@ -21,7 +21,8 @@ from selenium.webdriver.common.keys import Keys
 ROOT = Path(__file__).resolve().parents[2]
 PAGE = Path(os.environ.get("PAGE", "page.html")).resolve()
 TSJ = os.environ.get("TSJ", ROOT / "target/bin/tsj")
-WORDS = ("--headless=new", "--no-sandbox", "--disable-gpu", "--hide-scrollbars", "--disable-background-networking")
+WORDS = ("--headless=new", "--no-sandbox", "--disable-gpu", "--hide-scrollbars", "--disable-background-networking", "--disable-lcd-text")
+ALL = Keys.CONTROL + "a" + Keys.NULL  # chooses all of a field's text
 FRAMES = "const done = arguments[0]; requestAnimationFrame(() => requestAnimationFrame(() => setTimeout(done)));"
 
 
@@ -110,11 +111,11 @@ class PageTest(unittest.TestCase):
         self.assertTrue(radios[labels.index(name)].is_selected())
 
     def fill(self, label, text):
-        self.find(f'[aria-label="{label}"]').send_keys(Keys.CONTROL + "a", text)
+        self.find(f'[aria-label="{label}"]').send_keys(ALL, text)
         self.settle()
 
     def set_top(self, top):
-        self.find(".top input").send_keys(Keys.CONTROL + "a", str(top))
+        self.find(".top input").send_keys(ALL, str(top))
         self.settle()
 
     def press(self, title):

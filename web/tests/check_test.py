@@ -133,7 +133,8 @@ class Check(PageTest):
             const seen = [];
             const look = () => seen.push([
                 document.querySelector('#verdict').textContent,
-                document.querySelector('.surface').getAttribute('aria-label').match(/\\d+ points/)[0],
+                document.querySelector('#fault').textContent,
+                Number(document.querySelector('.surface').getAttribute('aria-label').match(/(\\d+) triangles/)[1]),
             ]);
             new MutationObserver(look).observe(document.querySelector('#words'), { subtree: true, childList: true, characterData: true });
             const slider = document.querySelector('[aria-label="inner rows, slider"]');
@@ -142,7 +143,11 @@ class Check(PageTest):
             setTimeout(() => { look(); done(seen); }, 2500);
         """)
         self.assertEqual(seen[-1][0], "turned")
-        self.assertEqual({answer for answer, _ in seen} - {"turned", "checking …"}, set())
+        self.assertGreater(len({triangles for _, _, triangles in seen}), 1)
+        for answer, fault, triangles in seen:
+            # The triangle in the middle of the list is the flipped one.
+            words = f"Triangle {triangles // 2} has no area or turns the wrong way."
+            self.assertIn((answer, fault), {("turned", words), ("checking …", "The answer is not there yet.")})
 
 
 if __name__ == "__main__":

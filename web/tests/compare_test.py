@@ -13,12 +13,12 @@ class Compare(PageTest):
     def test_previous_mesh(self):
         self.assertEqual(self.said("#comparison"), "no other mesh")
         self.fill("outer v = 1", "4")
-        # Three points of four segments and two of three; of the strips of 4 + 2 and of 3 + 2 triangles two are the same.
-        points = "3 points and 6 triangles only on screen, 2 points and 5 triangles only in the other."
-        self.assertEqual(self.text("#differences"), points)
-        self.assertEqual(self.said("#comparison"), "16 differences")
-        self.assertEqual(len(self.find_all(".differences li")), 16)
-        self.assertEqual(len(self.find_all(".differences li.left")), 9)
+        # Four segments have three points between them and three have two; their strips against one segment have 4 + 1 and 3 + 1 triangles.
+        words = "3 points and 5 triangles only on screen, 2 points and 4 triangles only in the other."
+        self.assertEqual(self.text("#differences"), words)
+        self.assertEqual(self.said("#comparison"), "14 differences")
+        self.assertEqual(len(self.find_all(".differences li")), 14)
+        self.assertEqual(len(self.find_all(".differences li.left")), 8)
         # The previous mesh is the one before all keys of this field: 3 of 15 points are in it.
         self.fill("inner rows", "3")
         self.fill("outer v = 1", "16")

@@ -4,6 +4,7 @@ import base64
 import re
 import unittest
 
+from selenium.webdriver.common.action_chains import ActionChains
 from selenium.webdriver.common.keys import Keys
 
 from browser import console, PAGE, PageTest, requests
@@ -72,7 +73,7 @@ class Page(PageTest):
         for _ in range(40):
             active = self.browser.switch_to.active_element
             seen.add(active.get_attribute("aria-label") or active.get_attribute("value") or active.text)
-            active.send_keys(Keys.TAB)
+            ActionChains(self.browser).send_keys(Keys.TAB).perform()
         for name in ("Draw", "quads", "outer u = 0", "outer u = 0, slider", "inner columns", "fractional odd", "64", "on", "Zoom in", "A job file"):
             self.assertIn(name, seen)
         picture = self.find(".surface")
@@ -131,13 +132,13 @@ class Failures(PageTest):
         self.assertTrue(self.text("#notice").startswith("The program inside this page has not started."))
 
     def test_call_that_throws(self):
-        self.broken(lambda text: text.replace("calls.yoktvarim_measure(", "calls.unreachable(", 1))
+        self.broken(lambda text: text.replace("calls.yoktvarim_measure(", "calls.unreachable("))
         self.assertTrue(self.text("#notice").startswith("The page does not start: "))
         self.assertFalse(self.find("main").is_displayed())
 
     def test_call_that_throws_later(self):
         once = "if (patch.outer[0] === 9) throw new Error('unreachable'); const [bytes, levels, counts, clamps]"
-        self.broken(lambda text: text.replace("const [bytes, levels, counts, clamps]", once, 1))
+        self.broken(lambda text: text.replace("const [bytes, levels, counts, clamps]", once))
         self.fill("outer u = 0", "9")
         self.assertEqual(self.text("#notice"), "The program inside the page stopped: unreachable. Load the page again.")
         self.assertFalse(self.find("main").is_displayed())

@@ -1,10 +1,12 @@
-"""Takes a picture of each view, and ends with status 1 where a view is blank.
+"""Takes a picture of each view, and ends with status 1 where a view is blank or the console has a warning.
 
     pictures.py FOLDER    writes page-VIEW.png into the folder
 """
 
 import base64
+import struct
 import sys
+import zlib
 from pathlib import Path
 
 from selenium.webdriver.common.action_chains import ActionChains
@@ -23,21 +25,25 @@ VIEWS = {
     "replay": (TRIANGLES, lambda browser: press(browser, "Record it with a point too many")),
     "take": (QUADS, None),
 }
-# The shares of the picture's, the words' and the controls' pixels that differ from the most frequent colour there.
+# The shares of the picture's, the words' and the controls' pixels that differ from the most frequent colour there, and all pixels.
 INK = """
 const [png, boxes, done] = arguments;
 const image = new Image();
 image.onload = () => {
     const canvas = document.createElement('canvas');
     [canvas.width, canvas.height] = [image.width, image.height];
-    const context = canvas.getContext('2d');
+    const context = canvas.getContext('2d', { willReadFrequently: true });
     context.drawImage(image, 0, 0);
-    done(boxes.map(({ x, y, width, height }) => {
+    const inks = boxes.map(({ x, y, width, height }) => {
         const pixels = new Uint32Array(context.getImageData(x, y, width, height).data.buffer);
         const counts = new Map();
         for (const pixel of pixels) counts.set(pixel, (counts.get(pixel) ?? 0) + 1);
         return 1 - Math.max(...counts.values()) / pixels.length;
-    }));
+    });
+    const { data } = context.getImageData(0, 0, image.width, image.height);
+    const reader = new FileReader();
+    reader.onload = () => done([inks, reader.result.split(',')[1]]);
+    reader.readAsDataURL(new Blob([data]));
 };
 image.src = `data:image/png;base64,${png}`;
 """
@@ -76,18 +82,31 @@ def shoot(browser, view):
     return browser.get_screenshot_as_base64(), inside
 
 
+def chunk(name, content):
+    return struct.pack(">I", len(content)) + name + content + struct.pack(">I", zlib.crc32(name + content))
+
+
+def png_of(pixels):
+    """A picture of few colours in few bytes: rows without a filter compress better than the browser's."""
+    rows = [pixels[at : at + 4 * WIDTH] for at in range(0, len(pixels), 4 * WIDTH)]
+    colours = b"".join(b"\0" + b"".join((row[at : at + 3] for at in range(0, len(row), 4))) for row in rows)
+    header = struct.pack(">IIBBBBB", WIDTH, len(rows), 8, 2, 0, 0, 0)
+    return b"\x89PNG\r\n\x1a\n" + chunk(b"IHDR", header) + chunk(b"IDAT", zlib.compress(colours, 9)) + chunk(b"IEND", b"")
+
+
 def main(folder):
     browser, _ = open_browser()
     browser.execute_cdp_cmd("Emulation.setDeviceMetricsOverride", {"width": WIDTH, "height": HEIGHT, "deviceScaleFactor": 1, "mobile": False})
-    blank = []
+    faults = []
     for view in VIEWS:
         png, boxes = shoot(browser, view)
+        faults += [f"{view}: {message}" for message in console(browser)]
         browser.get("about:blank")
-        inks = browser.execute_async_script(INK, png, boxes)
-        blank += [f"{view}: {part} has only {ink:.2%} ink" for (part, least), ink in zip(LEAST.items(), inks) if ink < least]
-        (folder / f"page-{view}.png").write_bytes(base64.b64decode(png))
-    if blank or console(browser):
-        sys.exit("\n".join(["pictures.py: a view is blank, or the console has errors", *blank]))
+        inks, pixels = browser.execute_async_script(INK, png, boxes)
+        faults += [f"{view}: {part} has only {ink:.2%} ink" for (part, least), ink in zip(LEAST.items(), inks) if ink < least]
+        (folder / f"page-{view}.png").write_bytes(png_of(base64.b64decode(pixels)))
+    if faults:
+        sys.exit("\n".join(faults))
 
 
 if __name__ == "__main__":

@@ -20,7 +20,7 @@ class Replay(PageTest):
 
     def test_one_entry(self):
         self.assertEqual(self.said("#replayed"), "no recording")
-        self.press("Record the patch of the other views")
+        self.press("Record the drawn patch")
         self.assertEqual((self.said("#replayed"), self.text("#replay")), ("all agree", "The one entry agrees."))
         self.press("Record it with a point too many")
         self.assertEqual(self.said("#replayed"), "differs")
@@ -33,9 +33,10 @@ class Replay(PageTest):
 
     def test_entry_that_differs(self):
         changed = bytearray(SESSION.read_bytes())
-        changed[5 + ENTRY * 4 + 30] ^= 1
+        drawn = next(at for at in range(3, 9) if changed[5 + ENTRY * at + 29] == 0)
+        changed[5 + ENTRY * drawn + 30] ^= 1  # the low byte of its points
         self.assertEqual(self.play(changed), "differs")
-        self.assertEqual(self.text("#replay"), "Entry 4, counted from 0, is the first that differs.")
+        self.assertEqual(self.text("#replay"), f"Entry {drawn}, counted from 0, is the first that differs.")
         recorded, replayed = self.rows(".outcomes")
         self.assertEqual(int(recorded[2]) ^ 1, int(replayed[2]))
         self.assertIn(f"{replayed[2]} points", self.find(".surface").get_attribute("aria-label"))
@@ -54,7 +55,7 @@ class Replay(PageTest):
         self.view("draw")
         self.set_top(32)
         self.view("replay")
-        self.press("Record the patch of the other views")
+        self.press("Record the drawn patch")
         self.assertEqual(self.text("#controls .message"), "A recording holds the top 64 only.")
         self.assertEqual(self.said("#replayed"), "no recording")
 

@@ -2,8 +2,6 @@
 
 import unittest
 
-from selenium.webdriver.common.keys import Keys
-
 from browser import PageTest, native
 
 
@@ -62,18 +60,17 @@ class Take(PageTest):
         self.open("view=nowhere&kind=cube&outer=1,x&top=many&spacing=&colour=red&outer=2")
         self.assertEqual(self.said("#answer"), "drawn")
         notice = self.text("#notice")
-        for part in ("view=nowhere", "kind=cube", "outer=1,x", "top=many", "spacing", "colour=red"):
+        for part in ("view=nowhere", "kind=cube", "outer=1,x", "top=many", "spacing", "colour=red", "outer=2"):
             self.assertIn(f"“{part}”", notice)
         self.open("kind=isolines")
         self.assertEqual(self.find_all("#notice:not([hidden])"), [])
 
     def test_link_without_a_new_load(self):
-        self.browser.execute_script("location.hash = 'view=draw&kind=isolines&outer=3,4,1,1'")
+        self.browser.execute_script("location.hash = 'view=draw&kind=isolines&spacing=equal&outer=3,4,1,1'")
         self.wait(lambda: self.text("#counts") == "15 points, 12 lines, 24 indices")
 
     def test_copy(self):
         self.view("take")
-        self.find("#words input[readonly]").send_keys(Keys.CONTROL + "a")
         self.press("Copy the link")
         self.wait(lambda: self.text("#words [role=status]").startswith("The link is"))
 

@@ -111,7 +111,7 @@ function paintPoints(context, { screen, corners }, colours, side) {
     const apart = side / Math.sqrt(Math.max(1, count));
     if (apart < DOT_ROOM && corners !== 1) return;
     context.fillStyle = colours.outline;
-    if (count > DENSE) paintSquares(context, screen, Math.max(1, apart / 3));
+    if (count > DENSE) paintSquares(context, screen, Math.min(5, Math.max(1, apart / 3)));
     else paintDiscs(context, screen, Math.min(2.6, apart / 5));
 }
 

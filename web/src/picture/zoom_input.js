@@ -10,12 +10,12 @@ const LINE = 16; // pixels of a line, where a wheel counts lines
 
 /**
  * @param {import('./picture.js').Picture} picture
- * @param {{moved: (zoom: import('./zoom.js').Zoom) => void}} on
+ * @param {{zoom: () => import('./zoom.js').Zoom, moved: (zoom: import('./zoom.js').Zoom) => void}} on
  */
-export function followZoom(picture, { moved }) {
+export function followZoom(picture, on) {
     const { element } = picture;
     const middle = () => [picture.size.width / 2, picture.size.height / 2];
-    const zoom = (factor, at = middle()) => moved(zoomed(picture.zoom, factor, at, picture.size));
+    const zoom = (factor, at = middle()) => on.moved(zoomed(on.zoom(), factor, at, picture.size));
 
     element.addEventListener(
         'wheel',
@@ -31,7 +31,7 @@ export function followZoom(picture, { moved }) {
         if (event.ctrlKey || event.metaKey || event.altKey) return;
         if (event.shiftKey && event.key in PANS) {
             event.preventDefault();
-            moved(panned(picture.zoom, PANS[event.key].map((each) => PAN_STEP * each), picture.size));
+            on.moved(panned(on.zoom(), PANS[event.key].map((each) => PAN_STEP * each), picture.size));
         } else if (event.key in KEYS) {
             event.preventDefault();
             zoom(KEYS[event.key]);

@@ -9,8 +9,8 @@ import { sceneOf } from '../picture/scene.js';
 import { segmentsOf } from '../segments.js';
 import { countsOf, MEANINGS, milliseconds } from '../words.js';
 
-const HINT = 'Pull an edge outwards for more segments; drag inside for the inner levels. The wheel zooms.';
-const LINES_HINT = 'Drag upwards for more lines, and to the right for more segments. The wheel zooms.';
+const HINT = 'Pull an edge or drag inside to change levels; wheel or pinch to zoom.';
+const LINES_HINT = 'Drag up for more lines and right for more segments; wheel or pinch to zoom.';
 const COLUMNS = ['Level', 'Value', 'Clamp', 'n', 'L'];
 
 export class DrawView {
@@ -54,7 +54,7 @@ export class DrawView {
 
     /** @param {number} time of a whole redraw: cutting, words and picture */
     timed(time) {
-        say(this.#time, `${milliseconds(time)}, of which cutting ${milliseconds(this.#app.cutter.time)}`);
+        say(this.#time, `${milliseconds(time)} (cutting ${milliseconds(this.#app.cutter.time)})`);
     }
 
     #report(patch, cutter) {

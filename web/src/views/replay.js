@@ -22,11 +22,11 @@ const TITLES = ['', 'Answer', 'Points', 'Indices'];
 export class ReplayView {
     name = 'replay';
     title = 'Replay';
-    hint = 'The picture shows the first entry that differs, as it is cut today.';
     ownPicture = true;
 
     #app;
     #recording = null;
+    #differs = false;
     #message = h('p', { class: 'message', role: 'alert', hidden: true });
     #answer = h('p', { class: 'answer', id: 'replayed' });
     #counts = h('p', { class: 'counts', id: 'replay' });
@@ -41,6 +41,10 @@ export class ReplayView {
         this.#table = h('table', { class: 'outcomes' }, h('caption', {}, 'The entry that differs'), h('thead', {}, titles), this.#rows);
         const head = h('div', { class: 'head', 'aria-live': 'polite' }, this.#answer, this.#counts);
         this.words = h('div', { class: 'panel' }, head, this.#table, this.#about);
+    }
+
+    get hint() {
+        return this.#differs ? 'The first entry that differs, as it is cut today.' : 'The picture shows an entry that differs.';
     }
 
     async dropped(chosen) {
@@ -68,7 +72,7 @@ export class ReplayView {
         });
         const record = (more) => () => this.#play(recordingOf(this.#app.yoktvarim, this.#app.state.patch, more));
         const examples = [
-            button('Record the patch of the other views', record(0)),
+            button('Record the drawn patch', record(0)),
             button('Record it with a point too many', record(1)),
         ];
         return h(
@@ -101,6 +105,7 @@ export class ReplayView {
     }
 
     #report(found, differing) {
+        this.#differs = differing !== null;
         this.#answer.dataset.is = found.is;
         say(this.#answer, found.is);
         say(this.#counts, sentenceOf(found));

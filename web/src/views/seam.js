@@ -29,7 +29,7 @@ const PLACES = Object.freeze({
 export class SeamView {
     name = 'seam';
     title = 'Two patches';
-    hint = 'Drag the shared edge to the right for more segments. The wheel zooms.';
+    hint = 'Drag the shared edge to the right for more segments; wheel or pinch to zoom.';
     ownPicture = true;
 
     #app;
