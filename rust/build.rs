@@ -40,9 +40,10 @@ fn installed() -> Option<PathBuf> {
         .args(["--variable=libdir", &wanted])
         .output()
         .ok()?;
+    if !asked.status.success() {
+        return None;
+    }
     let folder = String::from_utf8(asked.stdout).ok()?;
-    asked
-        .status
-        .success()
-        .then(|| PathBuf::from(folder.trim_end_matches('\n')))
+    // pkg-config quotes the spaces of a folder that a package was unpacked to, and not those of an install.
+    Some(folder.trim_end_matches('\n').replace("\\ ", " ").into())
 }

@@ -36,7 +36,8 @@ def places() -> Iterator[str]:
     except OSError:
         return
     if asked.returncode == 0:
-        yield os.path.join(os.fsdecode(asked.stdout).rstrip("\n"), NAME)
+        # pkg-config quotes the spaces of a folder that a package was unpacked to, and not those of an install.
+        yield os.path.join(os.fsdecode(asked.stdout).rstrip("\n").replace("\\ ", " "), NAME)
 
 
 @functools.lru_cache(maxsize=None)
