@@ -53,20 +53,17 @@ export function checking(calls, memory) {
         isList('indices', indices, Uint16Array);
         const sixes = sixLevels(patch);
         const setting = settingBytes(patch.kind, settings);
-        const [bytes, levels, places, points, corners] = memory.lists(
-            [Uint8Array, 6],
-            [Float32Array, 6],
+        const [places, points, corners] = memory.lists(
             [BigUint64Array, 2],
             [Uint32Array, vertices.length],
             [Uint16Array, indices.length],
         );
-        bytes.set(setting);
-        levels.set(sixes);
+        memory.writePatch(setting, sixes);
         points.set(vertices);
         corners.set(indices);
         const number = calls.yoktvarim_check_mesh(
-            bytes.byteOffset,
-            levels.byteOffset,
+            memory.settings,
+            memory.levels,
             ...lent(points),
             ...lent(corners),
             places.byteOffset,

@@ -1,7 +1,6 @@
 /** Measuring a patch, and drawing its points and its indices. */
 
 import { answer, refused } from './answers.js';
-import { lent } from './memory.js';
 import { COUNTING, settingBytes, sixLevels } from './patch.js';
 import { areApart, isList } from './types.js';
 
@@ -20,24 +19,30 @@ const CLAMPS = [undefined, 'below', 'inside', 'above'];
 const room = (list, size) => Math.min(list.length, size);
 
 /**
+ * A list's length as the module takes it. Drawing passes place and length by themselves: `lent` for both takes longer than a small patch.
+ *
+ * @param {{length: number}} list
+ */
+const lengthOf = (list) => BigInt(list.length);
+
+/**
  * @param {import('./memory.js').Calls} calls
  * @param {import('./memory.js').Memory} memory
  */
 export function drawing(calls, memory) {
-    /** Settings and levels in the module's memory, and the other lists that a call asks for. */
+    /** The lists that a call asks for, with settings and levels in their places. */
     function lists(patch, settings, ...asked) {
         const levels = sixLevels(patch);
         const bytes = settingBytes(patch.kind, settings);
-        const found = memory.lists([Uint8Array, 6], [Float32Array, 6], ...asked);
-        found[0].set(bytes);
-        found[1].set(levels);
+        const found = memory.lists(...asked);
+        memory.writePatch(bytes, levels);
         return found;
     }
 
     /** @type {import('./index.js').Yoktvarim['measure']} */
     function measure(patch, settings = {}) {
-        const [bytes, levels, counts, clamps] = lists(patch, settings, [Uint32Array, 2], [Uint8Array, 6]);
-        const number = calls.yoktvarim_measure(bytes.byteOffset, levels.byteOffset, counts.byteOffset, clamps.byteOffset);
+        const [counts, clamps] = lists(patch, settings, [Uint32Array, 2], [Uint8Array, 6]);
+        const number = calls.yoktvarim_measure(memory.settings, memory.levels, counts.byteOffset, clamps.byteOffset);
         if (number !== 0) return refused(number, 'discarded', 'bad top');
         const [outer, inner] = COUNTING[patch.kind];
         const names = (from, count) => Object.freeze(Array.from(clamps.subarray(from, from + count), (each) => CLAMPS[each]));
@@ -51,13 +56,13 @@ export function drawing(calls, memory) {
     /** @type {import('./index.js').Yoktvarim['drawPoints']} */
     function drawPoints(patch, settings, vertices) {
         isList('vertices', vertices, Uint32Array);
-        const [bytes, levels, count, words] = lists(
+        const [count, words] = lists(
             patch,
             settings,
             [Uint32Array, 1],
             [Uint32Array, room(vertices, VERTEX_WORDS)],
         );
-        const number = calls.yoktvarim_draw_points(bytes.byteOffset, levels.byteOffset, ...lent(words), count.byteOffset);
+        const number = calls.yoktvarim_draw_points(memory.settings, memory.levels, words.byteOffset, lengthOf(words), count.byteOffset);
         if (number !== 0) return refused(number, 'discarded', 'no room for vertices', 'bad top');
         vertices.set(words.subarray(0, 3 * count[0]));
         return answer('drawn', { points: count[0] });
@@ -66,8 +71,8 @@ export function drawing(calls, memory) {
     /** @type {import('./index.js').Yoktvarim['drawIndices']} */
     function drawIndices(patch, settings, indices) {
         isList('indices', indices, Uint16Array);
-        const [bytes, levels, count, words] = lists(patch, settings, [Uint32Array, 1], [Uint16Array, room(indices, INDEX_WORDS)]);
-        const number = calls.yoktvarim_draw_indices(bytes.byteOffset, levels.byteOffset, ...lent(words), count.byteOffset);
+        const [count, words] = lists(patch, settings, [Uint32Array, 1], [Uint16Array, room(indices, INDEX_WORDS)]);
+        const number = calls.yoktvarim_draw_indices(memory.settings, memory.levels, words.byteOffset, lengthOf(words), count.byteOffset);
         if (number !== 0) return refused(number, 'discarded', 'no room for indices', 'bad top');
         indices.set(words.subarray(0, count[0]));
         return answer('drawn', { indices: count[0] });
@@ -79,7 +84,7 @@ export function drawing(calls, memory) {
         isList('indices', indices, Uint16Array);
         isList('floats', floats, Float32Array);
         areApart({ vertices, indices, floats });
-        const [bytes, levels, counts, points, corners, coordinates] = lists(
+        const [counts, points, corners, coordinates] = lists(
             patch,
             settings,
             [Uint32Array, 2],
@@ -88,11 +93,14 @@ export function drawing(calls, memory) {
             [Float32Array, room(floats, VERTEX_WORDS)],
         );
         const number = calls.yoktvarim_draw_with_floats(
-            bytes.byteOffset,
-            levels.byteOffset,
-            ...lent(points),
-            ...lent(corners),
-            ...lent(coordinates),
+            memory.settings,
+            memory.levels,
+            points.byteOffset,
+            lengthOf(points),
+            corners.byteOffset,
+            lengthOf(corners),
+            coordinates.byteOffset,
+            lengthOf(coordinates),
             counts.byteOffset,
         );
         if (number !== 0) {

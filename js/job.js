@@ -42,7 +42,8 @@ const isWord = (value) => Number.isInteger(value) && value >= 0 && value < 2 ** 
 function sixBits(record) {
     const { kind, bits } = isObject('record', record);
     isOneOf('kind', kind, KINDS);
-    if (!Array.isArray(bits) || bits.length !== 6 || !bits.every(isWord)) {
+    // Spread, since a method would pass over a place that holds nothing.
+    if (!Array.isArray(bits) || bits.length !== 6 || ![...bits].every(isWord)) {
         throw new TypeError('bits has to be an array of 6 whole numbers of 32 bits');
     }
     return Uint32Array.from(bits);

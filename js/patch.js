@@ -26,13 +26,22 @@ const SETTINGS = Object.freeze(['spacing', 'vertexOrder', 'domainOrigin', 'point
 export const COUNTING = Object.freeze({ triangles: [3, 1], quads: [4, 2], isolines: [2, 0] });
 
 /**
+ * A patch's own levels.
+ *
+ * @param {string} name
+ * @param {readonly number[]} levels
+ * @param {number} count
+ */
+const frozen = (name, levels, count) => Object.freeze(isNumbers(name, levels, count));
+
+/**
  * Outer levels of the edges u = 0, v = 0 and w = 0, and the inner level. Any number is a level, NaN and the infinities too.
  *
  * @param {readonly number[]} outer
  * @param {number} inner
  */
 export function triangles(outer, inner) {
-    return Object.freeze({ kind: 'triangles', outer: isNumbers('outer', outer, 3), inner: isNumber('inner', inner) });
+    return Object.freeze({ kind: 'triangles', outer: frozen('outer', outer, 3), inner: isNumber('inner', inner) });
 }
 
 /**
@@ -42,7 +51,7 @@ export function triangles(outer, inner) {
  * @param {readonly number[]} inner
  */
 export function quads(outer, inner) {
-    return Object.freeze({ kind: 'quads', outer: isNumbers('outer', outer, 4), inner: isNumbers('inner', inner, 2) });
+    return Object.freeze({ kind: 'quads', outer: frozen('outer', outer, 4), inner: frozen('inner', inner, 2) });
 }
 
 /**
@@ -51,7 +60,7 @@ export function quads(outer, inner) {
  * @param {readonly number[]} outer
  */
 export function isolines(outer) {
-    return Object.freeze({ kind: 'isolines', outer: isNumbers('outer', outer, 2) });
+    return Object.freeze({ kind: 'isolines', outer: frozen('outer', outer, 2) });
 }
 
 /**

@@ -86,18 +86,13 @@ export function sharing(calls, memory) {
             const at = isOneOf('designer', designer, DESIGNERS);
             const sixes = sixLevels(patch);
             const setting = settingBytes(patch.kind, settings);
-            const [state, points, corners, counts, bytes, levels] = this.#lists(
-                [Uint32Array, 2],
-                [Uint8Array, 6],
-                [Float32Array, 6],
-            );
-            bytes.set(setting);
-            levels.set(sixes);
+            const [state, points, corners, counts] = this.#lists([Uint32Array, 2]);
+            memory.writePatch(setting, sixes);
             const number = calls.yoktvarim_share_draw(
                 state.byteOffset,
                 at,
-                bytes.byteOffset,
-                levels.byteOffset,
+                memory.settings,
+                memory.levels,
                 ...lent(points),
                 ...lent(corners),
                 counts.byteOffset,

@@ -225,6 +225,8 @@ test('wrong types are refused before any call', () => {
     for (const wrong of [
         () => triangles([1, 1], 2),
         () => triangles([1, 1, '1'], 2),
+        () => triangles([1, , 1], 2),
+        () => yoktvarim.mesh({ kind: 'isolines', outer: new Array(2) }),
         () => quads([1, 1, 1, 1], 2),
         () => isolines(undefined),
         () => settings({ spacing: 'even' }),
@@ -245,6 +247,7 @@ test('wrong types are refused before any call', () => {
         () => yoktvarim.writeJob([{}]),
         () => yoktvarim.writeJob([record(patch)], 3),
         () => yoktvarim.writeJob([{ ...record(patch), bits: [1, 2, 3, 4, 5, -1] }]),
+        () => yoktvarim.writeJob([{ ...record(patch), bits: new Array(6) }]),
         () => yoktvarim.Shared.start(new Uint32Array(9), new Uint16Array(9), { vertices: -1, indices: 0 }, { vertices: 0, indices: 0 }),
     ]) {
         assert.throws(wrong, TypeError, String(wrong));
