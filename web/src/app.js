@@ -19,7 +19,7 @@ import { DrawView } from './views/draw.js';
 import { ReplayView } from './views/replay.js';
 import { SeamView } from './views/seam.js';
 import { TakeView } from './views/take.js';
-import { foundInWords, sentence } from './words.js';
+import { foundInWords } from './words.js';
 
 const VIEWS = [DrawView, SeamView, CheckView, CompareView, ReplayView, TakeView];
 const LINK_DELAY = 300;
@@ -186,9 +186,9 @@ export class App {
     #readLink() {
         const { state, unread } = fromLink(location.hash.slice(1), this.#views.map(({ name }) => name));
         this.state = state;
-        const [one, ...more] = unread.map((each) => `“${each}”`);
-        const what = more.length > 0 ? `${[one, ...more].join(', ')}, which cannot be read; these values are` : `${one}, which cannot be read; its value is`;
-        notice(one ? sentence(`the link has ${what} as in a new page`) : '');
+        const parts = unread.map((each) => `“${each}”`).join(', ');
+        const values = unread.length === 1 ? 'this value is' : 'these values are';
+        notice(parts && `The link has ${parts}, which cannot be read; ${values} as in a new page.`);
     }
 
     #follow() {

@@ -53,8 +53,9 @@ export function levelGroups(entered, owner = '') {
     const rows = (group, count) =>
         Array.from({ length: count }, (_, at) => levelRow(`${owner}${group}`, (level, gesture) => entered(group, at, level, gesture)));
     const groups = { outer: rows('outer', 4), inner: rows('inner', 2) };
+    const titles = { outer: 'Outer levels', inner: 'Inner levels' };
     const boxes = Object.entries(groups).map(([group, list]) =>
-        h('fieldset', { class: 'levels' }, h('legend', {}, group === 'outer' ? 'Outer levels' : 'Inner levels'), ...list.map((row) => row.element)),
+        h('fieldset', { class: 'levels' }, h('legend', {}, titles[group]), ...list.map((row) => row.element)),
     );
     return {
         element: h('div', {}, ...boxes),

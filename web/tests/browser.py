@@ -99,19 +99,20 @@ class PageTest(unittest.TestCase):
         self.settle()
         self.assertEqual(tab.get_attribute("aria-selected"), "true")
 
+    def click(self, title, name):
+        """Chooses a name in the group with this title, and goes on at once."""
+        self.browser.find_element("xpath", f'//fieldset[legend="{title}"]//label[text()="{name}"]').click()
+
     def choose(self, title, name):
-        """Chooses by arrow keys: from the chosen one to the right."""
-        group = next(each for each in self.find_all("fieldset.choice") if each.find_element("tag name", "legend").text == title)
-        labels = [label.text for label in group.find_elements("tag name", "label")]
-        radios = group.find_elements("tag name", "input")
-        now = next(at for at, radio in enumerate(radios) if radio.is_selected())
-        for step in range((labels.index(name) - now) % len(labels)):
-            radios[(now + step) % len(labels)].send_keys(Keys.ARROW_RIGHT)
+        self.click(title, name)
         self.settle()
-        self.assertTrue(radios[labels.index(name)].is_selected())
+
+    def type(self, label, text):
+        """Types a text over what a field has, and goes on at once."""
+        self.find(f'[aria-label="{label}"]').send_keys(ALL, text)
 
     def fill(self, label, text):
-        self.find(f'[aria-label="{label}"]').send_keys(ALL, text)
+        self.type(label, text)
         self.settle()
 
     def set_top(self, top):
@@ -127,7 +128,8 @@ class PageTest(unittest.TestCase):
         path = self.downloads / name
         path.unlink(missing_ok=True)
         self.button(title).send_keys(Keys.ENTER)
-        self.wait(path.exists)
+        # The browser first makes an empty file, and puts the whole one in its place.
+        self.wait(lambda: path.exists() and path.stat().st_size > 0)
         return path.read_bytes()
 
     def give(self, text):

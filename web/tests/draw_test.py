@@ -9,7 +9,7 @@ import unittest
 from selenium.webdriver.common.action_chains import ActionChains
 from selenium.webdriver.common.keys import Keys
 
-from browser import PageTest, native
+from browser import ALL, native, PageTest
 
 STATES = int(os.environ.get("STATES", "100"))
 KINDS = ("Triangles", "Quads", "Isolines")
@@ -51,13 +51,13 @@ class State:
     def set(self):
         test = self.test
         for title, name in (("Kind", self.kind), ("Spacing", self.spacing), ("Vertex order", self.order), ("Domain origin", self.origin)):
-            test.choose(title, name)
+            test.click(title, name)
         box = test.find(".toggle input")
         if box.is_selected() != self.dots:
             box.send_keys(Keys.SPACE)
-        test.set_top(self.top)
+        test.find(".top input").send_keys(ALL, str(self.top))
         for label, text in self.levels.items():
-            test.fill(label, text)
+            test.type(label, text)
             if label in self.slid:
                 test.find(f'[aria-label="{label}, slider"]').send_keys(Keys.ARROW_RIGHT)
         test.settle()
@@ -80,7 +80,7 @@ class State:
 
 class Draw(PageTest):
     def test_random_states(self):
-        chance = random.Random(36)
+        chance = random.Random(1)
         answers = []
         for _ in range(STATES):
             self.view("draw")

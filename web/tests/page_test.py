@@ -76,6 +76,10 @@ class Page(PageTest):
             ActionChains(self.browser).send_keys(Keys.TAB).perform()
         for name in ("Draw", "quads", "outer u = 0", "outer u = 0, slider", "inner columns", "fractional odd", "64", "on", "Zoom in", "A job file"):
             self.assertIn(name, seen)
+        self.find("[value=quads]").send_keys(Keys.ARROW_RIGHT)
+        self.assertTrue(self.find("[value=isolines]").is_selected())
+        self.find("[value=isolines]").send_keys(Keys.ARROW_LEFT)
+        self.settle()
         picture = self.find(".surface")
         picture.send_keys(Keys.ARROW_RIGHT, Keys.ARROW_RIGHT)
         self.assertRegex(self.text("figcaption"), r"^Point 1 at ")

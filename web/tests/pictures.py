@@ -10,6 +10,7 @@ import zlib
 from pathlib import Path
 
 from selenium.webdriver.common.action_chains import ActionChains
+from selenium.webdriver.common.keys import Keys
 
 from browser import FRAMES, PAGE, console, open_browser
 
@@ -18,9 +19,9 @@ QUADS = "kind=quads&spacing=fractional_odd&outer=3,5,2.5,7&inner=4,5"
 TRIANGLES = "kind=triangles&spacing=fractional_even&outer=3,5,6.5,1&inner=5.2,1"
 # Each view with its link, and what a person does there.
 VIEWS = {
-    "draw": (QUADS, lambda browser: hover(browser, 30, 40)),
+    "draw": (QUADS, lambda browser: slide(browser) or hover(browser, 30, 40)),
     "seam": ("", None),
-    "check": (f"{TRIANGLES}&check.mesh=damaged&check.damage=leave-out", None),
+    "check": (f"{TRIANGLES}&check.mesh=damaged&check.damage=leave-out&check.triangle=45", None),
     "compare": (QUADS, lambda browser: fill(browser, "outer v = 1", "3")),
     "replay": (TRIANGLES, lambda browser: press(browser, "Record it with a point too many")),
     "take": (QUADS, None),
@@ -53,6 +54,15 @@ LEAST = {".surface": 0.03, "#words": 0.005, "#controls": 0.005}
 def hover(browser, right, down):
     surface = browser.find_element("css selector", ".surface")
     ActionChains(browser).move_to_element_with_offset(surface, right, down).perform()
+
+
+def slide(browser):
+    """Moves a level to and fro, so that the page has something to report on connections and time."""
+    slider = browser.find_element("css selector", '[aria-label="outer u = 1, slider"]')
+    for key in (Keys.ARROW_RIGHT, Keys.ARROW_LEFT) * 4:
+        slider.send_keys(key)
+        browser.execute_async_script(FRAMES)
+    browser.execute_script("document.activeElement.blur()")
 
 
 def fill(browser, label, text):

@@ -127,8 +127,8 @@ function coordinates(words, line, one) {
     if (words.length < 3) throw new Unreadable(`Line ${line} has to hold three coordinates.`);
     return words.slice(0, 3).map((word) => {
         const whole = Math.round(Number(word) * one);
-        if (!(whole >= 0 && whole < 2 ** 32)) throw new Unreadable(`Line ${line} has “${word}”, which is not a coordinate from 0 to 1.`);
-        return whole;
+        if (whole >= 0 && whole < 2 ** 32) return whole;
+        throw new Unreadable(`Line ${line} has “${word}”, which is not a coordinate from 0 to 1.`);
     });
 }
 

@@ -10,7 +10,8 @@ export class ZoomButtons {
     #whole = this.#button('Whole', 'Show the whole picture', 0);
 
     constructor() {
-        this.element = h('div', { class: 'zoom', role: 'group', 'aria-label': 'Zoom' }, this.#amount, this.#whole, this.#smaller, this.#larger);
+        const parts = [this.#amount, this.#whole, this.#smaller, this.#larger];
+        this.element = h('div', { class: 'zoom', role: 'group', 'aria-label': 'Zoom' }, ...parts);
     }
 
     /** @param {(way: number) => void} zoom 1 to zoom in, -1 to zoom out, 0 for the whole picture */

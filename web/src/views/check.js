@@ -4,7 +4,7 @@ import { faultInWords } from '../../../js/check.js';
 import { button, choice } from '../controls.js';
 import { h, say } from '../dom.js';
 import { damageNamed, DAMAGES } from '../meshes/damage.js';
-import { pasteBox } from '../paste_box.js';
+import { PasteBox } from '../paste_box.js';
 import { faultMarks } from '../picture/fault_marks.js';
 import { EMPTY, placeOf, placesOf, sceneOf } from '../picture/scene.js';
 import { sentence } from '../words.js';
@@ -35,7 +35,7 @@ export class CheckView {
         this.#damages = DAMAGES.map(({ name, title }) =>
             button(title, () => app.change(({ check }) => Object.assign(check, { mesh: 'damaged', damage: name }))),
         );
-        this.#box = pasteBox(app, ({ check }) => (check.mesh = 'given'));
+        this.#box = new PasteBox(app, ({ check }) => (check.mesh = 'given'));
         const note = h('p', { class: 'note' }, 'A press on the picture chooses the triangle or the point.');
         const damages = h('div', { class: 'grid' }, ...this.#damages);
         this.words = h(
@@ -103,10 +103,12 @@ export class CheckView {
     #choiceMarks(part) {
         const { mesh, triangle, point } = this.#app.state.check;
         if (mesh !== 'drawn') return [];
-        const marks = [];
-        if (triangle >= 0 && 3 * triangle + 2 < part.indices.length) marks.push({ colour: 'accent', triangles: [placesOf(part, triangle)] });
-        if (point >= 0 && 3 * point + 2 < part.vertices.length) marks.push({ colour: 'accent', rings: [placeOf(part, point)] });
-        return marks;
+        const hasTriangle = triangle >= 0 && 3 * triangle + 2 < part.indices.length;
+        const hasPoint = point >= 0 && 3 * point + 2 < part.vertices.length;
+        return [
+            ...(hasTriangle ? [{ colour: 'accent', triangles: [placesOf(part, triangle)] }] : []),
+            ...(hasPoint ? [{ colour: 'accent', rings: [placeOf(part, point)] }] : []),
+        ];
     }
 }
 

@@ -2,7 +2,7 @@
 
 import { button, choice } from '../controls.js';
 import { h, say } from '../dom.js';
-import { pasteBox } from '../paste_box.js';
+import { PasteBox } from '../paste_box.js';
 import { placeOf, placesOf, sceneOf } from '../picture/scene.js';
 import { many } from '../words.js';
 
@@ -34,7 +34,7 @@ export class CompareView {
     constructor(app) {
         this.#app = app;
         this.#other = choice('Compare the mesh on screen with', OTHERS, (other) => app.change(({ compare }) => (compare.other = other)));
-        this.#box = pasteBox(app, ({ compare }) => (compare.other = 'given'));
+        this.#box = new PasteBox(app, ({ compare }) => (compare.other = 'given'));
         const swatch = (side) => h('span', { class: `swatch ${side}` });
         this.words = h(
             'div',
@@ -92,7 +92,8 @@ export class CompareView {
         if (answer === undefined) return { is: 'comparing …', words: 'The answer is not there yet.' };
         if (answer.is === 'failed') return { is: 'failed', words: `The comparison ended without an answer: ${answer.because}.` };
         if (answer.is === 'compared') return inWords(answer.differences);
-        return { is: answer.is, words: `${answer.is === 'left refused' ? 'The mesh on screen' : 'The other mesh'} ${FAULTS[answer.fault]}.` };
+        const mesh = answer.is === 'left refused' ? 'The mesh on screen' : 'The other mesh';
+        return { is: answer.is, words: `${mesh} ${FAULTS[answer.fault]}.` };
     }
 
     #report({ is, words, differences = [] }, other) {
@@ -124,7 +125,8 @@ function lineOf({ what, side, number }, left, right) {
 
 function marksOf(differences, part, other) {
     const theirs = { ...part, ...other, corners: 3 };
-    const of = (what, side, draw) => differences.filter((each) => each.what === what && each.side === side).map(({ number }) => draw(number));
+    const of = (what, side, draw) =>
+        differences.filter((each) => each.what === what && each.side === side).map(({ number }) => draw(number));
     return [
         {
             colour: 'left',

@@ -2,7 +2,7 @@
 
 import { cornersOf } from '../../../js/text.js';
 import { h, say } from '../dom.js';
-import { jobBox } from '../job_box.js';
+import { JobBox } from '../job_box.js';
 import { writeLevel } from '../levels.js';
 import { LEVEL_NAMES, segmentsDrawn } from '../picture/plane.js';
 import { sceneOf } from '../picture/scene.js';
@@ -22,11 +22,12 @@ export class DrawView {
     #counts = h('p', { class: 'counts', id: 'counts' });
     #rows = h('tbody');
     #connections = h('dd', { id: 'connections' });
+    #job;
     #time = h('dd', { id: 'time' });
 
     constructor(app) {
         this.#app = app;
-        this.job = jobBox(app);
+        this.#job = new JobBox(app);
         const head = h('thead', {}, h('tr', {}, ...COLUMNS.map((title) => h('th', { scope: 'col' }, title))));
         this.words = h(
             'div',
@@ -35,7 +36,7 @@ export class DrawView {
             h('table', { class: 'level-table' }, h('caption', {}, 'What each level gives'), head, this.#rows),
             h('p', { class: 'note' }, 'n is the number of segments; L is the clamped level times 65,536.'),
             h('dl', {}, h('dt', {}, 'Connections'), this.#connections, h('dt', {}, 'Last redraw'), this.#time),
-            this.job.element,
+            this.#job.element,
         );
     }
 
@@ -44,7 +45,7 @@ export class DrawView {
     }
 
     dropped(file) {
-        return this.job.take(file);
+        return this.#job.take(file);
     }
 
     look() {
@@ -70,7 +71,8 @@ export class DrawView {
 function whyNot(patch, answer) {
     if (answer.is !== 'discarded') return MEANINGS[answer.is];
     const names = LEVEL_NAMES[patch.kind].outer.filter((_, at) => discards(patch.outer[at]));
-    return `The outer ${names.length === 1 ? 'level' : 'levels'} ${names.join(', ')} ${names.length === 1 ? 'is' : 'are'} NaN or not above 0.`;
+    const [levels, are] = names.length === 1 ? ['level', 'is'] : ['levels', 'are'];
+    return `The outer ${levels} ${names.join(', ')} ${are} NaN or not above 0.`;
 }
 
 const discards = (level) => !(level > 0);

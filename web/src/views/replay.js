@@ -55,7 +55,8 @@ export class ReplayView {
         const answer = this.#recording ? this.#app.questions.answer('replay', [this.#recording]) : { is: 'no recording' };
         const found = answer ?? { is: 'replaying …' };
         const differing = found.is === 'differs' ? this.#entry(found.entry) : null;
-        const scene = differing ? sceneOf(differing.state, differing.mesh) : { ...sceneOf(this.#app.state.patch, null), parts: [], edges: [] };
+        const nothing = { ...sceneOf(this.#app.state.patch, null), parts: [], edges: [] };
+        const scene = differing ? sceneOf(differing.state, differing.mesh) : nothing;
         return { scene, marks: [], waiting: answer === undefined, report: () => this.#report(found, differing) };
     }
 
@@ -101,7 +102,8 @@ export class ReplayView {
         }
         const patch = patchOf(record);
         const answer = yoktvarim.mesh(patch, record.settings);
-        return { state: stateOf(patch, record.settings), mesh: answer.is === 'drawn' ? answer : null, words: inWords(patch, record.settings) };
+        const mesh = answer.is === 'drawn' ? answer : null;
+        return { state: stateOf(patch, record.settings), mesh, words: inWords(patch, record.settings) };
     }
 
     #report(found, differing) {
@@ -119,8 +121,10 @@ export class ReplayView {
 
 function inWords(patch, { spacing, vertexOrder, domainOrigin, pointMode }) {
     const inner = [patch.inner ?? []].flat();
-    const levels = `outer ${patch.outer.map(writeLevel).join(', ')}${inner.length > 0 ? `; inner ${inner.map(writeLevel).join(', ')}` : ''}`;
-    return sentence([patch.kind, spacing, vertexOrder, domainOrigin, ...(pointMode ? ['point mode'] : []), levels].join(', '));
+    const settings = [patch.kind, spacing, vertexOrder, domainOrigin, ...(pointMode ? ['point mode'] : [])];
+    const levels = `outer ${patch.outer.map(writeLevel).join(', ')}`;
+    const rest = inner.length > 0 ? `; inner ${inner.map(writeLevel).join(', ')}` : '';
+    return sentence([...settings, levels].join(', ') + rest);
 }
 
 function sentenceOf(found) {
@@ -131,6 +135,6 @@ function sentenceOf(found) {
 }
 
 function outcomeRow(side, { answer, points, indices }) {
-    const cells = [ANSWERS[answer] ?? `number ${answer}`, points, indices].map((each, at) => h('td', { class: at > 0 ? 'number' : '' }, String(each)));
-    return h('tr', {}, h('th', { scope: 'row' }, side), ...cells);
+    const counts = [points, indices].map((each) => h('td', { class: 'number' }, String(each)));
+    return h('tr', {}, h('th', { scope: 'row' }, side), h('td', {}, ANSWERS[answer] ?? `number ${answer}`), ...counts);
 }

@@ -51,7 +51,8 @@ export class SeamView {
         this.#sides = { left: sidePanel('left', app), right: sidePanel('right', app) };
         this.controls = this.#makeControls();
         const titles = h('tr', {}, ...['', 'Left', 'Right', ''].map((title) => h('th', { scope: 'col' }, title)));
-        this.#table = h('table', { class: 'places' }, h('caption', {}, 'Places on the edge, from below'), h('thead', {}, titles), this.#rows);
+        const caption = h('caption', {}, 'Places on the edge, from below');
+        this.#table = h('table', { class: 'places' }, caption, h('thead', {}, titles), this.#rows);
         this.words = h(
             'div',
             { class: 'panel' },
@@ -142,8 +143,8 @@ export class SeamView {
 /** A row of the table: one place of both sides. */
 function placeRow([one, other], at) {
     const cells = [one, other].map((place) => h('td', { class: 'number' }, place?.toLocaleString('en') ?? '–'));
-    const same = one === other;
-    return h('tr', {}, h('th', { scope: 'row' }, String(at)), ...cells, h('td', { class: same ? 'good' : 'fault' }, same ? 'equal' : 'differs'));
+    const [look, word] = one === other ? ['good', 'equal'] : ['fault', 'differs'];
+    return h('tr', {}, h('th', { scope: 'row' }, String(at)), ...cells, h('td', { class: look }, word));
 }
 
 /** The controls of one side. */

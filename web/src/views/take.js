@@ -40,8 +40,8 @@ export class TakeView {
             { class: 'panel' },
             h('fieldset', {}, h('legend', {}, 'Save the patch on screen'), files),
             this.#message,
-            h('div', { class: 'paste' }, h('label', { for: this.#link.id }, 'Link to this state'), this.#link, h('p', { class: 'note' }, limits)),
-            h('div', { class: 'paste' }, h('label', { for: this.#text.id }, 'Text as tsj writes it'), this.#text),
+            labelled('Link to this state', this.#link, h('p', { class: 'note' }, limits)),
+            labelled('Text as tsj writes it', this.#text),
             h('div', { class: 'buttons' }, ...copies),
             this.#copied,
         );
@@ -81,6 +81,9 @@ export class TakeView {
         }
     }
 }
+
+/** A field under its label. */
+const labelled = (title, field, ...more) => h('div', { class: 'paste' }, h('label', { for: field.id }, title), field, ...more);
 
 /** Hands a file to the browser. */
 function save(name, type, content) {
