@@ -17,10 +17,10 @@ pub struct Reached {
 
 // The same with a lent table, a lent list for sides without a reverse, and lent marks for pieces.
 fn reach_by(
+    small: bool,
     outline: &[u32],
     points: &[u32],
     indices: &[u16],
-    small: bool,
     rows: &mut [u64],
     heads: &mut [u16],
     links: &mut [u32],
@@ -67,10 +67,10 @@ fn reach_small(outline: &[u32], points: &[u32], indices: &[u16], positive: bool)
     let mut opens = [0u16; 128];
     let mut marks = [0u16; 64];
     reach_by(
+        true,
         outline,
         points,
         indices,
-        true,
         &mut rows,
         &mut heads,
         &mut links,
@@ -92,10 +92,10 @@ fn reach_large(outline: &[u32], points: &[u32], indices: &[u16], positive: bool)
     let mut opens = [0u16; 1024];
     let mut marks = [0u16; 256];
     reach_by(
+        false,
         outline,
         points,
         indices,
-        false,
         &mut rows,
         &mut heads,
         &mut links,

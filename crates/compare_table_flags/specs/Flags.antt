@@ -13,11 +13,6 @@ use Rattle.compare_differences.specs.Lacking.{among, lacks}
 use Rattle.compare_differences.specs.Meshes.{Good, pointsIn, facesIn, sameFace}
 use Rattle.compare_differences.specs.Found.{Found}
 
--- the mesh fits into the small tables
-pub record FewSides (pw iw : List ℕ) : Type 0 where
-  pub points : length pw ≤ 192
-  pub indices : length iw ≤ 384
-
 -- the mesh fits into the large tables
 pub record ManySides (pw iw : List ℕ) : Type 0 where
   pub points : length pw ≤ 24576

@@ -1,0 +1,2 @@
+-- The definitions of `compare_flags`.
+pub mod Sides
