@@ -1,19 +1,20 @@
 -- A quad patch whose places are in rows: its outline, and its inner points. Assumes nothing.
 use Prim.Native.Nat.{ℕ, _+_, _-_, _*_, _≤_}
-use mathlib.Core.Path.{_≡_, refl}
+use mathlib.Core.Path.{_≡_, refl, ap}
 use mathlib.Core.List.{List, [], _∷_}
 use native.Mathlib.Omega.{arith}
 use lib.ListN.{length}
 use Rattle.buffer.specs.Over.{Wrote}
-use Rattle.mesh_geometry.specs.Edge.{Run, ring}
-use Rattle.mesh_geometry.specs.QuadPoints.{quadPlace, grid, inner, quadPatch}
+use Rattle.mesh_geometry.specs.Edge.{ring}
+use Rattle.mesh_geometry.specs.QuadPoints.{quadPlace, grid, inner}
 use Rattle.mesh_geometry.specs.Words.{vertexWords}
 use Rattle.mesh_geometry.proofs.Grid.{grid-length}
 use Rattle.mesh_geometry.proofs.Shape.{same-point}
 use Rattle.vertices.specs.Rows.{listed, whole, Clear, GoodRow}
 use Rattle.vertices.specs.Grids.{crossing, gridPoints}
-use Rattle.vertices.proofs.Parts.{Parts, first-fits, second-fits, both-parts}
-use Rattle.vertices.proofs.Rows.{grid-same, AllSame, none, more, ring-same, front, front-size, front-same, front-clear}
+use Rattle.quad_point_rows.specs.Parts.{quadOutline, quadInside}
+use Rattle.vertices.proofs.Parts.{wrote-same}
+use Rattle.vertices.proofs.Rows.{grid-same, none, more, ring-same, front, front-size, front-same, front-clear}
 use Rattle.vertices.proofs.Middle.{middle, middle-length, middle-at}
 
 -- the inner points of a quad patch
@@ -24,29 +25,26 @@ inner-are rows columns =
     (grid-same (crossing (middle rows) (middle columns)) (inner (whole rows) (whole columns)) (length rows - 1 - 1) (length columns - 1 - 1)
     (λ r c l k. same-point _ _ (middle-at columns c k) (middle-at rows r l) refl))
 
--- the patch's points are the outline, then the inner points
-quad-parts : (e0 e1 e2 e3 rows columns : List ℕ) {es : List Run} → AllSame es (whole e0 ∷ whole e1 ∷ whole e2 ∷ whole e3 ∷ []) → (xs : List ℕ) (at : ℕ)
-    → at + 3 * length (quadPatch (whole e0) (whole e1) (whole e2) (whole e3) (whole rows) (whole columns)) ≤ length xs
-    → Parts (quadPatch (whole e0) (whole e1) (whole e2) (whole e3) (whole rows) (whole columns)) (ring quadPlace 0 es 0)
-    (gridPoints (middle rows) (middle columns)) xs at
-quad-parts e0 e1 e2 e3 rows columns s xs at room = record { is = rw (ring-same quadPlace 0 0 s, inner-are rows columns); room = room }
+-- ---- the outline, written from rows without their ends
+module _ {e0 e1 e2 e3 : List ℕ} (good : GoodRow e0 × GoodRow e1 × GoodRow e2 × GoodRow e3) (xs : List ℕ) (at : ℕ)
+    (room : at + 3 * length (quadOutline (whole e0) (whole e1) (whole e2) (whole e3)) ≤ length xs) where
+  outline-same : ring quadPlace 0 (listed (front e0) ∷ listed (front e1) ∷ listed (front e2) ∷ listed (front e3) ∷ []) 0 ≡ quadOutline (whole e0) (whole e1) (whole e2) (whole e3)
+  outline-same = ring-same quadPlace 0 0 (more (front-same e0 _ (front-size e0)) (more (front-same e1 _ (front-size e1)) (more (front-same e2 _ (front-size e2)) (more (front-same e3 _ (front-size e3)) none))))
 
--- ---- writing both parts
-module _ {e0 e1 e2 e3 rows columns : List ℕ} (good : GoodRow e0 × GoodRow e1 × GoodRow e2 × GoodRow e3 × GoodRow rows × GoodRow columns) (xs : List ℕ) (at : ℕ)
-    (room : at + 3 * length (quadPatch (whole e0) (whole e1) (whole e2) (whole e3) (whole rows) (whole columns)) ≤ length xs) where
-  parts : Parts (quadPatch (whole e0) (whole e1) (whole e2) (whole e3) (whole rows) (whole columns))
-      (ring quadPlace 0 (listed (front e0) ∷ listed (front e1) ∷ listed (front e2) ∷ listed (front e3) ∷ []) 0) (gridPoints (middle rows) (middle columns)) xs at
-  parts = quad-parts e0 e1 e2 e3 rows columns (more (front-same e0 _ (front-size e0)) (more (front-same e1 _ (front-size e1)) (more (front-same e2 _ (front-size e2)) (more (front-same e3 _ (front-size e3)) none)))) xs at room
-
-  pub outline-ready : (Clear 0 (listed (front e0)) × Clear 0 (listed (front e1)) × Clear 0 (listed (front e2)) × Clear 0 (listed (front e3)))
+  pub edges-ready : (Clear 0 (listed (front e0)) × Clear 0 (listed (front e1)) × Clear 0 (listed (front e2)) × Clear 0 (listed (front e3)))
       × (at + 3 * length (ring quadPlace 0 (listed (front e0) ∷ listed (front e1) ∷ listed (front e2) ∷ listed (front e3) ∷ []) 0) ≤ length xs)
-  outline-ready =
-      ((front-clear e0 _ (front-size e0) (good .0), front-clear e1 _ (front-size e1) (good .1), front-clear e2 _ (front-size e2) (good .2), front-clear e3 _ (front-size e3) (good .3)), first-fits parts)
+  edges-ready =
+      ((front-clear e0 _ (front-size e0) (good .0), front-clear e1 _ (front-size e1) (good .1), front-clear e2 _ (front-size e2) (good .2), front-clear e3 _ (front-size e3) (good .3)), omega (arith, ap length outline-same, room))
 
-  module _ {xs′ : List ℕ} {w : ℕ} (outline : Wrote xs at (vertexWords (ring quadPlace 0 (listed (front e0) ∷ listed (front e1) ∷ listed (front e2) ∷ listed (front e3) ∷ []) 0)) xs′ w) where
-    pub grid-ready : w + 3 * (length (middle rows) * length (middle columns)) ≤ length xs′
-    grid-ready = omega (arith, second-fits parts outline, grid-length (crossing (middle rows) (middle columns)) (length (middle rows)) (length (middle columns)))
+  pub outline-written : {xs′ : List ℕ} {w : ℕ} → Wrote xs at (vertexWords (ring quadPlace 0 (listed (front e0) ∷ listed (front e1) ∷ listed (front e2) ∷ listed (front e3) ∷ []) 0)) xs′ w
+      → Wrote xs at (vertexWords (quadOutline (whole e0) (whole e1) (whole e2) (whole e3))) xs′ w
+  outline-written = wrote-same outline-same
 
-    pub patch-written : {xs″ : List ℕ} {w′ : ℕ} → Wrote xs′ w (vertexWords (gridPoints (middle rows) (middle columns))) xs″ w′
-        → Wrote xs at (vertexWords (quadPatch (whole e0) (whole e1) (whole e2) (whole e3) (whole rows) (whole columns))) xs″ w′
-    patch-written inside = both-parts parts outline inside
+-- ---- the inside, written from the middles of two rows
+module _ (rows columns xs : List ℕ) (at : ℕ) (room : at + 3 * length (quadInside (whole rows) (whole columns)) ≤ length xs) where
+  pub inside-ready : at + 3 * (length (middle rows) * length (middle columns)) ≤ length xs
+  inside-ready = omega (arith, room, ap length (inner-are rows columns), grid-length (crossing (middle rows) (middle columns)) (length (middle rows)) (length (middle columns)))
+
+  pub inside-written : {xs′ : List ℕ} {w : ℕ} → Wrote xs at (vertexWords (gridPoints (middle rows) (middle columns))) xs′ w
+      → Wrote xs at (vertexWords (quadInside (whole rows) (whole columns))) xs′ w
+  inside-written = wrote-same (inner-are rows columns)

@@ -1,13 +1,15 @@
-// The points of a quad patch from rows of places: the outline of four edges, then the inner grid.
+// The points of a quad patch from rows of places, each with the places of an edge, its end included: the outline of four edges, and
+// the inner grid.
 ghost use Prim.Native.Nat.{_+_, _*_, _≤_, _<_};
 ghost use mathlib.Core.List.{[], _∷_};
 ghost use lib.ListN.{length};
 ghost use Rattle.buffer.specs.Over.{Wrote};
 ghost use Rattle.mesh_geometry.specs.Edge.{ring};
-ghost use Rattle.mesh_geometry.specs.QuadPoints.{quadPlace, quadPatch};
+ghost use Rattle.mesh_geometry.specs.QuadPoints.{quadPlace};
 ghost use Rattle.mesh_geometry.specs.Words.{vertexWords};
 ghost use Rattle.vertices.specs.Rows.{listed, whole, Clear, GoodRow};
 ghost use Rattle.vertices.specs.Edges.{edgePoints};
+ghost use Rattle.quad_point_rows.specs.Parts.{quadOutline, quadInside};
 use vertices::place::quad_place;
 
 // Writes the points of edge k of the outline, one per place.
@@ -25,15 +27,8 @@ fn write_edge(out: &mut [u32], at: usize, row: &[u32], k: u32) -> usize
     to
 }
 
-// Writes the outline; each edge is without its end.
-fn write_outline(
-    out: &mut [u32],
-    at: usize,
-    e0: &[u32],
-    e1: &[u32],
-    e2: &[u32],
-    e3: &[u32],
-) -> usize
+// Writes the edges of the outline from rows without their ends.
+fn write_edges(out: &mut [u32], at: usize, e0: &[u32], e1: &[u32], e2: &[u32], e3: &[u32]) -> usize
     requires { ⌜ Clear 0 (listed (now e0)) × Clear 0 (listed (now e1)) × Clear 0 (listed (now e2)) × Clear 0 (listed (now e3)) ⌝ ∗ ⌜ at + 3 * length (ring quadPlace 0 (listed (now e0) ∷ listed (now e1) ∷ listed (now e2) ∷ listed (now e3) ∷ []) 0) ≤ length (now out) ⌝ }
     ensures { λ w. ⌜ Wrote (now (out .entry)) at (vertexWords (ring quadPlace 0 (listed (now (e0 .entry)) ∷ listed (now (e1 .entry)) ∷ listed (now (e2 .entry)) ∷ listed (now (e3 .entry)) ∷ []) 0)) (now (out .exit)) w ⌝ }
 {
@@ -43,50 +38,41 @@ fn write_outline(
     write_edge(out, w, e3, 3)
 }
 
-// Writes a patch; each row has the places of an edge, its end included.
-pub fn write_rows(
+// Writes the outline.
+pub fn write_outline(
     out: &mut [u32],
     at: usize,
     e0: &[u32],
     e1: &[u32],
     e2: &[u32],
     e3: &[u32],
-    rows: &[u32],
-    columns: &[u32],
 ) -> usize
-    requires { ⌜ GoodRow (now e0) × GoodRow (now e1) × GoodRow (now e2) × GoodRow (now e3) × GoodRow (now rows) × GoodRow (now columns) ⌝ ∗ ⌜ at + 3 * length (quadPatch (whole (now e0)) (whole (now e1)) (whole (now e2)) (whole (now e3)) (whole (now rows)) (whole (now columns))) ≤ length (now out) ⌝ }
-    ensures { λ w. ⌜ Wrote (now (out .entry)) at (vertexWords (quadPatch (whole (now (e0 .entry))) (whole (now (e1 .entry))) (whole (now (e2 .entry))) (whole (now (e3 .entry))) (whole (now (rows .entry))) (whole (now (columns .entry))))) (now (out .exit)) w ⌝ }
+    requires { ⌜ GoodRow (now e0) × GoodRow (now e1) × GoodRow (now e2) × GoodRow (now e3) ⌝ ∗ ⌜ at + 3 * length (quadOutline (whole (now e0)) (whole (now e1)) (whole (now e2)) (whole (now e3))) ≤ length (now out) ⌝ }
+    ensures { λ w. ⌜ Wrote (now (out .entry)) at (vertexWords (quadOutline (whole (now (e0 .entry))) (whole (now (e1 .entry))) (whole (now (e2 .entry))) (whole (now (e3 .entry))))) (now (out .exit)) w ⌝ }
 {
     let n0 = e0.len() - 1;
     let n1 = e1.len() - 1;
     let n2 = e2.len() - 1;
     let n3 = e3.len() - 1;
-    let m = rows.len() - 1;
-    let n = columns.len() - 1;
-    let w = write_outline(out, at, &e0[0..n0], &e1[0..n1], &e2[0..n2], &e3[0..n3]);
-    vertices::grid::write_grid(out, w, &rows[1..m], &columns[1..n])
+    write_edges(out, at, &e0[0..n0], &e1[0..n1], &e2[0..n2], &e3[0..n3])
 }
 
-// The same, with the grid written point by point, which is faster for a small one.
-pub fn write_small(
-    out: &mut [u32],
-    at: usize,
-    e0: &[u32],
-    e1: &[u32],
-    e2: &[u32],
-    e3: &[u32],
-    rows: &[u32],
-    columns: &[u32],
-) -> usize
-    requires { ⌜ GoodRow (now e0) × GoodRow (now e1) × GoodRow (now e2) × GoodRow (now e3) × GoodRow (now rows) × GoodRow (now columns) ⌝ ∗ ⌜ at + 3 * length (quadPatch (whole (now e0)) (whole (now e1)) (whole (now e2)) (whole (now e3)) (whole (now rows)) (whole (now columns))) ≤ length (now out) ⌝ }
-    ensures { λ w. ⌜ Wrote (now (out .entry)) at (vertexWords (quadPatch (whole (now (e0 .entry))) (whole (now (e1 .entry))) (whole (now (e2 .entry))) (whole (now (e3 .entry))) (whole (now (rows .entry))) (whole (now (columns .entry))))) (now (out .exit)) w ⌝ }
+// Writes the inner grid.
+pub fn write_inside(out: &mut [u32], at: usize, rows: &[u32], columns: &[u32]) -> usize
+    requires { ⌜ GoodRow (now rows) × GoodRow (now columns) ⌝ ∗ ⌜ at + 3 * length (quadInside (whole (now rows)) (whole (now columns))) ≤ length (now out) ⌝ }
+    ensures { λ w. ⌜ Wrote (now (out .entry)) at (vertexWords (quadInside (whole (now (rows .entry))) (whole (now (columns .entry))))) (now (out .exit)) w ⌝ }
 {
-    let c0 = e0.len() - 1;
-    let c1 = e1.len() - 1;
-    let c2 = e2.len() - 1;
-    let c3 = e3.len() - 1;
     let m = rows.len() - 1;
     let n = columns.len() - 1;
-    let w = write_outline(out, at, &e0[0..c0], &e1[0..c1], &e2[0..c2], &e3[0..c3]);
-    vertices::grid::write_each(out, w, &rows[1..m], &columns[1..n])
+    vertices::grid::write_grid(out, at, &rows[1..m], &columns[1..n])
+}
+
+// The same point by point, which is faster for a small grid.
+pub fn write_small_inside(out: &mut [u32], at: usize, rows: &[u32], columns: &[u32]) -> usize
+    requires { ⌜ GoodRow (now rows) × GoodRow (now columns) ⌝ ∗ ⌜ at + 3 * length (quadInside (whole (now rows)) (whole (now columns))) ≤ length (now out) ⌝ }
+    ensures { λ w. ⌜ Wrote (now (out .entry)) at (vertexWords (quadInside (whole (now (rows .entry))) (whole (now (columns .entry))))) (now (out .exit)) w ⌝ }
+{
+    let m = rows.len() - 1;
+    let n = columns.len() - 1;
+    vertices::grid::write_each(out, at, &rows[1..m], &columns[1..n])
 }

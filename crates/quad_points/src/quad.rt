@@ -8,10 +8,32 @@ ghost use Rattle.mesh_geometry.specs.QuadPoints.{quadPatch, quadCorners};
 ghost use Rattle.mesh_geometry.specs.Segmented.{run};
 ghost use Rattle.mesh_geometry.specs.Words.{vertexWords};
 ghost use Rattle.vertices.specs.Rows.{AllValid, AllStored, Widths};
+ghost use Rattle.quad_point_rows.specs.Parts.{quadOutline};
 use edge_table::row_of;
 use edge_table::widest;
 use level::Segments;
-use quad_point_rows::write_rows;
+use quad_point_rows::write_inside;
+use quad_point_rows::write_outline;
+
+// Writes an outline whose rows are in the table.
+fn write_stored_outline(
+    out: &mut [u32],
+    at: usize,
+    table: &[u32],
+    e0: Segments,
+    e1: Segments,
+    e2: Segments,
+    e3: Segments,
+) -> usize
+    requires { ⌜ AllValid (e0 ∷ e1 ∷ e2 ∷ e3 ∷ []) ⌝ ∗ ⌜ AllStored (now table) (e0 ∷ e1 ∷ e2 ∷ e3 ∷ []) ⌝ ∗ ⌜ at + 3 * length (quadOutline (run e0) (run e1) (run e2) (run e3)) ≤ length (now out) ⌝ }
+    ensures { λ w. ⌜ Wrote (now (out .entry)) at (vertexWords (quadOutline (run e0) (run e1) (run e2) (run e3))) (now (out .exit)) w ⌝ }
+{
+    let r0 = row_of(table, e0);
+    let r1 = row_of(table, e1);
+    let r2 = row_of(table, e2);
+    let r3 = row_of(table, e3);
+    write_outline(out, at, r0, r1, r2, r3)
+}
 
 // Writes a patch whose rows are in the table.
 fn write_stored(
@@ -28,37 +50,10 @@ fn write_stored(
     requires { ⌜ AllValid (e0 ∷ e1 ∷ e2 ∷ e3 ∷ rows ∷ columns ∷ []) ⌝ ∗ ⌜ AllStored (now table) (e0 ∷ e1 ∷ e2 ∷ e3 ∷ rows ∷ columns ∷ []) ⌝ ∗ ⌜ at + 3 * length (quadPatch (run e0) (run e1) (run e2) (run e3) (run rows) (run columns)) ≤ length (now out) ⌝ }
     ensures { λ w. ⌜ Wrote (now (out .entry)) at (vertexWords (quadPatch (run e0) (run e1) (run e2) (run e3) (run rows) (run columns))) (now (out .exit)) w ⌝ }
 {
-    let r0 = row_of(table, e0);
-    let r1 = row_of(table, e1);
-    let r2 = row_of(table, e2);
-    let r3 = row_of(table, e3);
-    let r4 = row_of(table, rows);
-    let r5 = row_of(table, columns);
-    write_rows(out, at, r0, r1, r2, r3, r4, r5)
-}
-
-// The same, with the inside written point by point, which is faster for a small patch.
-fn write_small(
-    out: &mut [u32],
-    at: usize,
-    table: &[u32],
-    e0: Segments,
-    e1: Segments,
-    e2: Segments,
-    e3: Segments,
-    rows: Segments,
-    columns: Segments,
-) -> usize
-    requires { ⌜ AllValid (e0 ∷ e1 ∷ e2 ∷ e3 ∷ rows ∷ columns ∷ []) ⌝ ∗ ⌜ AllStored (now table) (e0 ∷ e1 ∷ e2 ∷ e3 ∷ rows ∷ columns ∷ []) ⌝ ∗ ⌜ at + 3 * length (quadPatch (run e0) (run e1) (run e2) (run e3) (run rows) (run columns)) ≤ length (now out) ⌝ }
-    ensures { λ w. ⌜ Wrote (now (out .entry)) at (vertexWords (quadPatch (run e0) (run e1) (run e2) (run e3) (run rows) (run columns))) (now (out .exit)) w ⌝ }
-{
-    let r0 = row_of(table, e0);
-    let r1 = row_of(table, e1);
-    let r2 = row_of(table, e2);
-    let r3 = row_of(table, e3);
-    let r4 = row_of(table, rows);
-    let r5 = row_of(table, columns);
-    quad_point_rows::write_small(out, at, r0, r1, r2, r3, r4, r5)
+    let w = write_stored_outline(out, at, table, e0, e1, e2, e3);
+    let r = row_of(table, rows);
+    let c = row_of(table, columns);
+    write_inside(out, w, r, c)
 }
 
 // Writes a patch whose rows are computed by division, one every 65 words.
@@ -89,7 +84,8 @@ fn write_divided(
     let r3 = edge::row_from(all, 195, e3);
     let r4 = edge::row_from(all, 260, rows);
     let r5 = edge::row_from(all, 325, columns);
-    write_rows(out, at, r0, r1, r2, r3, r4, r5)
+    let w = write_outline(out, at, r0, r1, r2, r3);
+    write_inside(out, w, r4, r5)
 }
 
 // Returns the greatest number of segments of an edge, or 65 if an edge is not equally spaced.
@@ -165,7 +161,7 @@ pub fn write_quad_patch(
     write_by_width(out, at, most, e0, e1, e2, e3, rows, columns)
 }
 
-// The same for drawing, with a function of its own for a small patch, which then takes no stack for the whole table.
+// The same for drawing, with the inside of a small patch written point by point, which is faster.
 pub fn write_drawn_quad(
     out: &mut [u32],
     at: usize,
@@ -182,7 +178,10 @@ pub fn write_drawn_quad(
     let most = width_of(e0, e1, e2, e3, rows, columns);
     if most < 9 {
         let table = edge_table::rows_to_8();
-        return write_small(out, at, &table, e0, e1, e2, e3, rows, columns);
+        let w = write_stored_outline(out, at, &table, e0, e1, e2, e3);
+        let r = row_of(&table, rows);
+        let c = row_of(&table, columns);
+        return quad_point_rows::write_small_inside(out, w, r, c);
     }
     write_by_width(out, at, most, e0, e1, e2, e3, rows, columns)
 }

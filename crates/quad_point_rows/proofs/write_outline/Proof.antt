@@ -1,54 +1,28 @@
 -- Meets its contract. Assumes nothing.
 use borrow.Author.Needs.{needs}
-use native.Mathlib.Omega.{arith}
-use mathlib.Core.List.{[], _∷_}
-use Rattle.mesh_geometry.specs.QuadPoints.{quadPlace}
-use Rattle.vertices.specs.Rows.{listed}
-use Rattle.vertices.proofs.Edges.{edges-start, edges-fits, edges-step, four-edges}
+use native.Mathlib.Nat.{sub-le}
+use Prim.Native.Nat.{zero-le}
+use Rattle.vertices.proofs.Rows.{row-some}
+use Rattle.quad_point_rows.proofs.Quads.{edges-ready, outline-written}
 use Rattle.quad_point_rows.proofs.write_outline.Statement.{statement}
 use Rattle.quad_point_rows.proofs.write_outline.Tie as tie
 
-write-edge-requires : tie.Need-write-edge-requires
-write-edge-requires c κs =
-    let s = c .before .before .before .before .before .before in
-    let a = s .args in
-    let es = listed (a .e0 .now) ∷ listed (a .e1 .now) ∷ listed (a .e2 .now) ∷ listed (a .e3 .now) ∷ [] in
-    let l = edges-start quadPlace 0 es (a .out .now) (a .at) (s .pre .1) in
-    (omega arith, (s .pre .0 .0, edges-fits l))
-
-write-edge-requires-2 : tie.Need-write-edge-requires-2
-write-edge-requires-2 c κs =
+write-edges-requires : tie.Need-write-edges-requires
+write-edges-requires c κs =
     let s = c .before .before .before .before .before .before .before .before .before .before in
-    let a = s .args in
-    let es = listed (a .e0 .now) ∷ listed (a .e1 .now) ∷ listed (a .e2 .now) ∷ listed (a .e3 .now) ∷ [] in
-    let l = edges-start quadPlace 0 es (a .out .now) (a .at) (s .pre .1) in
-    let l0 = edges-step (c .before .before .before .write-edge .ensures) l in
-    (omega arith, (s .pre .0 .1, edges-fits l0))
+    edges-ready (s .pre .0) (s .args .out .now) (s .args .at) (s .pre .1)
 
-write-edge-requires-3 : tie.Need-write-edge-requires-3
-write-edge-requires-3 c κs =
-    let s = c .before .before .before .before .before .before .before .before .before .before .before .before .before .before in
-    let a = s .args in
-    let es = listed (a .e0 .now) ∷ listed (a .e1 .now) ∷ listed (a .e2 .now) ∷ listed (a .e3 .now) ∷ [] in
-    let l = edges-start quadPlace 0 es (a .out .now) (a .at) (s .pre .1) in
-    let l0 = edges-step (c .before .before .before .before .before .before .before .write-edge .ensures) l in
-    let l1 = edges-step (c .before .before .before .write-edge2 .ensures) l0 in
-    (omega arith, (s .pre .0 .2, edges-fits l1))
-
-write-edge-requires-4 : tie.Need-write-edge-requires-4
-write-edge-requires-4 c κs =
-    let s = c .before .before .before .before .before .before .before .before .before .before .before .before .before .before .before .before .before .before in
-    let a = s .args in
-    let es = listed (a .e0 .now) ∷ listed (a .e1 .now) ∷ listed (a .e2 .now) ∷ listed (a .e3 .now) ∷ [] in
-    let l = edges-start quadPlace 0 es (a .out .now) (a .at) (s .pre .1) in
-    let l0 = edges-step (c .before .before .before .before .before .before .before .before .before .before .before .write-edge .ensures) l in
-    let l1 = edges-step (c .before .before .before .before .before .before .before .write-edge2 .ensures) l0 in
-    let l2 = edges-step (c .before .before .before .write-edge3 .ensures) l1 in
-    (omega arith, (s .pre .0 .3, edges-fits l2))
+returns : tie.Need-returns
+returns c =
+    let s = c .before .before .before .before .before .before .before .before .before .before .before .before .before in
+    outline-written (s .pre .0) (s .args .out .now) (s .args .at) (s .pre .1) (c .before .before .write-edges .ensures)
 
 pub write-outline-spec : {M : Type 1} → statement M
 write-outline-spec =
     tie.close
     (tie.spec
-    write-edge-requires write-edge-requires-2 write-edge-requires-3 write-edge-requires-4 (λ c. search needs)
-    (λ c. search (four-edges, needs)))
+    (λ c. row-some (c .before .before .before .before .before .pre .0 .0)) (λ c. row-some (c .before .before .before .before .before .pre .0 .1))
+    (λ c. row-some (c .before .before .before .before .before .pre .0 .2)) (λ c. row-some (c .before .before .before .before .before .pre .0 .3))
+    (λ c. zero-le) (λ c. zero-le) (λ c. sub-le _ 1) (λ c. zero-le) (λ c. zero-le) (λ c. sub-le _ 1)
+    (λ c. zero-le) (λ c. zero-le) (λ c. sub-le _ 1) (λ c. zero-le) (λ c. zero-le) (λ c. sub-le _ 1)
+    write-edges-requires (λ c. search needs) returns)

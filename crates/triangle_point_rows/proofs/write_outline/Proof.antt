@@ -1,43 +1,43 @@
 -- Meets its contract. Assumes nothing.
 use borrow.Author.Needs.{needs}
 use native.Mathlib.Omega.{arith}
-use mathlib.Core.List.{[], _∷_}
-use Rattle.mesh_geometry.specs.TrianglePoints.{trianglePlace}
-use Rattle.vertices.specs.Rows.{listed}
-use Rattle.vertices.proofs.Edges.{edges-start, edges-fits, edges-step, three-edges}
-use Rattle.triangle_point_rows.proofs.write_outline.Statement.{statement}
-use Rattle.triangle_point_rows.proofs.write_outline.Tie as tie
+use Prim.Native.Nat.{_-_}
+use lib.ListN.{length}
+use Rattle.vertices.proofs.Parts.{first-fits, second-fits, both-parts}
+use Rattle.vertices.proofs.Rows.{none, more, front-same, front-clear}
+use Rattle.triangle_point_rows.proofs.Rings.{triangle-parts, row-inward, next-inward}
+use Rattle.triangle_point_rows.proofs.write_rows.Statement.{statement}
+use Rattle.triangle_point_rows.proofs.write_rows.Tie as tie
 
-write-edge-requires : tie.Need-write-edge-requires
-write-edge-requires c κs =
-    let s = c .before .before .before .before .before in
-    let a = s .args in
-    let es = listed (a .e0 .now) ∷ listed (a .e1 .now) ∷ listed (a .e2 .now) ∷ [] in
-    let l = edges-start trianglePlace 0 es (a .out .now) (a .at) (s .pre .1) in
-    (omega arith, (s .pre .0 .0, edges-fits l))
-
-write-edge-requires-2 : tie.Need-write-edge-requires-2
-write-edge-requires-2 c κs =
+write-outline-requires : tie.Need-write-outline-requires
+write-outline-requires c κs =
     let s = c .before .before .before .before .before .before .before .before .before in
     let a = s .args in
-    let es = listed (a .e0 .now) ∷ listed (a .e1 .now) ∷ listed (a .e2 .now) ∷ [] in
-    let l = edges-start trianglePlace 0 es (a .out .now) (a .at) (s .pre .1) in
-    let l0 = edges-step (c .before .before .before .write-edge .ensures) l in
-    (omega arith, (s .pre .0 .1, edges-fits l0))
+    let same = more (front-same (a .e0 .now) (length (a .e0 .now) - 1 - 0) (omega arith)) (more (front-same (a .e1 .now) (length (a .e1 .now) - 1 - 0) (omega arith)) (more (front-same (a .e2 .now) (length (a .e2 .now) - 1 - 0) (omega arith)) none)) in
+    let parts = triangle-parts same (a .inside .now) (s .pre .0 .4) (a .out .now) (a .at) (s .pre .1) in
+    ((front-clear (a .e0 .now) (length (a .e0 .now) - 1 - 0) (omega arith) (s .pre .0 .0), front-clear (a .e1 .now) (length (a .e1 .now) - 1 - 0) (omega arith) (s .pre .0 .1), front-clear (a .e2 .now) (length (a .e2 .now) - 1 - 0) (omega arith) (s .pre .0 .2)), first-fits parts)
 
-write-edge-requires-3 : tie.Need-write-edge-requires-3
-write-edge-requires-3 c κs =
-    let s = c .before .before .before .before .before .before .before .before .before .before .before .before .before in
+write-inside-requires : tie.Need-write-inside-requires
+write-inside-requires c κs =
+    let s = c .before .before .before .before .before .before .before .before .before .before .before .before .before .before in
     let a = s .args in
-    let es = listed (a .e0 .now) ∷ listed (a .e1 .now) ∷ listed (a .e2 .now) ∷ [] in
-    let l = edges-start trianglePlace 0 es (a .out .now) (a .at) (s .pre .1) in
-    let l0 = edges-step (c .before .before .before .before .before .before .before .write-edge .ensures) l in
-    let l1 = edges-step (c .before .before .before .write-edge2 .ensures) l0 in
-    (omega arith, (s .pre .0 .2, edges-fits l1))
+    let same = more (front-same (a .e0 .now) (length (a .e0 .now) - 1 - 0) (omega arith)) (more (front-same (a .e1 .now) (length (a .e1 .now) - 1 - 0) (omega arith)) (more (front-same (a .e2 .now) (length (a .e2 .now) - 1 - 0) (omega arith)) none)) in
+    let parts = triangle-parts same (a .inside .now) (s .pre .0 .4) (a .out .now) (a .at) (s .pre .1) in
+    (next-inward (a .inside .now) (s .pre .0 .4) (row-inward (a .inside .now) (s .pre .0 .3)), second-fits parts (c .before .before .before .before .write-outline .ensures))
 
-pub write-outline-spec : {M : Type 1} → statement M
-write-outline-spec =
+returns : tie.Need-returns
+returns c =
+    let s = c .before .before .before .before .before .before .before .before .before .before .before .before .before .before .before .before .before in
+    let a = s .args in
+    let same = more (front-same (a .e0 .now) (length (a .e0 .now) - 1 - 0) (omega arith)) (more (front-same (a .e1 .now) (length (a .e1 .now) - 1 - 0) (omega arith)) (more (front-same (a .e2 .now) (length (a .e2 .now) - 1 - 0) (omega arith)) none)) in
+    let parts = triangle-parts same (a .inside .now) (s .pre .0 .4) (a .out .now) (a .at) (s .pre .1) in
+    both-parts parts (c .before .before .before .before .before .before .before .write-outline .ensures) (c .before .before .write-inside .ensures)
+
+pub write-rows-spec : {M : Type 1} → statement M
+write-rows-spec =
     tie.close
     (tie.spec
-    write-edge-requires write-edge-requires-2 write-edge-requires-3 (λ c. search needs)
-    (λ c. search (three-edges, needs)))
+    (λ c. omega arith) (λ c. omega arith) (λ c. omega arith) (λ c. omega arith) (λ c. omega arith)
+    (λ c. omega arith) (λ c. omega arith) (λ c. omega arith) (λ c. omega arith) (λ c. omega arith)
+    (λ c. omega arith) (λ c. omega arith) (λ c. omega arith) write-outline-requires (λ c. omega arith)
+    (λ c. omega arith) (λ c. omega arith) write-inside-requires (λ c. search needs) returns)

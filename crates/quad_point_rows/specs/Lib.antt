@@ -1,0 +1,2 @@
+-- The definitions of `quad_point_rows`.
+pub mod Parts
