@@ -2,20 +2,22 @@
 -- Assumes nothing.
 use Prim.Native.Nat.{ℕ, zero, suc, _+_, _-_, _*_, _≤_, _<_}
 use mathlib.Core.Path.{_≡_, refl, sym, ap, _∙_}
-use mathlib.Core.List.{List, _++_}
+use mathlib.Core.List.{List, [], _∷_, _++_}
 use native.Mathlib.Omega.{arith}
 use lib.ListN.{length, take}
 use lib.Seq.{getD-take}
+use Rattle.buffer.specs.Over.{Wrote}
 use Rattle.mesh_geometry.specs.declared.Point.{Point}
 use Rattle.mesh_geometry.specs.Edge.{Run, ring}
 use Rattle.mesh_geometry.specs.TrianglePoints.{trianglePlace, centre, alike, rings}
 use Rattle.mesh_geometry.specs.Words.{pointWords, vertexWords}
 use Rattle.mesh_geometry.proofs.Edge.{far}
-use Rattle.vertices.specs.Rows.{places, listed, Clear, GoodRow}
+use Rattle.vertices.specs.Rows.{places, listed, whole, Clear, GoodRow}
 use Rattle.triangle_point_rows.specs.Rings.{ringPoints, ringsOf, Inward}
+use Rattle.triangle_point_rows.specs.Parts.{triangleOutline, triangleInside}
 use Rattle.vertices.proofs.Words.{words-append}
-use Rattle.vertices.proofs.Parts.{Parts}
-use Rattle.vertices.proofs.Rows.{Same, AllSame, none, more, ring-same, front-length}
+use Rattle.vertices.proofs.Parts.{wrote-same}
+use Rattle.vertices.proofs.Rows.{Same, AllSame, none, more, ring-same, front, front-size, front-length, front-same, front-clear}
 use Rattle.vertices.proofs.Middle.{middle, middle-length, middle-at}
 
 -- ---- rings by places that are alike as far as they go
@@ -24,7 +26,7 @@ alike-same n p q h =
     let s : Same (record { q = p; c = n }) (record { q = q; c = n }) = record { count = refl; at = h } in
     more s (more s (more s none))
 
-inner-same : (n d d′ : ℕ) (p q : ℕ → ℕ) → d ≡ d′ → ((i : ℕ) → i < n → p i ≡ q i) → rings (alike p n) d p n ≡ rings (alike q n) d′ q n
+pub inner-same : (n d d′ : ℕ) (p q : ℕ → ℕ) → d ≡ d′ → ((i : ℕ) → i < n → p i ≡ q i) → rings (alike p n) d p n ≡ rings (alike q n) d′ q n
 unfolding rings
 inner-same zero d d′ p q e h = refl
 inner-same (suc zero) d d′ p q e h = rw e (ring-same trianglePlace 0 d′ (alike-same 1 p q h))
@@ -32,16 +34,6 @@ inner-same (suc (suc r)) d d′ p q e h =
     rw (
       e,
       ring-same trianglePlace 0 d′ (alike-same (suc (suc r)) p q h),
-      inner-same r (p 1) (q 1) (λ i. p (suc i)) (λ i. q (suc i)) (h 1 (omega arith)) (λ i l. h (suc i) (omega arith)),
-    )
-
-pub rings-same : {es fs : List Run} (n : ℕ) (p q : ℕ → ℕ) → AllSame es fs → ((i : ℕ) → i ≤ n → p i ≡ q i) → rings es 0 p n ≡ rings fs 0 q n
-unfolding rings
-rings-same zero p q s h = refl
-rings-same (suc zero) p q s h = ring-same trianglePlace 0 0 s
-rings-same (suc (suc r)) p q s h =
-    rw (
-      ring-same trianglePlace 0 0 s,
       inner-same r (p 1) (q 1) (λ i. p (suc i)) (λ i. q (suc i)) (h 1 (omega arith)) (λ i l. h (suc i) (omega arith)),
     )
 
@@ -60,14 +52,14 @@ rings-more es d row h =
     (inner-same r (places row 1) (places m 0) (λ i. places row (suc i)) (places m) (sym (middle-at row 0 (omega arith))) (λ i l. sym (middle-at row i (omega arith)))
     ∙ ap (λ (n : ℕ). rings (alike (places m) n) (places m 0) (places m) n) (sym k))
 
--- the outline, and the rings inside it
-pub triangle-parts : {es fs : List Run} → AllSame es fs → (row : List ℕ) → 3 ≤ length row → (xs : List ℕ) (at : ℕ)
-    → at + 3 * length (rings fs 0 (places row) (length row - 1)) ≤ length xs
-    → Parts (rings fs 0 (places row) (length row - 1)) (ring trianglePlace 0 es 0) (ringsOf (middle row)) xs at
-triangle-parts {fs = fs} s row h xs at room = record {
-  is = rings-more fs 0 row h ∙ ap (λ (ps : List Point). ps ++ ringsOf (middle row)) (sym (ring-same trianglePlace 0 0 s));
-  room = room;
-}
+-- the inside of a patch whose places are in a row
+inside-are : (row : List ℕ) → 3 ≤ length row → triangleInside (whole row) ≡ ringsOf (middle row)
+inside-are row h =
+    let r = length row - 1 - 2 in
+    let m = middle row in
+    let k : length m - 1 ≡ r = omega (arith, middle-length row) in
+    inner-same r (places row 1) (places m 0) (λ i. places row (suc i)) (places m) (sym (middle-at row 0 (omega arith))) (λ i l. sym (middle-at row i (omega arith)))
+    ∙ ap (λ (n : ℕ). rings (alike (places m) n) (places m 0) (places m) n) (sym k)
 
 module _ (row : List ℕ) (n : ℕ) (e : n ≡ length row - 1) (some : 2 ≤ length row) where
   -- a ring's own points
@@ -124,3 +116,25 @@ next-inward row h g =
           let k : suc j ≡ length row - 1 - suc i = omega arith in
           omega (arith, middle-at row i (omega arith), middle-at row j (omega arith), ap (places row) k, g .mirrors (suc i) (omega arith));
     }
+
+-- ---- writing both parts of a patch
+module _ {e0 e1 e2 : List ℕ} (good : GoodRow e0 × GoodRow e1 × GoodRow e2) (xs : List ℕ) (at : ℕ)
+    (room : at + 3 * length (triangleOutline (whole e0) (whole e1) (whole e2)) ≤ length xs) where
+  outline-same : ring trianglePlace 0 (listed (front e0) ∷ listed (front e1) ∷ listed (front e2) ∷ []) 0 ≡ triangleOutline (whole e0) (whole e1) (whole e2)
+  outline-same = ring-same trianglePlace 0 0 (more (front-same e0 _ (front-size e0)) (more (front-same e1 _ (front-size e1)) (more (front-same e2 _ (front-size e2)) none)))
+
+  pub edges-ready : (Clear 0 (listed (front e0)) × Clear 0 (listed (front e1)) × Clear 0 (listed (front e2)))
+      × (at + 3 * length (ring trianglePlace 0 (listed (front e0) ∷ listed (front e1) ∷ listed (front e2) ∷ []) 0) ≤ length xs)
+  edges-ready =
+      ((front-clear e0 _ (front-size e0) (good .0), front-clear e1 _ (front-size e1) (good .1), front-clear e2 _ (front-size e2) (good .2)), omega (arith, ap length outline-same, room))
+
+  pub outline-written : {xs′ : List ℕ} {w : ℕ} → Wrote xs at (vertexWords (ring trianglePlace 0 (listed (front e0) ∷ listed (front e1) ∷ listed (front e2) ∷ []) 0)) xs′ w
+      → Wrote xs at (vertexWords (triangleOutline (whole e0) (whole e1) (whole e2))) xs′ w
+  outline-written = wrote-same outline-same
+
+module _ (row : List ℕ) (good : GoodRow row × (3 ≤ length row)) (xs : List ℕ) (at : ℕ) (room : at + 3 * length (triangleInside (whole row)) ≤ length xs) where
+  pub rings-ready : Inward (middle row) × (at + 3 * length (ringsOf (middle row)) ≤ length xs)
+  rings-ready = (next-inward row (good .1) (row-inward row (good .0)), omega (arith, ap length (inside-are row (good .1)), room))
+
+  pub inside-written : {xs′ : List ℕ} {w : ℕ} → Wrote xs at (vertexWords (ringsOf (middle row))) xs′ w → Wrote xs at (vertexWords (triangleInside (whole row))) xs′ w
+  inside-written = wrote-same (sym (inside-are row (good .1)))

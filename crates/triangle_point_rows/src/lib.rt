@@ -1,15 +1,17 @@
-// The points of a triangle patch from rows of places: rings of three edges, from the outline inwards, and the centre.
+// The points of a triangle patch from rows of places: rings of three edges, from the outline inwards, and the centre. The rows of the
+// public functions have the places of an edge, its end included.
 ghost use Prim.Native.Nat.{_+_, _-_, _*_, _%_, _≤_, _<_};
 ghost use mathlib.Core.Path.{_≡_};
 ghost use mathlib.Core.List.{[], _∷_};
 ghost use lib.ListN.{length, take};
 ghost use Rattle.buffer.specs.Over.{Wrote, flat};
 ghost use Rattle.mesh_geometry.specs.Edge.{ring};
-ghost use Rattle.mesh_geometry.specs.TrianglePoints.{trianglePlace, trianglePatch};
+ghost use Rattle.mesh_geometry.specs.TrianglePoints.{trianglePlace};
 ghost use Rattle.mesh_geometry.specs.Words.{vertexWords};
 ghost use Rattle.vertices.specs.Rows.{places, listed, whole, Clear, GoodRow};
 ghost use Rattle.vertices.specs.Edges.{edgePoints};
 ghost use Rattle.triangle_point_rows.specs.Rings.{ringPoints, ringsOf, Inward, sums, Laid};
+ghost use Rattle.triangle_point_rows.specs.Parts.{triangleOutline, triangleInside};
 use vertices::grid::copy_row;
 use vertices::place::triangle_place;
 
@@ -28,8 +30,8 @@ fn write_edge(out: &mut [u32], at: usize, row: &[u32], depth: u32, high: u32, k:
     to
 }
 
-// Writes the outline; each edge is without its end.
-fn write_outline(out: &mut [u32], at: usize, e0: &[u32], e1: &[u32], e2: &[u32]) -> usize
+// Writes the edges of the outline, from rows without their ends.
+fn write_edges(out: &mut [u32], at: usize, e0: &[u32], e1: &[u32], e2: &[u32]) -> usize
     requires { ⌜ Clear 0 (listed (now e0)) × Clear 0 (listed (now e1)) × Clear 0 (listed (now e2)) ⌝ ∗ ⌜ at + 3 * length (ring trianglePlace 0 (listed (now e0) ∷ listed (now e1) ∷ listed (now e2) ∷ []) 0) ≤ length (now out) ⌝ }
     ensures { λ w. ⌜ Wrote (now (out .entry)) at (vertexWords (ring trianglePlace 0 (listed (now (e0 .entry)) ∷ listed (now (e1 .entry)) ∷ listed (now (e2 .entry)) ∷ []) 0)) (now (out .exit)) w ⌝ }
 {
@@ -211,7 +213,7 @@ fn write_wide_rings(out: &mut [u32], at: usize, row: &[u32]) -> usize
 }
 
 // Writes all rings the faster way: for few places the points of the outline cost more than they save.
-fn write_inside(out: &mut [u32], at: usize, row: &[u32]) -> usize
+fn write_all_rings(out: &mut [u32], at: usize, row: &[u32]) -> usize
     requires { ⌜ Inward (now row) ⌝ ∗ ⌜ at + 3 * length (ringsOf (now row)) ≤ length (now out) ⌝ }
     ensures { λ w. ⌜ Wrote (now (out .entry)) at (vertexWords (ringsOf (now (row .entry)))) (now (out .exit)) w ⌝ }
 {
@@ -224,42 +226,31 @@ fn write_inside(out: &mut [u32], at: usize, row: &[u32]) -> usize
     write_wide_rings(out, at, row)
 }
 
-// Writes a patch; each row has the places of an edge, its end included.
-pub fn write_rows(
-    out: &mut [u32],
-    at: usize,
-    e0: &[u32],
-    e1: &[u32],
-    e2: &[u32],
-    inside: &[u32],
-) -> usize
-    requires { ⌜ GoodRow (now e0) × GoodRow (now e1) × GoodRow (now e2) × GoodRow (now inside) × (3 ≤ length (now inside)) ⌝ ∗ ⌜ at + 3 * length (trianglePatch (whole (now e0)) (whole (now e1)) (whole (now e2)) (whole (now inside))) ≤ length (now out) ⌝ }
-    ensures { λ w. ⌜ Wrote (now (out .entry)) at (vertexWords (trianglePatch (whole (now (e0 .entry))) (whole (now (e1 .entry))) (whole (now (e2 .entry))) (whole (now (inside .entry))))) (now (out .exit)) w ⌝ }
+// Writes the outline; each row has the places of an edge, its end included.
+pub fn write_outline(out: &mut [u32], at: usize, e0: &[u32], e1: &[u32], e2: &[u32]) -> usize
+    requires { ⌜ GoodRow (now e0) × GoodRow (now e1) × GoodRow (now e2) ⌝ ∗ ⌜ at + 3 * length (triangleOutline (whole (now e0)) (whole (now e1)) (whole (now e2))) ≤ length (now out) ⌝ }
+    ensures { λ w. ⌜ Wrote (now (out .entry)) at (vertexWords (triangleOutline (whole (now (e0 .entry))) (whole (now (e1 .entry))) (whole (now (e2 .entry))))) (now (out .exit)) w ⌝ }
 {
     let n0 = e0.len() - 1;
     let n1 = e1.len() - 1;
     let n2 = e2.len() - 1;
-    let n = inside.len() - 1;
-    let w = write_outline(out, at, &e0[0..n0], &e1[0..n1], &e2[0..n2]);
-    write_inside(out, w, &inside[1..n])
+    write_edges(out, at, &e0[0..n0], &e1[0..n1], &e2[0..n2])
 }
 
-// The same, with the rings written point by point, which is faster for small ones.
-pub fn write_small(
-    out: &mut [u32],
-    at: usize,
-    e0: &[u32],
-    e1: &[u32],
-    e2: &[u32],
-    inside: &[u32],
-) -> usize
-    requires { ⌜ GoodRow (now e0) × GoodRow (now e1) × GoodRow (now e2) × GoodRow (now inside) × (3 ≤ length (now inside)) ⌝ ∗ ⌜ at + 3 * length (trianglePatch (whole (now e0)) (whole (now e1)) (whole (now e2)) (whole (now inside))) ≤ length (now out) ⌝ }
-    ensures { λ w. ⌜ Wrote (now (out .entry)) at (vertexWords (trianglePatch (whole (now (e0 .entry))) (whole (now (e1 .entry))) (whole (now (e2 .entry))) (whole (now (inside .entry))))) (now (out .exit)) w ⌝ }
+// The rings inside the outline, or the centre.
+pub fn write_inside(out: &mut [u32], at: usize, row: &[u32]) -> usize
+    requires { ⌜ GoodRow (now row) × (3 ≤ length (now row)) ⌝ ∗ ⌜ at + 3 * length (triangleInside (whole (now row))) ≤ length (now out) ⌝ }
+    ensures { λ w. ⌜ Wrote (now (out .entry)) at (vertexWords (triangleInside (whole (now (row .entry))))) (now (out .exit)) w ⌝ }
 {
-    let n0 = e0.len() - 1;
-    let n1 = e1.len() - 1;
-    let n2 = e2.len() - 1;
-    let n = inside.len() - 1;
-    let w = write_outline(out, at, &e0[0..n0], &e1[0..n1], &e2[0..n2]);
-    write_rings(out, w, &inside[1..n])
+    let n = row.len() - 1;
+    write_all_rings(out, at, &row[1..n])
+}
+
+// The same point by point, which is faster for small rings.
+pub fn write_small_inside(out: &mut [u32], at: usize, row: &[u32]) -> usize
+    requires { ⌜ GoodRow (now row) × (3 ≤ length (now row)) ⌝ ∗ ⌜ at + 3 * length (triangleInside (whole (now row))) ≤ length (now out) ⌝ }
+    ensures { λ w. ⌜ Wrote (now (out .entry)) at (vertexWords (triangleInside (whole (now (row .entry))))) (now (out .exit)) w ⌝ }
+{
+    let n = row.len() - 1;
+    write_rings(out, at, &row[1..n])
 }

@@ -8,10 +8,30 @@ ghost use Rattle.mesh_geometry.specs.TrianglePoints.{trianglePatch, triangleCor
 ghost use Rattle.mesh_geometry.specs.Segmented.{run};
 ghost use Rattle.mesh_geometry.specs.Words.{vertexWords};
 ghost use Rattle.vertices.specs.Rows.{AllValid, AllStored, Widths};
+ghost use Rattle.triangle_point_rows.specs.Parts.{triangleOutline};
 use edge_table::row_of;
 use edge_table::widest;
 use level::Segments;
-use triangle_point_rows::write_rows;
+use triangle_point_rows::write_inside;
+use triangle_point_rows::write_outline;
+
+// Writes an outline whose rows are in the table.
+fn write_stored_outline(
+    out: &mut [u32],
+    at: usize,
+    table: &[u32],
+    e0: Segments,
+    e1: Segments,
+    e2: Segments,
+) -> usize
+    requires { ⌜ AllValid (e0 ∷ e1 ∷ e2 ∷ []) ⌝ ∗ ⌜ AllStored (now table) (e0 ∷ e1 ∷ e2 ∷ []) ⌝ ∗ ⌜ at + 3 * length (triangleOutline (run e0) (run e1) (run e2)) ≤ length (now out) ⌝ }
+    ensures { λ w. ⌜ Wrote (now (out .entry)) at (vertexWords (triangleOutline (run e0) (run e1) (run e2))) (now (out .exit)) w ⌝ }
+{
+    let r0 = row_of(table, e0);
+    let r1 = row_of(table, e1);
+    let r2 = row_of(table, e2);
+    write_outline(out, at, r0, r1, r2)
+}
 
 // Writes a patch whose rows are in the table.
 fn write_stored(
@@ -26,31 +46,9 @@ fn write_stored(
     requires { ⌜ AllValid (e0 ∷ e1 ∷ e2 ∷ inside ∷ []) × (2 ≤ inside .count) ⌝ ∗ ⌜ AllStored (now table) (e0 ∷ e1 ∷ e2 ∷ inside ∷ []) ⌝ ∗ ⌜ at + 3 * length (trianglePatch (run e0) (run e1) (run e2) (run inside)) ≤ length (now out) ⌝ }
     ensures { λ w. ⌜ Wrote (now (out .entry)) at (vertexWords (trianglePatch (run e0) (run e1) (run e2) (run inside))) (now (out .exit)) w ⌝ }
 {
-    let r0 = row_of(table, e0);
-    let r1 = row_of(table, e1);
-    let r2 = row_of(table, e2);
-    let r3 = row_of(table, inside);
-    write_rows(out, at, r0, r1, r2, r3)
-}
-
-// The same, with the inside written point by point, which is faster for a small patch.
-fn write_small(
-    out: &mut [u32],
-    at: usize,
-    table: &[u32],
-    e0: Segments,
-    e1: Segments,
-    e2: Segments,
-    inside: Segments,
-) -> usize
-    requires { ⌜ AllValid (e0 ∷ e1 ∷ e2 ∷ inside ∷ []) × (2 ≤ inside .count) ⌝ ∗ ⌜ AllStored (now table) (e0 ∷ e1 ∷ e2 ∷ inside ∷ []) ⌝ ∗ ⌜ at + 3 * length (trianglePatch (run e0) (run e1) (run e2) (run inside)) ≤ length (now out) ⌝ }
-    ensures { λ w. ⌜ Wrote (now (out .entry)) at (vertexWords (trianglePatch (run e0) (run e1) (run e2) (run inside))) (now (out .exit)) w ⌝ }
-{
-    let r0 = row_of(table, e0);
-    let r1 = row_of(table, e1);
-    let r2 = row_of(table, e2);
-    let r3 = row_of(table, inside);
-    triangle_point_rows::write_small(out, at, r0, r1, r2, r3)
+    let w = write_stored_outline(out, at, table, e0, e1, e2);
+    let row = row_of(table, inside);
+    write_inside(out, w, row)
 }
 
 // Writes a patch whose rows are computed by division, one every 65 words.
@@ -75,7 +73,8 @@ fn write_divided(
     let r1 = edge::row_from(all, 65, e1);
     let r2 = edge::row_from(all, 130, e2);
     let r3 = edge::row_from(all, 195, inside);
-    write_rows(out, at, r0, r1, r2, r3)
+    let w = write_outline(out, at, r0, r1, r2);
+    write_inside(out, w, r3)
 }
 
 // Returns the greatest number of segments of an edge, or 65 if an edge is not equally spaced.
@@ -138,7 +137,7 @@ pub fn write_triangle_patch(
     write_by_width(out, at, most, e0, e1, e2, inside)
 }
 
-// The same for drawing, with a function of its own for a small patch, which then takes no stack for the whole table.
+// The same for drawing, with the inside of a small patch written point by point, which is faster.
 pub fn write_drawn_triangle(
     out: &mut [u32],
     at: usize,
@@ -153,7 +152,9 @@ pub fn write_drawn_triangle(
     let most = width_of(e0, e1, e2, inside);
     if most < 9 {
         let table = edge_table::rows_to_8();
-        return write_small(out, at, &table, e0, e1, e2, inside);
+        let w = write_stored_outline(out, at, &table, e0, e1, e2);
+        let row = row_of(&table, inside);
+        return triangle_point_rows::write_small_inside(out, w, row);
     }
     write_by_width(out, at, most, e0, e1, e2, inside)
 }

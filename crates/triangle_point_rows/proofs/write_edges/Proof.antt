@@ -5,8 +5,8 @@ use mathlib.Core.List.{[], _∷_}
 use Rattle.mesh_geometry.specs.TrianglePoints.{trianglePlace}
 use Rattle.vertices.specs.Rows.{listed}
 use Rattle.vertices.proofs.Edges.{edges-start, edges-fits, edges-step, three-edges}
-use Rattle.triangle_point_rows.proofs.write_outline.Statement.{statement}
-use Rattle.triangle_point_rows.proofs.write_outline.Tie as tie
+use Rattle.triangle_point_rows.proofs.write_edges.Statement.{statement}
+use Rattle.triangle_point_rows.proofs.write_edges.Tie as tie
 
 write-edge-requires : tie.Need-write-edge-requires
 write-edge-requires c κs =
@@ -35,8 +35,8 @@ write-edge-requires-3 c κs =
     let l1 = edges-step (c .before .before .before .write-edge2 .ensures) l0 in
     (omega arith, (s .pre .0 .2, edges-fits l1))
 
-pub write-outline-spec : {M : Type 1} → statement M
-write-outline-spec =
+pub write-edges-spec : {M : Type 1} → statement M
+write-edges-spec =
     tie.close
     (tie.spec
     write-edge-requires write-edge-requires-2 write-edge-requires-3 (λ c. search needs)

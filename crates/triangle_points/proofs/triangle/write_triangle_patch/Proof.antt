@@ -1,7 +1,6 @@
 -- Meets its contract. Assumes nothing.
 use borrow.Author.Needs.{needs}
-use mathlib.Core.List.{[], _∷_}
-use Rattle.vertices.specs.Rows.{AllValid}
+use Rattle.triangle_points.proofs.Triangles.{all-valid}
 use Rattle.triangle_points.proofs.triangle.write_triangle_patch.Statement.{statement}
 use Rattle.triangle_points.proofs.triangle.write_triangle_patch.Tie as tie
 
@@ -9,8 +8,7 @@ write-by-width-requires : tie.Need-write-by-width-requires
 write-by-width-requires c κs =
     let s = c .before .before .before in
     let a = s .args in
-    let v : AllValid (a .e0 ∷ a .e1 ∷ a .e2 ∷ a .inside ∷ []) = (s .pre .0 .0, (s .pre .0 .1, (s .pre .0 .2, s .pre .1 .0 .0))) in
-    ((v, s .pre .1 .0 .1), (c .before .width-of .ensures, s .pre .1 .1))
+    ((all-valid (a .e0) (a .e1) (a .e2) (a .inside) (s .pre .0) (s .pre .1 .0 .0), s .pre .1 .0 .1), (c .before .width-of .ensures, s .pre .1 .1))
 
 pub write-triangle-patch-spec : {M : Type 1} → statement M
 write-triangle-patch-spec =
