@@ -7,34 +7,19 @@ use Rattle.patch_outline.proofs.edges.points_around.Statement.{statemen
 use Rattle.patch_outline.proofs.edges.points_around.Tie as tie
 
 add-result : tie.Need-add-result
-add-result c =
-    let k = c .before .before .before in
-    let v = valid-as (k .edges .given .1) (k .before .before .pre) in
-    omega (arith, v .0 .few, v .1 .few)
+add-result c = let v = valid-as (c .before .before .before .edges .given .1) (c .before .before .before .before .before .pre) in omega (arith, v .0 .few, v .1 .few)
 
 add-result-2 : tie.Need-add-result-2
-add-result-2 c =
-    let k = c .before .before .before .before in
-    let v = valid-as (k .edges .given .1) (k .before .before .pre) in
-    omega (arith, v .0 .few, v .1 .few, v .2 .few)
+add-result-2 c = let v = valid-as (c .before .before .before .before .edges .given .1) (c .before .before .before .before .before .before .pre) in omega (arith, v .0 .few, v .1 .few, v .2 .few)
 
 add-result-3 : tie.Need-add-result-3
-add-result-3 c =
-    let k = c .before .before .before in
-    let v = valid-as (k .edges2 .given .1) (k .before .before .pre) in
-    omega (arith, v .0 .few, v .1 .few)
+add-result-3 c = let v = valid-as (c .before .before .before .edges2 .given .1) (c .before .before .before .before .before .pre) in omega (arith, v .0 .few, v .1 .few)
 
 add-result-4 : tie.Need-add-result-4
-add-result-4 c =
-    let k = c .before .before .before .before in
-    let v = valid-as (k .edges2 .given .1) (k .before .before .pre) in
-    omega (arith, v .0 .few, v .1 .few, v .2 .few)
+add-result-4 c = let v = valid-as (c .before .before .before .before .edges2 .given .1) (c .before .before .before .before .before .before .pre) in omega (arith, v .0 .few, v .1 .few, v .2 .few)
 
 add-result-5 : tie.Need-add-result-5
-add-result-5 c =
-    let k = c .before .before .before .before .before in
-    let v = valid-as (k .edges2 .given .1) (k .before .before .pre) in
-    omega (arith, v .0 .few, v .1 .few, v .2 .few, v .3 .few)
+add-result-5 c = let v = valid-as (c .before .before .before .before .before .edges2 .given .1) (c .before .before .before .before .before .before .before .pre) in omega (arith, v .0 .few, v .1 .few, v .2 .few, v .3 .few)
 
 returns : tie.Need-returns
 returns c = around-as (c .before .before .before .before .edges .given .1) (sym (three-around _ _ _))

@@ -13,42 +13,35 @@ use Rattle.patch_writer.proofs.connect.write_primitives.Tie as tie
 
 write-plain-triangle-requires : tie.Need-write-plain-triangle-requires
 unfolding primitiveCount
-write-plain-triangle-requires c κs =
-    let start = c .before .before .before .before in
-    omega (arith, room-as (λ d. length (primitives (start .args .positive) d)) {d = PlainTriangle} (start .pre .1) (c .before .enum-told2 .given .1), primitive-count (start .args .positive) PlainTriangle tt)
+write-plain-triangle-requires c κs = let start = c .before .before .before .before in omega (arith, room-as (λ d. length (primitives (start .args .positive) d)) {d = PlainTriangle} (start .pre .1) (c .before .enum-told2 .given .1), primitive-count (start .args .positive) PlainTriangle tt)
 
 write-nest-requires : tie.Need-write-nest-requires
 write-nest-requires c κs =
     let start = c .before .before .before .before .before in
-    let g = c .before .before .cut .given .0 in
-    let e = c .before .before .cut .given .1 in
-    let v = valid-as (start .pre .0) e in
-    let room = room-as (λ d. length (primitives (start .args .positive) d)) (start .pre .1) e in
-    (omega arith, omega (arith, nest-room (start .args .positive) (g .0) (g .1 .0) (g .1 .1 .0) (g .1 .1 .1 .0)))
+    let is = c .before .before .cut .given in
+    let v = valid-as (start .pre .0) (is .1) in
+    let room = room-as (λ d. length (primitives (start .args .positive) d)) (start .pre .1) (is .1) in
+    (omega arith, omega (arith, nest-room (start .args .positive) (is .0 .0) (is .0 .1 .0) (is .0 .1 .1 .0) (is .0 .1 .1 .1 .0)))
 
 write-plain-quad-requires : tie.Need-write-plain-quad-requires
 unfolding primitiveCount
-write-plain-quad-requires c κs =
-    let start = c .before .before .before .before in
-    omega (arith, room-as (λ d. length (primitives (start .args .positive) d)) {d = PlainQuad} (start .pre .1) (c .before .enum-told3 .given .1), primitive-count (start .args .positive) PlainQuad tt)
+write-plain-quad-requires c κs = let start = c .before .before .before .before in omega (arith, room-as (λ d. length (primitives (start .args .positive) d)) {d = PlainQuad} (start .pre .1) (c .before .enum-told3 .given .1), primitive-count (start .args .positive) PlainQuad tt)
 
 write-quad-requires : tie.Need-write-quad-requires
 write-quad-requires c κs =
     let start = c .before .before .before .before .before in
-    let g = c .before .before .cut2 .given .0 in
-    let e = c .before .before .cut2 .given .1 in
-    let v = valid-as (start .pre .0) e in
-    let room = room-as (λ d. length (primitives (start .args .positive) d)) (start .pre .1) e in
-    (omega arith, (omega arith, omega (arith, quad-room (start .args .positive) (g .0) (g .1 .0) (g .1 .1 .0) (g .1 .1 .1 .0) (g .1 .1 .1 .1 .0) (g .1 .1 .1 .1 .1 .0))))
+    let is = c .before .before .cut2 .given in
+    let v = valid-as (start .pre .0) (is .1) in
+    let room = room-as (λ d. length (primitives (start .args .positive) d)) (start .pre .1) (is .1) in
+    (omega arith, (omega arith, omega (arith, quad-room (start .args .positive) (is .0 .0) (is .0 .1 .0) (is .0 .1 .1 .0) (is .0 .1 .1 .1 .0) (is .0 .1 .1 .1 .1 .0) (is .0 .1 .1 .1 .1 .1 .0))))
 
 write-isolines-requires : tie.Need-write-isolines-requires
 write-isolines-requires c κs =
     let start = c .before .before .before .before .before in
-    let g = c .before .before .cut3 .given .0 in
-    let e = c .before .before .cut3 .given .1 in
-    let v = valid-as (start .pre .0) e in
-    let room = room-as (λ d. length (primitives (start .args .positive) d)) (start .pre .1) e in
-    (omega arith, omega (arith, lines-room (start .args .positive) (g .0) (g .1 .0) v))
+    let is = c .before .before .cut3 .given in
+    let v = valid-as (start .pre .0) (is .1) in
+    let room = room-as (λ d. length (primitives (start .args .positive) d)) (start .pre .1) (is .1) in
+    (omega arith, omega (arith, lines-room (start .args .positive) (is .0 .0) (is .0 .1 .0) v))
 
 returns : tie.Need-returns
 returns c = as-cut (primitives (c .before .before .before .args .positive)) (c .enum-told .given .1) (wrote-none (c .before .before .before .args .out .now) 0)
