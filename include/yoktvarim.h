@@ -60,7 +60,7 @@ enum {
     YOKTVARIM_STACK_CHECK = 143360,   /* checking a mesh */
     YOKTVARIM_STACK_SHARE = 20480,    /* starting, drawing and clearing on shared lists */
     YOKTVARIM_STACK_COMPARE = 172032, /* comparing two meshes */
-    YOKTVARIM_STACK_REPLAY = 118784   /* replaying a recording */
+    YOKTVARIM_STACK_REPLAY = 118784,  /* replaying a recording */
 };
 
 /* ---------------------------------------------------------------- settings and levels */
@@ -69,26 +69,38 @@ enum {
 enum yoktvarim_kind {
     YOKTVARIM_TRIANGLES = 0, /* outer[0] to outer[2] for the edges u = 0, v = 0, w = 0; inner[0] */
     YOKTVARIM_QUADS = 1,     /* outer[0] to outer[3] for the edges u = 0, v = 0, u = 1, v = 1; inner[0] for rows, inner[1] for columns */
-    YOKTVARIM_ISOLINES = 2   /* outer[0] for the number of lines, outer[1] for the segments along each */
+    YOKTVARIM_ISOLINES = 2,  /* outer[0] for the number of lines, outer[1] for the segments along each */
 };
 
 /* Values of yoktvarim_settings.spacing. */
-enum yoktvarim_spacing { YOKTVARIM_EQUAL = 0, YOKTVARIM_FRACTIONAL_EVEN = 1, YOKTVARIM_FRACTIONAL_ODD = 2 };
+enum yoktvarim_spacing {
+    YOKTVARIM_EQUAL = 0,
+    YOKTVARIM_FRACTIONAL_EVEN = 1,
+    YOKTVARIM_FRACTIONAL_ODD = 2,
+};
 
 /* Values of yoktvarim_settings.vertex_order: the way triangles turn. */
-enum yoktvarim_vertex_order { YOKTVARIM_CLOCKWISE = 0, YOKTVARIM_COUNTER_CLOCKWISE = 1 };
+enum yoktvarim_vertex_order {
+    YOKTVARIM_CLOCKWISE = 0,
+    YOKTVARIM_COUNTER_CLOCKWISE = 1,
+};
 
 /* Values of yoktvarim_settings.domain_origin: the corner where (0, 0) lies when the turn of a triangle is judged. */
-enum yoktvarim_domain_origin { YOKTVARIM_UPPER_LEFT = 0, YOKTVARIM_LOWER_LEFT = 1 };
+enum yoktvarim_domain_origin {
+    YOKTVARIM_UPPER_LEFT = 0,
+    YOKTVARIM_LOWER_LEFT = 1,
+};
 
 /* Values of yoktvarim_settings.point_mode. */
 enum yoktvarim_point_mode {
     YOKTVARIM_PRIMITIVES = 0, /* triangles, or lines for isolines */
-    YOKTVARIM_POINTS = 1      /* each point once: the indices 0, 1, 2 and so on */
+    YOKTVARIM_POINTS = 1,     /* each point once: the indices 0, 1, 2 and so on */
 };
 
 /* The greatest value of yoktvarim_settings.top. */
-enum { YOKTVARIM_GREATEST_TOP = 64 };
+enum {
+    YOKTVARIM_GREATEST_TOP = 64,
+};
 
 /* Six bytes, in this order. A struct filled with zeros has the top 0, which every call that takes settings refuses as a bad top. */
 typedef struct yoktvarim_settings {
@@ -119,7 +131,7 @@ typedef enum yoktvarim_answer {
     YOKTVARIM_NO_ROOM_FOR_INDICES = 4,  /* the index list is too short */
     YOKTVARIM_UNKNOWN_SETTING = 8,      /* the count, or counts[0], is the place, 0 to 4, of the first setting out of range */
     YOKTVARIM_NO_ROOM_FOR_FLOATS = 9,   /* the float list has fewer than 3 words for each point */
-    YOKTVARIM_BAD_TOP = 11              /* the top is not an even number from 2 to 64 */
+    YOKTVARIM_BAD_TOP = 11,             /* the top is not an even number from 2 to 64 */
 } yoktvarim_answer;
 
 /* 1 for YOKTVARIM_DRAWN and YOKTVARIM_MEASURED, which are the same number; 0 for every other answer. */
@@ -135,7 +147,7 @@ enum yoktvarim_clamp {
     YOKTVARIM_NOT_TOLD = 0, /* the level does not count for the kind, or the patch was not measured */
     YOKTVARIM_BELOW = 1,    /* replaced by the low end; also an inner NaN */
     YOKTVARIM_INSIDE = 2,
-    YOKTVARIM_ABOVE = 3 /* replaced by the high end */
+    YOKTVARIM_ABOVE = 3, /* replaced by the high end */
 };
 
 /* Six bytes, one for each of yoktvarim_levels. */
@@ -145,12 +157,15 @@ typedef struct yoktvarim_clamps {
 } yoktvarim_clamps;
 
 /* Lists of these sizes have room for every patch at every top: 4,225 points of 3 words each, and 8,192 triangles. */
-enum { YOKTVARIM_VERTEX_WORDS = 12675, YOKTVARIM_INDEX_WORDS = 24576 };
+enum {
+    YOKTVARIM_VERTEX_WORDS = 12675,
+    YOKTVARIM_INDEX_WORDS = 24576,
+};
 
 /* The number that means 1 in the coordinates of a point. */
 enum {
     YOKTVARIM_ONE_IN_TRIANGLES = 196608, /* triangles: u + v + w of every point */
-    YOKTVARIM_ONE_IN_QUADS = 65536       /* quads and isolines, whose w is 0 */
+    YOKTVARIM_ONE_IN_QUADS = 65536,      /* quads and isolines, whose w is 0 */
 };
 
 /* Counts how many points and indices drawing would write, without lists: MEASURED, DISCARDED, UNKNOWN_SETTING or BAD_TOP.
@@ -227,7 +242,7 @@ typedef enum yoktvarim_job_answer {
     YOKTVARIM_JOB_NO_ROOM = 10,        /* the list is too short for a header or a record */
     YOKTVARIM_JOB_BAD_TOP = 11,        /* writing: the version cannot hold the top; version 1 holds 64 only, version 2 the even
                                         * numbers from 2 to 64 */
-    YOKTVARIM_JOB_END = 255            /* reading a record: no byte is left, which is neither a refusal nor a record */
+    YOKTVARIM_JOB_END = 255,           /* reading a record: no byte is left, which is neither a refusal nor a record */
 } yoktvarim_job_answer;
 
 /* 1 for YOKTVARIM_JOB_WRITTEN, 0 for every other answer. */
@@ -243,7 +258,10 @@ YOKTVARIM_MUST_USE static inline unsigned yoktvarim_is_read(yoktvarim_job_answer
 }
 
 /* The size of a header, and the greatest size of a record. */
-enum { YOKTVARIM_HEADER_BYTES = 5, YOKTVARIM_RECORD_BYTES = 30 };
+enum {
+    YOKTVARIM_HEADER_BYTES = 5,
+    YOKTVARIM_RECORD_BYTES = 30,
+};
 
 /* The bits of yoktvarim_levels. A record keeps all six, also those that do not count for its kind, and every bit of a NaN. */
 typedef struct yoktvarim_patterns {
@@ -322,7 +340,7 @@ typedef enum yoktvarim_verdict {
     YOKTVARIM_FAULT_SIDE_TWICE = 28,          /* triangles places[0] and places[1] have a directed side in common */
     YOKTVARIM_FAULT_OPEN_SIDE = 29,           /* the side of triangle places[0] from its corner places[1], 0 to 2, has no
                                                * reverse and is not a piece of the outline */
-    YOKTVARIM_FAULT_MISSING_PIECE = 30        /* piece places[0] of the outline is not a side of any triangle */
+    YOKTVARIM_FAULT_MISSING_PIECE = 30,       /* piece places[0] of the outline is not a side of any triangle */
 } yoktvarim_verdict;
 
 /* 1 for YOKTVARIM_ACCEPTED, 0 for every other verdict. */
@@ -357,13 +375,13 @@ typedef enum yoktvarim_share_answer {
     YOKTVARIM_SHARE_QUOTAS_TOO_LARGE = 12,    /* start: together the quotas exceed a list */
     YOKTVARIM_SHARE_BAD_TOP = 11,             /* draw: as YOKTVARIM_BAD_TOP */
     YOKTVARIM_SHARE_BAD_STATE = 14,           /* draw, clear: a list has another length than at the start, or in the state the quotas
-                                                * exceed a list, more than a quota is used, or part of a point is used */
+                                               * exceed a list, more than a quota is used, or part of a point is used */
     YOKTVARIM_SHARE_UNKNOWN_DESIGNER = 15,    /* draw, clear: the designer is neither 0 nor 1 */
     YOKTVARIM_SHARE_UNKNOWN_SETTING = 8,      /* draw: as YOKTVARIM_UNKNOWN_SETTING, with the place in counts[0] */
     YOKTVARIM_SHARE_DISCARDED = 1,            /* draw: as YOKTVARIM_DISCARDED */
     YOKTVARIM_SHARE_TOO_MANY_POINTS = 13,     /* draw: the part would have more than 65,535 points */
     YOKTVARIM_SHARE_NO_ROOM_FOR_VERTICES = 3, /* draw: too little is left of this designer's quota of vertex words */
-    YOKTVARIM_SHARE_NO_ROOM_FOR_INDICES = 4   /* draw: too little is left of this designer's quota of index words */
+    YOKTVARIM_SHARE_NO_ROOM_FOR_INDICES = 4,  /* draw: too little is left of this designer's quota of index words */
 } yoktvarim_share_answer;
 
 /* 1 for YOKTVARIM_SHARE_DONE, 0 for every other answer. */
@@ -430,7 +448,7 @@ typedef enum yoktvarim_comparison {
     YOKTVARIM_LEFT_EQUAL_POINTS = 43,       /* the left mesh has two equal points */
     YOKTVARIM_RIGHT_NOT_THREES = 44,        /* the same three refusals of the right mesh */
     YOKTVARIM_RIGHT_UNKNOWN_INDEX = 45,
-    YOKTVARIM_RIGHT_EQUAL_POINTS = 46
+    YOKTVARIM_RIGHT_EQUAL_POINTS = 46,
 } yoktvarim_comparison;
 
 /* 1 for YOKTVARIM_COMPARED, 0 for every other answer. Two meshes are the same where this is 1 and *count is 0. */
@@ -468,7 +486,7 @@ typedef enum yoktvarim_replay_answer {
     YOKTVARIM_REPLAY_NOT_A_RECORDING = 5, /* fewer than 5 bytes, or they do not begin with "TSR" */
     YOKTVARIM_REPLAY_UNKNOWN_VERSION = 6, /* the version is not 1 */
     YOKTVARIM_REPLAY_CUT_ENTRY = 7,       /* every whole entry agrees, and 1 to 33 bytes are left after them */
-    YOKTVARIM_REPLAY_DIFFERS = 60         /* told->entry is the first entry that differs, counted from 0; recorded and replayed are
+    YOKTVARIM_REPLAY_DIFFERS = 60,        /* told->entry is the first entry that differs, counted from 0; recorded and replayed are
                                            * its two sides */
 } yoktvarim_replay_answer;
 
