@@ -33,7 +33,7 @@ def program(name):
     return found
 
 
-def open_browser(width=1440, height=900):
+def open_browser(width=1280, height=800):
     """A browser, and the folder that it saves files to."""
     downloads = tempfile.TemporaryDirectory()
     options = Options()

@@ -1,6 +1,9 @@
 """The view Check: every fault by its button, meshes of others, texts with several meshes, and answers that are not late."""
 
+import re
 import unittest
+
+from selenium.webdriver.common.action_chains import ActionChains
 
 from browser import PageTest
 
@@ -60,6 +63,20 @@ class Check(PageTest):
         self.settle()
         self.press("Flip a triangle")
         self.assertEqual(self.text("#fault"), "Triangle 5 has no area or turns the wrong way.")
+
+    def test_zoom_to_the_fault(self):
+        self.open("view=check&spacing=equal&kind=quads&outer=64,64,64,64&inner=64,64")
+        self.assertFalse(self.button("Zoom to the fault").is_enabled())
+        self.press("Double a triangle")
+        number = int(re.search(r"\d+", self.text("#fault")).group())
+        self.press("Zoom to the fault")
+        self.assertEqual(self.text(".zoom .amount"), "× 12")
+        # The first corner of the triangle is in the middle of the picture now, and the triangle has that point.
+        ActionChains(self.browser).move_to_element(self.find(".surface")).perform()
+        point = re.match(r"Point (\d+) at", self.text("figcaption")).group(1)
+        self.view("take")
+        triangles = self.find("textarea.text").get_attribute("value").splitlines()[2 + 4225 :]
+        self.assertEqual(triangles[number].split()[0], point)
 
     def test_held_mesh(self):
         self.view("check")

@@ -156,6 +156,19 @@ class Failures(PageTest):
         self.broken(lambda text: text.replace('id="worker">', 'id="worker">) '))
         self.assertEqual(self.said("#verdict"), "failed")
 
+    def test_worker_that_is_slow(self):
+        """The new mesh is shown without an answer until its own answer is there."""
+        slow = "await new Promise((done) => setTimeout(done, 2500)); postMessage({ answer: (await"
+        self.broken(lambda text: text.replace("postMessage({ answer: (await", slow))
+        self.assertEqual(self.said("#verdict"), "accepted")
+        before = self.find(".surface").get_attribute("aria-label")
+        self.type("outer u = 0", "9")
+        self.wait(lambda: self.said("#verdict") == "checking …", 2.4)
+        self.assertNotEqual(self.find(".surface").get_attribute("aria-label"), before)
+        self.button("Flip a triangle").send_keys(Keys.ENTER)
+        self.wait(lambda: self.said("#verdict") != "checking …")
+        self.assertEqual(self.said("#verdict"), "turned")
+
     def test_no_workers(self):
         self.broken(lambda text: text.replace("new Worker(", "new NoWorker("))
         self.assertEqual((self.said("#verdict"), self.text("#fault")), ("failed", "The check ended without an answer: NoWorker is not defined."))

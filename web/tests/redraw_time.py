@@ -36,7 +36,8 @@ def main():
         browser.execute_async_script(FRAMES)
         shown, frames = browser.execute_async_script(MEASURE)
         times = [float(re.search(r"[\d.]+", each).group()) for each in shown]
-        print(f"page: {kind} at 64 redraw in {middle(times):.1f} ms, at most {max(times):.1f} ms; a frame takes {middle(frames):.1f} ms")
+        least, half, most = min(times), middle(times), max(times)
+        print(f"page: {kind} at 64 redraw in {half:.1f} ms ({least:.1f} to {most:.1f} ms); a frame takes {middle(frames):.1f} ms")
 
 
 if __name__ == "__main__":

@@ -4,7 +4,7 @@ import { h } from '../dom.js';
 import { WHOLE } from '../state.js';
 import { paintMarks } from './marks.js';
 import { paintMesh } from './mesh_painter.js';
-import { fitOf } from './zoom.js';
+import { centred, fitOf } from './zoom.js';
 import { ZoomButtons } from './zoom_buttons.js';
 
 const PADDING = 46;
@@ -72,6 +72,11 @@ export class Picture {
         const { scale, left, bottom } = this.#fit();
         return [left + scale * x, bottom - scale * y];
     };
+
+    /** The zoom that has a place of the plane in the middle. */
+    zoomOn(place, by) {
+        return centred(this.zoom, by, this.toScreen(place), this.size);
+    }
 
     /** Where the pointer is, in pixels of the picture. */
     at(event) {

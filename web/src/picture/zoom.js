@@ -32,6 +32,17 @@ export function zoomed({ by, x, y }, factor, [right, down], { width, height }) {
 }
 
 /**
+ * With the place under a pixel in the middle, as near to it as the border of the whole allows.
+ *
+ * @param {Zoom} zoom
+ * @param {number} by
+ * @param {number[]} at
+ * @param {Size} size
+ */
+export const centred = (zoom, by, [right, down], { width, height }) =>
+    inside({ by, x: zoom.x + (right / width - 0.5) / zoom.by, y: zoom.y + (down / height - 0.5) / zoom.by });
+
+/**
  * Moved by pixels.
  *
  * @param {Zoom} zoom

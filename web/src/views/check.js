@@ -9,6 +9,7 @@ import { faultMarks } from '../picture/fault_marks.js';
 import { EMPTY, placeOf, placesOf, sceneOf } from '../picture/scene.js';
 import { sentence } from '../words.js';
 
+const FAULT_ZOOM = 12;
 const MESHES = Object.freeze({ drawn: 'Drawn', damaged: 'Damaged', held: 'Held', given: 'Given' });
 const NO_MESH = Object.freeze({
     damaged: 'A patch without triangles has nothing to damage.',
@@ -25,8 +26,10 @@ export class CheckView {
     #answer = h('p', { class: 'answer', id: 'verdict' });
     #fault = h('p', { class: 'counts', id: 'fault' });
     #which = h('p', { class: 'which', id: 'which' });
+    #find = button('Zoom to the fault', () => this.#zoomToFault());
     #source;
     #damages;
+    #faultPlace = null;
     #box;
 
     constructor(app) {
@@ -42,6 +45,7 @@ export class CheckView {
             'div',
             { class: 'panel' },
             h('div', { class: 'head', 'aria-live': 'polite' }, this.#answer, this.#fault, this.#which),
+            h('div', { class: 'buttons' }, this.#find),
             this.#source.element,
             h('fieldset', { class: 'damages' }, h('legend', {}, 'Damage the drawn mesh'), note, damages),
             h('div', { class: 'buttons' }, button('Hold the drawn mesh', () => this.#hold())),
@@ -68,8 +72,9 @@ export class CheckView {
         const scene = sceneOf(state.patch, mesh ?? EMPTY, level);
         const [part] = scene.parts;
         part.covers = part.indices.length > 0 && (mesh === cutter.mesh || verdict?.is === 'accepted');
-        const marks = [...this.#choiceMarks(part), ...faultMarks(verdict ?? {}, part, state.patch.kind, cutter.mesh)];
-        return { scene, marks, waiting: verdict === undefined, report: () => this.#report(verdict, mesh) };
+        const faults = faultMarks(verdict ?? {}, part, state.patch.kind, cutter.mesh);
+        const report = () => this.#report(verdict, mesh, firstPlace(faults));
+        return { scene, marks: [...this.#choiceMarks(part), ...faults], waiting: verdict === undefined, report };
     }
 
     /** The mesh to check, or undefined. A patch that is not drawn has an empty one. */
@@ -87,8 +92,14 @@ export class CheckView {
         });
     }
 
-    #report(verdict, mesh) {
+    #zoomToFault() {
+        this.#app.change((state) => (state.zoom = this.#app.picture.zoomOn(this.#faultPlace, FAULT_ZOOM)));
+    }
+
+    #report(verdict, mesh, faultPlace) {
         const { check } = this.#app.state;
+        this.#faultPlace = faultPlace;
+        this.#find.disabled = faultPlace === undefined;
         const { is } = verdict ?? { is: 'checking …' };
         this.#answer.dataset.is = is;
         say(this.#answer, is);
@@ -111,6 +122,9 @@ export class CheckView {
         ];
     }
 }
+
+/** The first place of some marks; undefined where there is none. */
+const firstPlace = ([{ triangles = [], lines = [], rings = [] } = {}]) => [...triangles.flat(), ...lines.flat(), ...rings][0];
 
 /** A verdict in a sentence. */
 function because(verdict, mesh, source) {

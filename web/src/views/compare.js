@@ -22,7 +22,7 @@ const NO_OTHER = Object.freeze({
 export class CompareView {
     name = 'compare';
     title = 'Compare';
-    hint = 'Pull an edge and see what changes; or hold a mesh and compare later ones with it.';
+    hint = 'Pull an edge and see what changes, or compare with a mesh that is held.';
 
     #app;
     #answer = h('p', { class: 'answer', id: 'comparison' });
