@@ -57,7 +57,7 @@ Owned<VkDescriptorPool> make_descriptors(const Device &device)
     return device.own(pool, device.calls().vkDestroyDescriptorPool);
 }
 
-// The set that shows the two buffers to the geometry shader. It goes with its pool.
+// The set that shows the two buffers to the geometry shader. It is destroyed with its pool.
 VkDescriptorSet make_set(const Device &device, VkDescriptorPool pool, VkDescriptorSetLayout layout, const Buffer &counter,
                          const Buffer &captured)
 {
@@ -98,7 +98,7 @@ Owned<VkCommandPool> make_pool(const Device &device)
     return device.own(pool, device.calls().vkDestroyCommandPool);
 }
 
-// It goes with its pool.
+// It is destroyed with its pool.
 VkCommandBuffer make_commands(const Device &device, VkCommandPool pool)
 {
     auto info = structure<VkCommandBufferAllocateInfo>(VK_STRUCTURE_TYPE_COMMAND_BUFFER_ALLOCATE_INFO);

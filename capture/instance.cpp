@@ -34,7 +34,7 @@ std::vector<VkExtensionProperties> device_extensions(const InstanceCalls &calls,
     return extensions;
 }
 
-// Devices that have only a part of Vulkan are listed where the loader knows how, so that their names and obstacles show.
+// Devices that have only a part of Vulkan are listed too, where the loader can do so: --list then shows their names and obstacles.
 Owned<VkInstance> make_instance(const GlobalCalls &calls)
 {
     uint32_t version = 0;

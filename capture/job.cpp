@@ -22,7 +22,7 @@ std::vector<uint8_t> read_file(const std::string &path)
         throw Failure(path + ": " + std::strerror(errno));
     std::vector<uint8_t> bytes;
     uint8_t piece[65536];
-    bytes.reserve(sizeof piece); // the library wants an address of an empty file too
+    bytes.reserve(sizeof piece); // an empty file has to have an address too
     while (size_t count = std::fread(piece, 1, sizeof piece, file))
         bytes.insert(bytes.end(), piece, piece + count);
     if (std::ferror(file))
@@ -43,7 +43,7 @@ Job read_job(const std::string &path)
     }
     for (size_t at = YOKTVARIM_HEADER_BYTES;;) {
         Record record{};
-        yoktvarim_patterns patterns;
+        yoktvarim_patterns patterns{};
         uint32_t place;
         record.answer = yoktvarim_read_record(bytes.data(), bytes.size(), job.version, at, &record.settings, &patterns, &at, &place);
         if (record.answer == YOKTVARIM_JOB_END)

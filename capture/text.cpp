@@ -6,7 +6,7 @@
 namespace
 {
 
-// Nine digits tell every float from every other.
+// With nine digits no two floats look alike.
 std::string float_words(uint32_t bits)
 {
     float number;

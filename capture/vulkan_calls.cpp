@@ -53,8 +53,24 @@ DeviceCalls device_calls(const InstanceCalls &instance, VkDevice device)
     return calls;
 }
 
+namespace
+{
+
+std::string words_of(VkResult result)
+{
+    switch (result) {
+    case VK_ERROR_OUT_OF_HOST_MEMORY: return "the host is out of memory";
+    case VK_ERROR_OUT_OF_DEVICE_MEMORY: return "the device is out of memory";
+    case VK_ERROR_INITIALIZATION_FAILED: return "the driver could not start";
+    case VK_ERROR_DEVICE_LOST: return "the device was lost";
+    default: return "Vulkan's result " + std::to_string(result);
+    }
+}
+
+} // namespace
+
 void demand(VkResult result, const char *call)
 {
     if (result != VK_SUCCESS)
-        throw Failure(std::string(call) + " failed with " + std::to_string(result));
+        throw Failure(std::string(call) + " failed: " + words_of(result));
 }

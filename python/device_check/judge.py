@@ -63,8 +63,8 @@ def _judge_triangles(record: Record, mesh: Drawn, right: Mesh, other_counts: str
         kind = "other segments on an outer edge" if _is_of_outline(verdict) else fault_kind(verdict, record, mesh)
         return faulty(kind, f"{words}{moved}{said}", **rest)
     again = yoktvarim.check_mesh(patch, settings, moved.mesh.vertices, moved.mesh.indices)
-    told = "accepted" if isinstance(again, Accepted) else "the same fault" if again == verdict else str(again)
-    words += f"with the outline moved by up to {units(moved.farthest)}: {told}{said}"
+    result = "accepted" if isinstance(again, Accepted) else "the same fault" if again == verdict else str(again)
+    words += f"with the outline moved by up to {units(moved.farthest)}: {result}{said}"
     if not _is_of_outline(verdict) or again == verdict:
         return faulty(fault_kind(verdict, record, mesh), words, **rest)
     if not isinstance(again, Accepted):

@@ -20,7 +20,7 @@ _MOST_RECORDS = 2**20  # a number in a file may not ask for more
 
 
 def one_of(kind: type) -> int:
-    """What stands for 1."""
+    """The whole number that means 1."""
     return ONE_IN_TRIANGLES if kind is Triangles else ONE_IN_QUADS
 
 

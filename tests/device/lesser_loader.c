@@ -1,6 +1,7 @@
 /* A Vulkan loader that makes devices look lesser than they are, for the tests: the real one, without what LESSER names.
- * LESSER has any of these words: feedback, geometry, tessellation, levels (those above 16), version (1.1), isolines, dots. With one
- * of the last two the device has VK_KHR_portability_subset, in the place of its last extension. */
+ * LESSER has any of these words: feedback, geometry, tessellation, levels (those above 16), version (1.1), validity (the priority of
+ * the queue is wrong then), isolines, dots. With one of the last two the device has VK_KHR_portability_subset, in the place of its
+ * last extension. */
 #define VK_NO_PROTOTYPES
 #define VK_ENABLE_BETA_EXTENSIONS
 #include <vulkan/vulkan.h>
@@ -73,6 +74,11 @@ static VKAPI_ATTR VkResult VKAPI_CALL create(VkPhysicalDevice device, const VkDe
             return VK_ERROR_EXTENSION_NOT_PRESENT;
         rest.enabledExtensionCount = last;
     }
+    VkDeviceQueueCreateInfo queue = *asked->pQueueCreateInfos;
+    const float wrong = 2;
+    queue.pQueuePriorities = &wrong;
+    if (lacks("validity"))
+        rest.pQueueCreateInfos = &queue;
     return real_create(device, &rest, callbacks, made);
 }
 

@@ -125,6 +125,7 @@ class Captures(InFolder):
             self.assertEqual(done.returncode, 0, done.stderr)
             self.assertEqual(done.stdout, capture(LESSER=lesser).stdout)
             self.assertEqual(done.stderr.count("\n"), 2, done.stderr)
+        self.assertIn("Validation Error", capture(LESSER="validity", **layer).stdout)
 
 
 def levels_of(record):

@@ -1,4 +1,4 @@
-// Tests what needs no device: whole units, numbering, the text, and the levels that a device is told.
+// Tests what needs no device: whole units, numbering, the text, and the levels for a device.
 #include "device_levels.h"
 #include "failure.h"
 #include "mesh.h"
@@ -57,7 +57,7 @@ Record record_of(uint8_t kind, uint8_t spacing, uint8_t top, float level)
     return {YOKTVARIM_JOB_READ, {kind, spacing, 1, 1, 0, top}, {{level, level, level, level}, {level, level}}};
 }
 
-yoktvarim_levels told(const Record &record)
+yoktvarim_levels given(const Record &record)
 {
     return levels_for_device(record, {64, true, true});
 }
@@ -75,13 +75,13 @@ bool refuses(const Record &record, const Abilities &abilities)
 void device_levels()
 {
     const float infinity = std::numeric_limits<float>::infinity();
-    expect(told(record_of(1, 0, 64, infinity)).outer[0] == infinity, "the device clamps at its own greatest level");
-    expect(told(record_of(1, 0, 16, infinity)).inner[1] == 16, "a lower top is clamped to before");
-    expect(told(record_of(1, 2, 16, 40)).outer[3] == 15, "odd spacing has one less");
-    expect(told(record_of(2, 2, 16, 40)).outer[0] == 16, "the number of isolines has equal spacing");
-    expect(told(record_of(2, 2, 16, 40)).outer[1] == 15, "the segments of isolines have the spacing asked");
-    expect(std::isnan(told(record_of(0, 0, 16, std::nanf(""))).outer[0]), "a NaN stays");
-    expect(told(record_of(0, 0, 16, -1)).outer[0] == -1, "a level below stays");
+    expect(given(record_of(1, 0, 64, infinity)).outer[0] == infinity, "the device clamps at its own greatest level");
+    expect(given(record_of(1, 0, 16, infinity)).inner[1] == 16, "a lower top is clamped to before");
+    expect(given(record_of(1, 2, 16, 40)).outer[3] == 15, "odd spacing has one less");
+    expect(given(record_of(2, 2, 16, 40)).outer[0] == 16, "the number of isolines has equal spacing");
+    expect(given(record_of(2, 2, 16, 40)).outer[1] == 15, "the segments of isolines have the spacing asked");
+    expect(std::isnan(given(record_of(0, 0, 16, std::nanf(""))).outer[0]), "a NaN stays");
+    expect(given(record_of(0, 0, 16, -1)).outer[0] == -1, "a level below stays");
 }
 
 void refusals()
