@@ -68,7 +68,7 @@ def capture(command, job, device):
     if subprocess.run([command, "-h"], stdout=subprocess.DEVNULL).returncode != 0:
         raise Failure("nothing was captured, so nothing is checked")
     done = subprocess.run([command, "--device", device, job], stdout=subprocess.PIPE, stderr=subprocess.PIPE)
-    said = done.stderr.decode(errors="replace")
+    said = done.stderr.decode("ascii", errors="backslashreplace")
     if done.returncode != 0:
         sys.stderr.write(said)
         raise Failure("nothing was captured, so nothing is checked")

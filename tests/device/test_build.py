@@ -3,10 +3,11 @@
 import os
 import shutil
 import unittest
+from pathlib import Path
 
 from support import ROOT, InFolder, run
 
-BASIC = ("bash", "cat", "dirname", "env", "find", "mkdir", "mktemp", "mv", "readlink", "rm", "sed", "sha256sum")
+BASIC = ("bash", "cat", "dirname", "env", "find", "mkdir", "mktemp", "mv", "readlink", "rm", "sed", "sha256sum", "uname")
 BUILDERS = ("g++", "glslangValidator", "pkg-config")
 
 
@@ -27,7 +28,7 @@ class Build(InFolder):
         shutil.rmtree(commands_folder, ignore_errors=True)
         commands_folder.mkdir()
         for command in commands:
-            os.symlink(shutil.which(command), commands_folder / command)
+            os.symlink(shutil.which(command), commands_folder / Path(command).name)
         environment = {"PATH": str(commands_folder), "HOME": str(self.folder), "XDG_CACHE_HOME": str(self.folder / "cache"), **variables}
         return run(self.folder / "share/yoktvarim/tools/capture", "-h", env=environment)
 
@@ -52,6 +53,13 @@ class Build(InFolder):
         self.assertEqual((done.returncode, done.stdout), (1, ""))
         self.assertTrue(done.stderr.endswith("capture: the shaders do not compile\n"), done.stderr)
         self.assertEqual([path for path in (self.folder / "cache").rglob("*") if path.is_file()], [])
+
+    def test_another_machine(self):
+        commands = [command for command in BASIC if command != "uname"]
+        machine = self.folder / "uname"
+        machine.write_text("#!/bin/sh\necho aarch64\n")
+        machine.chmod(0o755)
+        self.refused(self.capture([*commands, machine]), "the library is for x86_64, and this machine is aarch64")
 
     def test_an_install_that_is_not_whole(self):
         (self.folder / "lib/libyoktvarim.a").unlink()
