@@ -4,13 +4,15 @@ use mathlib.Core.Path.{_≡_, refl, ap}
 use mathlib.Core.Bool.{false}
 use mathlib.Core.List.{List}
 use mathlib.Core.Logic.{_↔_, ⊎-elim}
+use native.Mathlib.Omega.{arith}
+use borrow.Author.Tests.{ne-eqb}
 use lib.Dec.{eqb}
 use lib.Ieee.{Float}
 use Rattle.level.specs.Top.{Top}
 use Rattle.patch.specs.declared.kinds.Patch.{Patch}
 use Rattle.patch.specs.declared.settings.Settings.{Settings}
 use Rattle.check_verdict.specs.declared.Verdict.{Verdict}
-use Rattle.check_verdict.specs.declared.Verdict.the-variants.{BadTop, Isolines, Dots, ShouldBeDiscarded, NotThrees, UnknownIndex, Outside, EqualPoints, Turned, SideTwice, OpenSide, MissingPiece, Accepted}
+use Rattle.check_verdict.specs.declared.Verdict.the-variants.{BadTop}
 use Rattle.check_meaning.specs.Means.{Accepts, Means}
 use Rattle.check_meaning.specs.Numbers.{toldVerdict}
 use Rattle.check_meaning.proofs.Named.{verdict}
@@ -25,23 +27,12 @@ use Rattle.call_inputs.proofs.Exactly.{Answers, Readable, answerIn, called-exac
 use Rattle.check_exports.specs.Founds.{checkSays}
 use Rattle.check_exports.specs.Exactly.{CheckExactly}
 
+-- no verdict has the number 8, since the verdict that is read from it has another number
+no-eight : (v : Verdict) → eqb (toldVerdict v .number) 8 ≡ false
+no-eight v = ne-eqb (toldVerdict v .number) 8 (λ e. omega (arith, e, ap (λ (w : Verdict). toldVerdict w .number) (rw e at (verdict-back v))))
+
 verdict-readable : Readable twoWords toldVerdict verdictIn
 verdict-readable = record { same = verdict-back; no-eight = no-eight; place = λ k. refl }
-  where
-    no-eight : (v : Verdict) → eqb (toldVerdict v .number) 8 ≡ false
-    no-eight Accepted = refl
-    no-eight BadTop = refl
-    no-eight Isolines = refl
-    no-eight Dots = refl
-    no-eight ShouldBeDiscarded = refl
-    no-eight NotThrees = refl
-    no-eight (UnknownIndex place) = refl
-    no-eight (Outside point) = refl
-    no-eight (EqualPoints first second) = refl
-    no-eight (Turned triangle) = refl
-    no-eight (SideTwice first second) = refl
-    no-eight (OpenSide triangle corner) = refl
-    no-eight (MissingPiece piece) = refl
 
 -- an accepted mesh has a good top level
 accepts-top : (set : Settings) (p : Patch) (pw iw : List ℕ) → Accepts set p pw iw → Top (set .top)
