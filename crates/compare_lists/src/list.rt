@@ -1,7 +1,6 @@
 // The differences of one kind on one side: how many there are, and their words.
 ghost use mathlib.Core.Path.{_≡_};
 ghost use mathlib.Core.Bool.{cond};
-ghost use mathlib.Core.List.{[], _∷_};
 ghost use Prim.Native.Nat.{_+_, _/_, _≤_};
 ghost use lib.ListN.{length};
 ghost use Rattle.buffer.specs.Over.{Wrote};
@@ -83,24 +82,13 @@ pub(crate) fn count_faces(
     n
 }
 
-// Writes three words.
-fn put3(out: &mut [u64], at: usize, x: u64, y: u64, z: u64) -> usize
-    requires { ⌜ at + 3 ≤ length (now out) ⌝ }
-    ensures { λ r. ⌜ Wrote (now (out .entry)) at (x ∷ y ∷ z ∷ []) (now (out .exit)) r ⌝ }
-{
-    out[at] = x;
-    out[at + 1] = y;
-    out[at + 2] = z;
-    at + 3
-}
-
 // Writes the three words of a difference if `is` is true, else nothing.
 fn put_if(out: &mut [u64], at: usize, is: bool, kind: u64, side: u64, number: usize) -> usize
     requires { ⌜ at + length (wordsIf kind side is number) ≤ length (now out) ⌝ }
     ensures { λ r. ⌜ Wrote (now (out .entry)) at (wordsIf kind side is number) (now (out .exit)) r ⌝ }
 {
     if is {
-        put3(out, at, kind, side, number as u64)
+        buffer::put3_u64(out, at, kind, side, number as u64)
     } else {
         at
     }
