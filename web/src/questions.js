@@ -21,6 +21,7 @@ export class Questions {
     /** @type {Question | null} */
     #running = null;
     #timer = 0;
+    #address = '';
 
     /**
      * @param {Uint8Array} bytes of the module
@@ -65,13 +66,14 @@ export class Questions {
             this.#running = question;
         } catch (error) {
             question.answer = { is: 'failed', because: error.message };
+            setTimeout(this.#answered);
         }
     }
 
     #started() {
         const script = document.getElementById('worker').textContent;
-        const address = URL.createObjectURL(new Blob([script], { type: 'text/javascript' }));
-        const worker = new Worker(address);
+        this.#address ||= URL.createObjectURL(new Blob([script], { type: 'text/javascript' }));
+        const worker = new Worker(this.#address);
         worker.addEventListener('message', ({ data }) => this.#received(data.answer));
         worker.addEventListener('error', (event) => {
             event.preventDefault();

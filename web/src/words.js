@@ -44,4 +44,4 @@ export function foundInWords({ part, what, number }) {
 }
 
 /** @param {number} time in milliseconds */
-export const milliseconds = (time) => (time < 0.1 ? 'under 0.1 ms' : `${time.toFixed(1)} ms`);
+export const milliseconds = (time) => (time < 0.1 ? '< 0.1 ms' : `${time.toFixed(1)} ms`);

@@ -164,7 +164,7 @@ class Draw(PageTest):
         self.assertLessEqual(int(re.search(r"(\d+) steps", self.text("#connections")).group(1)), 4)
 
     def test_redraw_time_is_shown(self):
-        self.assertRegex(self.text("#time"), r"^(under )?[\d.]+ ms \(cutting (under )?[\d.]+ ms\)$")
+        self.assertRegex(self.text("#time"), r"^(< )?[\d.]+ ms \(cutting (< )?[\d.]+ ms\)$")
 
 
 class Jobs(PageTest):

@@ -49,7 +49,7 @@ class Picture(PageTest):
         self.drag(20, 20, 60, 0)
         self.assertAlmostEqual(self.level("inner columns"), 2 * columns, delta=0.2)
         self.assertEqual(self.level("inner rows"), rows)
-        self.assertRegex(self.text("#connections"), r"changed in \d+ of \d+ steps|the same through all|changed by the last step")
+        self.assertRegex(self.text("#connections"), r"changed in \d+ of \d+ steps|the same in all|changed by the last step")
 
     def test_drag_by_touch(self):
         at = {"x": self.middle["x"] - self.side / 2, "y": self.middle["y"]}

@@ -103,5 +103,5 @@ function levelRows(patch, { size, mesh }) {
 function connectionsOf({ steps, changes }) {
     if (steps === 0) return 'the first so far';
     if (steps === 1) return changes === 0 ? 'the same as before' : 'changed by the last step';
-    return changes === 0 ? `the same through all ${steps} steps` : `changed in ${changes} of ${steps} steps`;
+    return changes === 0 ? `the same in all ${steps} steps` : `changed in ${changes} of ${steps} steps`;
 }
