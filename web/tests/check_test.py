@@ -137,7 +137,8 @@ class Check(PageTest):
         self.browser.execute_script("""
             const transfer = new DataTransfer();
             transfer.items.add(new File(['drawn 0 0\\n'], 'mesh.txt', { type: 'text/plain' }));
-            document.querySelector('.surface').dispatchEvent(new DragEvent('drop', { dataTransfer: transfer, bubbles: true, cancelable: true }));
+            const drop = new DragEvent('drop', { dataTransfer: transfer, bubbles: true, cancelable: true });
+            document.querySelector('.surface').dispatchEvent(drop);
         """)
         self.wait(lambda: self.said("#verdict") == "missing piece")
 

@@ -14,7 +14,8 @@ VIEWS = ("draw", "seam", "check", "compare", "replay", "take")
 # The least contrast of a text with what is behind it, by the formula of WCAG 2, over all texts that are shown.
 CONTRAST = """
 const light = (colour) => {
-    const [r, g, b] = colour.match(/[\\d.]+/g).slice(0, 3).map((each) => each / 255).map((each) => each <= 0.03928 ? each / 12.92 : ((each + 0.055) / 1.055) ** 2.4);
+    const linear = (each) => each <= 0.03928 ? each / 12.92 : ((each + 0.055) / 1.055) ** 2.4;
+    const [r, g, b] = colour.match(/[\\d.]+/g).slice(0, 3).map((each) => linear(each / 255));
     return 0.2126 * r + 0.7152 * g + 0.0722 * b;
 };
 const behind = (element) => {
@@ -74,7 +75,8 @@ class Page(PageTest):
             active = self.browser.switch_to.active_element
             seen.add(active.get_attribute("aria-label") or active.get_attribute("value") or active.text)
             ActionChains(self.browser).send_keys(Keys.TAB).perform()
-        for name in ("Draw", "quads", "outer u = 0", "outer u = 0, slider", "inner columns", "fractional odd", "64", "on", "Zoom in", "A job file"):
+        names = ["Draw", "quads", "outer u = 0", "outer u = 0, slider", "inner columns", "fractional odd"]
+        for name in [*names, "64", "on", "Zoom in", "A job file"]:
             self.assertIn(name, seen)
         self.find("[value=quads]").send_keys(Keys.ARROW_RIGHT)
         self.assertTrue(self.find("[value=isolines]").is_selected())
@@ -111,9 +113,9 @@ class Failures(PageTest):
 
     def broken(self, change):
         """Opens the page with one change; the policy is taken out where it would refuse it."""
-        text = PAGE.read_text()
-        changed = change(re.sub(r'<meta http-equiv="Content-Security-Policy"[^>]*>', "", text))
-        self.assertNotEqual(changed, text)
+        text = re.sub(r'<meta http-equiv="Content-Security-Policy"[^>]*>', "", PAGE.read_text())
+        changed = change(text)
+        self.assertNotEqual(changed, text, "the page does not have what is to be changed")
         path = self.downloads / "broken.html"
         path.write_text(changed)
         self.browser.get("about:blank")
@@ -125,10 +127,10 @@ class Failures(PageTest):
         requests(self.browser)
 
     def test_module_that_cannot_be_compiled(self):
-        module = lambda text: re.search(r'id="module">([^<]+)<', text).group(1)
         damaged = base64.b64encode(b"\0asm\1\0\0\0\x0f").decode()
-        self.broken(lambda text: text.replace(module(text), damaged))
-        self.assertTrue(self.text("#notice").startswith("The page does not start: this browser cannot run its WebAssembly module, which uses SIMD"))
+        self.broken(lambda text: re.sub(r'(id="module">)[^<]+<', rf"\g<1>{damaged}<", text))
+        why = "The page does not start: this browser cannot run its WebAssembly module, which uses SIMD"
+        self.assertTrue(self.text("#notice").startswith(why))
         self.assertFalse(self.find("main").is_displayed())
 
     def test_script_that_does_not_run(self):
@@ -141,8 +143,8 @@ class Failures(PageTest):
         self.assertFalse(self.find("main").is_displayed())
 
     def test_call_that_throws_later(self):
-        once = "if (patch.outer[0] === 9) throw new Error('unreachable'); const [bytes, levels, counts, clamps]"
-        self.broken(lambda text: text.replace("const [bytes, levels, counts, clamps]", once))
+        once = "if (patch.outer[0] === 9) throw new Error('unreachable'); const [counts, clamps]"
+        self.broken(lambda text: text.replace("const [counts, clamps]", once))
         self.fill("outer u = 0", "9")
         self.assertEqual(self.text("#notice"), "The program inside the page stopped: unreachable. Load the page again.")
         self.assertFalse(self.find("main").is_displayed())
@@ -171,7 +173,8 @@ class Failures(PageTest):
 
     def test_no_workers(self):
         self.broken(lambda text: text.replace("new Worker(", "new NoWorker("))
-        self.assertEqual((self.said("#verdict"), self.text("#fault")), ("failed", "The check ended without an answer: NoWorker is not defined."))
+        self.assertEqual(self.said("#verdict"), "failed")
+        self.assertEqual(self.text("#fault"), "The check ended without an answer: NoWorker is not defined.")
 
 
 if __name__ == "__main__":

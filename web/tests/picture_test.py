@@ -21,7 +21,8 @@ class Picture(PageTest):
 
     def drag(self, right, down, by_right, by_down):
         chain = ActionChains(self.browser, duration=20).move_to_element_with_offset(self.surface, int(right), int(down)).click_and_hold()
-        chain.move_by_offset(by_right // 2, by_down // 2).move_by_offset(by_right - by_right // 2, by_down - by_down // 2).release().perform()
+        chain.move_by_offset(by_right // 2, by_down // 2)
+        chain.move_by_offset(by_right - by_right // 2, by_down - by_down // 2).release().perform()
         self.settle()
 
     def touch(self, kind, *points):
@@ -94,7 +95,10 @@ class Picture(PageTest):
 
     def test_zoom_by_pinch(self):
         before = self.value("inner rows"), self.value("inner columns")
-        fingers = lambda apart: [{"x": self.middle["x"] + way * apart, "y": self.middle["y"], "id": at} for at, way in enumerate((-1, 1))]
+
+        def fingers(apart):
+            return [{"x": self.middle["x"] + way * apart, "y": self.middle["y"], "id": at} for at, way in enumerate((-1, 1))]
+
         self.touch("touchStart", fingers(40)[0])
         self.touch("touchStart", *fingers(40))
         for apart in (60, 80, 120):

@@ -106,7 +106,8 @@ def png_of(pixels):
 
 def main(folder):
     browser, _ = open_browser()
-    browser.execute_cdp_cmd("Emulation.setDeviceMetricsOverride", {"width": WIDTH, "height": HEIGHT, "deviceScaleFactor": 1, "mobile": False})
+    metrics = {"width": WIDTH, "height": HEIGHT, "deviceScaleFactor": 1, "mobile": False}
+    browser.execute_cdp_cmd("Emulation.setDeviceMetricsOverride", metrics)
     faults = []
     for view in VIEWS:
         png, boxes = shoot(browser, view)
