@@ -46,13 +46,13 @@ fn list_open(
 // Appends the sides of triangle k that have no reverse.
 fn list_triangle(
     indices: &[u16],
+    k: usize,
     small: bool,
     rows: &[u64],
     heads: &[u16],
     links: &[u32],
     opens: &mut [u16],
     count: usize,
-    k: usize,
 ) -> usize
     requires { ⌜ Tabled small (readTriangles (now indices)) (length (readTriangles (now indices)) * 3) (now rows) (now heads) (now links) ⌝ ∗ ⌜ AllNumbered (vertices small (now heads)) (now indices) ⌝ ∗ ⌜ Opens (readTriangles (now indices)) (k * 3) (now opens) count ⌝ ∗ ⌜ (k < length (now indices) / 3) × (length (now indices) < 65536) ⌝ }
     ensures { λ r. ⌜ Opens (readTriangles (now (indices .entry))) (k * 3 + 3) (now (opens .exit)) r ⌝ }
@@ -113,7 +113,7 @@ pub fn open_sides(
     let mut count = 0;
     let mut k = 0;
     while k < triangles {
-        count = list_triangle(indices, small, rows, heads, links, opens, count, k);
+        count = list_triangle(indices, k, small, rows, heads, links, opens, count);
         k += 1;
     }
     count
