@@ -5,7 +5,7 @@
 Captures a job on the device with tools/capture. Where no job is named, a built-in one is taken, of some 1,600 patches: every kind,
 spacing, vertex order, domain origin and point mode, many levels, and outer edges that many patches share. Prints a line for each
 patch, then a table; docs/partners.md explains both. Status 0: every mesh is accepted as it is; 1: some are not; 2: nothing could be
-checked, as standard error says.
+checked, or the report could not be written, as standard error says.
 """
 
 import argparse
