@@ -65,8 +65,8 @@ class State:
     def is_in(self, job):
         """Tests that a job holds what was asked for."""
         mark, version, *settings = struct.unpack("<3sH6B6f", job)
-        asked = [KINDS.index(self.kind), SPACINGS.index(self.spacing), ORDERS.index(self.order), ORIGINS.index(self.origin)]
-        asked += [self.dots, self.top]
+        names = (KINDS, self.kind), (SPACINGS, self.spacing), (ORDERS, self.order), (ORIGINS, self.origin)
+        asked = [*(known.index(name) for known, name in names), self.dots, self.top]
         self.test.assertEqual((mark, version, settings[:6]), (b"TSJ", 2, asked))
         outer, inner = NAMES[self.kind]
         held = (*settings[6 : 6 + len(outer)], *settings[10 : 10 + len(inner)])
@@ -139,9 +139,9 @@ class Draw(PageTest):
             self.fill(f"outer {name}", text)
         self.fill("inner rows", "1")
         rows = [row[-3:] for row in self.rows(".level-table")]
-        expected = ["below 1 65,536", "inside 4 262,144", "above 16 1,048,576", "above 16 1,048,576"]
-        expected += ["inside 2 131,072", "inside 5 327,680"]
-        self.assertEqual(rows, [each.split() for each in expected])
+        outer = ["below 1 65,536", "inside 4 262,144", "above 16 1,048,576", "above 16 1,048,576"]
+        inner = ["inside 2 131,072", "inside 5 327,680"]
+        self.assertEqual(rows, [each.split() for each in outer + inner])
         self.choose("Kind", "Isolines")
         self.choose("Spacing", "Even")
         self.fill("outer lines", "3")

@@ -20,13 +20,17 @@ class Picture(PageTest):
         self.middle = {"x": box["x"] + box["width"] / 2, "y": box["y"] + box["height"] / 2}
 
     def drag(self, right, down, by_right, by_down):
+        half = by_right // 2, by_down // 2
         chain = ActionChains(self.browser, duration=20).move_to_element_with_offset(self.surface, int(right), int(down)).click_and_hold()
-        chain.move_by_offset(by_right // 2, by_down // 2)
-        chain.move_by_offset(by_right - by_right // 2, by_down - by_down // 2).release().perform()
+        chain.move_by_offset(*half).move_by_offset(by_right - half[0], by_down - half[1]).release().perform()
         self.settle()
 
     def touch(self, kind, *points):
         self.browser.execute_cdp_cmd("Input.dispatchTouchEvent", {"type": kind, "touchPoints": points})
+
+    def fingers(self, apart):
+        """Two fingers, as far to the left and to the right of the middle."""
+        return [{"x": self.middle["x"] + way * apart, "y": self.middle["y"], "id": at} for at, way in enumerate((-1, 1))]
 
     def level(self, label):
         return float(self.value(label))
@@ -95,14 +99,10 @@ class Picture(PageTest):
 
     def test_zoom_by_pinch(self):
         before = self.value("inner rows"), self.value("inner columns")
-
-        def fingers(apart):
-            return [{"x": self.middle["x"] + way * apart, "y": self.middle["y"], "id": at} for at, way in enumerate((-1, 1))]
-
-        self.touch("touchStart", fingers(40)[0])
-        self.touch("touchStart", *fingers(40))
+        self.touch("touchStart", self.fingers(40)[0])
+        self.touch("touchStart", *self.fingers(40))
         for apart in (60, 80, 120):
-            self.touch("touchMove", *fingers(apart))
+            self.touch("touchMove", *self.fingers(apart))
         self.touch("touchEnd")
         self.settle()
         self.assertEqual(self.amount(), "× 3.0")

@@ -28,7 +28,8 @@ function placesOn(kind, edge, vertices) {
 }
 
 const sorted = (numbers) => [...new Set(numbers)].sort((one, other) => one - other);
-const column = (vertices, axis, from = 0) => sorted(Array.from({ length: vertices.length / 3 - from }, (_, at) => vertices[3 * (from + at) + axis]));
+const column = (vertices, axis, from = 0) =>
+    sorted(Array.from({ length: vertices.length / 3 - from }, (_, at) => vertices[3 * (from + at) + axis]));
 
 /** What n and L give for each level, against what is drawn. */
 function compare(state, { vertices }) {
