@@ -55,6 +55,17 @@ pub fn unknown_setting(place: usize) -> Reply
     }
 }
 
+pub fn of_points(answer: PointsAnswer) -> Reply
+    ensures { λ r. ⌜ Tells (toldPoints answer) r ⌝ }
+{
+    match answer {
+        PointsAnswer::Drawn { points } => success(points, 0),
+        PointsAnswer::Discarded => refusal(1),
+        PointsAnswer::NoRoomForVertices => refusal(3),
+        PointsAnswer::BadTop => bad_top(),
+    }
+}
+
 pub fn of_size(size: Size) -> Reply
     ensures { λ r. ⌜ Tells (toldSize size) r ⌝ }
 {
@@ -66,17 +77,6 @@ pub fn of_size(size: Size) -> Reply
         } => success(points, indices),
         Size::Discarded => refusal(1),
         Size::BadTop => bad_top(),
-    }
-}
-
-pub fn of_points(answer: PointsAnswer) -> Reply
-    ensures { λ r. ⌜ Tells (toldPoints answer) r ⌝ }
-{
-    match answer {
-        PointsAnswer::Drawn { points } => success(points, 0),
-        PointsAnswer::Discarded => refusal(1),
-        PointsAnswer::NoRoomForVertices => refusal(3),
-        PointsAnswer::BadTop => bad_top(),
     }
 }
 
