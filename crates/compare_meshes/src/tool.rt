@@ -37,11 +37,11 @@ fn list_by_flags(
     left_indices: &[u16],
     right_points: &[u32],
     right_indices: &[u16],
-    known: bool,
     left_point_flags: &[u8],
     left_face_flags: &[u8],
     right_point_flags: &[u8],
     right_face_flags: &[u8],
+    known: bool,
     out: &mut [u64],
 ) -> Comparison
     requires { ⌜ Good (now «left_points») (now «left_indices») ⌝ ∗ ⌜ Good (now «right_points») (now «right_indices») ⌝ ∗ ⌜ MeshFlags known (now «left_points») (now «left_indices») (now «right_points») (now «right_indices») (now «left_point_flags») (now «left_face_flags») (now «right_point_flags») (now «right_face_flags») ⌝ }
@@ -112,11 +112,11 @@ fn list_differences(
         left_indices,
         right_points,
         right_indices,
-        known,
         &left_point_flags,
         &left_face_flags,
         &right_point_flags,
         &right_face_flags,
+        known,
         out,
     )
 }
