@@ -20,9 +20,9 @@ fn same_place(points: &[u32], x: u16, others: &[u32], y: u16) -> bool
 
 // Whether triangle k of the other mesh has equal corners in the same order.
 pub(crate) fn is_in_place(
+    k: usize,
     points: &[u32],
     indices: &[u16],
-    k: usize,
     other_points: &[u32],
     other_indices: &[u16],
 ) -> bool

@@ -59,7 +59,7 @@ pub fn lacks_face(
     requires { ⌜ k < length (now indices) / 3 ⌝ ∗ ⌜ Good (now points) (now indices) ⌝ ∗ ⌜ Good (now «other_points») (now «other_indices») ⌝ }
     ensures { λ r. ⌜ r ≡ lacks sameFace (facesIn (now (points .entry)) (now (indices .entry))) (facesIn (now («other_points» .entry)) (now («other_indices» .entry))) k ⌝ }
 {
-    if is_in_place(points, indices, k, other_points, other_indices) {
+    if is_in_place(k, points, indices, other_points, other_indices) {
         return false;
     }
     let t = triangle_at(indices, k);
