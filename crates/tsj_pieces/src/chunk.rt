@@ -31,10 +31,10 @@ pub struct Chunk {
 
 // Answers the records from place `at` of `bytes` on, as many as fit into `out`.
 fn answer_some(
-    out: &mut [u8],
     bytes: &[u8],
-    version: Version,
     at: usize,
+    version: Version,
+    out: &mut [u8],
     vertices: &mut [u32],
     indices: &mut [u16],
 ) -> Step
@@ -63,7 +63,7 @@ fn answer_records(
     let mut count = 0;
     let mut at = 0;
     while at < bytes.len() {
-        let step = answer_some(out, bytes, version, at, vertices, indices);
+        let step = answer_some(bytes, at, version, out, vertices, indices);
         count += step.output.count;
         if step.output.failed {
             return Output {
