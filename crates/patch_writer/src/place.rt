@@ -28,7 +28,7 @@ pub fn write_points(out: &mut [u32], cut: Subdivision) -> usize
             edge3,
             rows,
             columns,
-        } => quad_points::quad::write_drawn_quad(out, 0, edge0, edge1, edge2, edge3, rows, columns),
+        } => quad_points::quad::write_quad_patch(out, 0, edge0, edge1, edge2, edge3, rows, columns),
         Subdivision::Lines { lines, along } => isoline_points::isoline::write_isolines(
             out,
             0,

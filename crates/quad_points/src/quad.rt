@@ -124,10 +124,6 @@ fn write_by_width(
     requires { ⌜ AllValid (e0 ∷ e1 ∷ e2 ∷ e3 ∷ rows ∷ columns ∷ []) ⌝ ∗ ⌜ Widths 0 (e0 ∷ e1 ∷ e2 ∷ e3 ∷ rows ∷ columns ∷ []) most ⌝ ∗ ⌜ at + 3 * length (quadPatch (run e0) (run e1) (run e2) (run e3) (run rows) (run columns)) ≤ length (now out) ⌝ }
     ensures { λ w. ⌜ Wrote (now (out .entry)) at (vertexWords (quadPatch (run e0) (run e1) (run e2) (run e3) (run rows) (run columns))) (now (out .exit)) w ⌝ }
 {
-    if most <= 8 {
-        let table = edge_table::rows_to_8();
-        return write_stored(out, at, &table, e0, e1, e2, e3, rows, columns);
-    }
     if most <= 16 {
         let table = edge_table::rows_to_16();
         return write_stored(out, at, &table, e0, e1, e2, e3, rows, columns);
@@ -143,26 +139,9 @@ fn write_by_width(
     write_divided(out, at, e0, e1, e2, e3, rows, columns)
 }
 
-// Writes a patch; the grid has m - 1 rows of n - 1 points, where `rows` has m segments and `columns` n.
+// Writes a patch; the grid has m - 1 rows of n - 1 points, where `rows` has m segments and `columns` n. The inside of a small patch is
+// written point by point, which is faster.
 pub fn write_quad_patch(
-    out: &mut [u32],
-    at: usize,
-    e0: Segments,
-    e1: Segments,
-    e2: Segments,
-    e3: Segments,
-    rows: Segments,
-    columns: Segments,
-) -> usize
-    requires { ⌜ Valid (e0 .count) (e0 .scaled) × Valid (e1 .count) (e1 .scaled) × Valid (e2 .count) (e2 .scaled) × Valid (e3 .count) (e3 .scaled) ⌝ ∗ ⌜ Valid (rows .count) (rows .scaled) × Valid (columns .count) (columns .scaled) ⌝ ∗ ⌜ at + 3 * length (quadPatch (run e0) (run e1) (run e2) (run e3) (run rows) (run columns)) ≤ length (now out) ⌝ }
-    ensures { λ w. ⌜ Wrote (now (out .entry)) at (vertexWords (quadPatch (run e0) (run e1) (run e2) (run e3) (run rows) (run columns))) (now (out .exit)) w ⌝ }
-{
-    let most = width_of(e0, e1, e2, e3, rows, columns);
-    write_by_width(out, at, most, e0, e1, e2, e3, rows, columns)
-}
-
-// The same for drawing, with the inside of a small patch written point by point, which is faster.
-pub fn write_drawn_quad(
     out: &mut [u32],
     at: usize,
     e0: Segments,
@@ -178,7 +157,11 @@ pub fn write_drawn_quad(
     let most = width_of(e0, e1, e2, e3, rows, columns);
     if most < 9 {
         let table = edge_table::rows_to_8();
-        let w = write_stored_outline(out, at, &table, e0, e1, e2, e3);
+        let r0 = row_of(&table, e0);
+        let r1 = row_of(&table, e1);
+        let r2 = row_of(&table, e2);
+        let r3 = row_of(&table, e3);
+        let w = write_outline(out, at, r0, r1, r2, r3);
         let r = row_of(&table, rows);
         let c = row_of(&table, columns);
         return quad_point_rows::write_small_inside(out, w, r, c);

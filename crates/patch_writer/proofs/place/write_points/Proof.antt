@@ -28,9 +28,9 @@ write-plain-quad-requires : tie.Need-write-plain-quad-requires
 unfolding points
 write-plain-quad-requires c κs = omega (arith, room-as (λ d. 3 * length (points d)) {d = PlainQuad} (c .before .before .before .before .pre .1) (c .before .enum-told3 .given .1))
 
-write-drawn-quad-requires : tie.Need-write-drawn-quad-requires
+write-quad-patch-requires : tie.Need-write-quad-patch-requires
 unfolding points
-write-drawn-quad-requires c κs =
+write-quad-patch-requires c κs =
     let start = c .before .before .before .before .before in
     let e = c .before .before .cut2 .given .1 in
     let v = valid-as (start .pre .0) e in
@@ -64,7 +64,7 @@ returns-4 c = as-cut (λ d. vertexWords (points d)) (c .before .before .before .
 
 returns-5 : tie.Need-returns-5
 unfolding points
-returns-5 c = as-cut (λ d. vertexWords (points d)) (c .before .before .before .before .before .cut2 .given .1) (c .before .before .write-drawn-quad .ensures)
+returns-5 c = as-cut (λ d. vertexWords (points d)) (c .before .before .before .before .before .cut2 .given .1) (c .before .before .write-quad-patch .ensures)
 
 returns-6 : tie.Need-returns-6
 unfolding points
@@ -76,6 +76,6 @@ write-points-spec =
     (tie.spec
     (λ c. search needs) (λ c. search needs) write-plain-triangle-requires (λ c. search needs)
     write-drawn-triangle-requires (λ c. search needs) write-plain-quad-requires (λ c. search needs)
-    write-drawn-quad-requires (λ c. search needs) write-isolines-requires returns (λ c. search needs)
+    write-quad-patch-requires (λ c. search needs) write-isolines-requires returns (λ c. search needs)
     returns-2 (λ c. search needs) returns-3 (λ c. search needs) returns-4 (λ c. search needs) returns-5
     (λ c. search needs) returns-6)
