@@ -8,32 +8,11 @@ ghost use Rattle.mesh_geometry.specs.QuadPoints.{quadPatch, quadCorners};
 ghost use Rattle.mesh_geometry.specs.Segmented.{run};
 ghost use Rattle.mesh_geometry.specs.Words.{vertexWords};
 ghost use Rattle.vertices.specs.Rows.{AllValid, AllStored, Widths};
-ghost use Rattle.quad_point_rows.specs.Parts.{quadOutline};
 use edge_table::row_of;
 use edge_table::widest;
 use level::Segments;
 use quad_point_rows::write_inside;
 use quad_point_rows::write_outline;
-
-// Writes an outline whose rows are in the table.
-fn write_stored_outline(
-    out: &mut [u32],
-    at: usize,
-    table: &[u32],
-    e0: Segments,
-    e1: Segments,
-    e2: Segments,
-    e3: Segments,
-) -> usize
-    requires { ⌜ AllValid (e0 ∷ e1 ∷ e2 ∷ e3 ∷ []) ⌝ ∗ ⌜ AllStored (now table) (e0 ∷ e1 ∷ e2 ∷ e3 ∷ []) ⌝ ∗ ⌜ at + 3 * length (quadOutline (run e0) (run e1) (run e2) (run e3)) ≤ length (now out) ⌝ }
-    ensures { λ w. ⌜ Wrote (now (out .entry)) at (vertexWords (quadOutline (run e0) (run e1) (run e2) (run e3))) (now (out .exit)) w ⌝ }
-{
-    let r0 = row_of(table, e0);
-    let r1 = row_of(table, e1);
-    let r2 = row_of(table, e2);
-    let r3 = row_of(table, e3);
-    write_outline(out, at, r0, r1, r2, r3)
-}
 
 // Writes a patch whose rows are in the table.
 fn write_stored(
@@ -50,10 +29,14 @@ fn write_stored(
     requires { ⌜ AllValid (e0 ∷ e1 ∷ e2 ∷ e3 ∷ rows ∷ columns ∷ []) ⌝ ∗ ⌜ AllStored (now table) (e0 ∷ e1 ∷ e2 ∷ e3 ∷ rows ∷ columns ∷ []) ⌝ ∗ ⌜ at + 3 * length (quadPatch (run e0) (run e1) (run e2) (run e3) (run rows) (run columns)) ≤ length (now out) ⌝ }
     ensures { λ w. ⌜ Wrote (now (out .entry)) at (vertexWords (quadPatch (run e0) (run e1) (run e2) (run e3) (run rows) (run columns))) (now (out .exit)) w ⌝ }
 {
-    let w = write_stored_outline(out, at, table, e0, e1, e2, e3);
-    let r = row_of(table, rows);
-    let c = row_of(table, columns);
-    write_inside(out, w, r, c)
+    let r0 = row_of(table, e0);
+    let r1 = row_of(table, e1);
+    let r2 = row_of(table, e2);
+    let r3 = row_of(table, e3);
+    let r4 = row_of(table, rows);
+    let r5 = row_of(table, columns);
+    let w = write_outline(out, at, r0, r1, r2, r3);
+    write_inside(out, w, r4, r5)
 }
 
 // Writes a patch whose rows are computed by division, one every 65 words.
