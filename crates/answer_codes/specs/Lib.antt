@@ -1,4 +1,4 @@
 -- The definitions of `answer_codes`.
-pub mod Told
+pub mod AnswerCode
 pub mod Drew
 pub mod Reports

@@ -7,7 +7,7 @@ use Rattle.level_clamps.specs.declared.Clamps.the-variants.{Triangles, Quads, I
 use Rattle.level_clamps.specs.Numbers.{clampNumbers}
 use Rattle.tessellate.specs.declared.answer.Size.{Size}
 use Rattle.tessellate.specs.declared.answer.Size.the-variants.{Counts}
-use Rattle.tessellate.specs.Answers.{toldSize}
+use Rattle.tessellate.specs.Answers.{sizeCode}
 use Rattle.call_answers.specs.Clamps.{clampBytes}
 
 -- there are six bytes
@@ -17,8 +17,8 @@ six-numbers p i (Quads a b c d e f) = refl
 six-numbers p i (Isolines a b) = refl
 
 -- the bytes of a known answer
-pub bytes-as : {size s : Size} {k : List ℕ} → size ≡ s → k ≡ clampBytes (toldSize s .values) → k ≡ clampBytes (toldSize size .values)
+pub bytes-as : {size s : Size} {k : List ℕ} → size ≡ s → k ≡ clampBytes (sizeCode s .values) → k ≡ clampBytes (sizeCode size .values)
 bytes-as e h = rw e h
 
-pub size-bytes : {size : Size} {p i : ℕ} {c : Clamps} {k : List ℕ} → size ≡ Counts p i c → k ≡ clampNumbers c → k ≡ clampBytes (toldSize size .values)
+pub size-bytes : {size : Size} {p i : ℕ} {c : Clamps} {k : List ℕ} → size ≡ Counts p i c → k ≡ clampNumbers c → k ≡ clampBytes (sizeCode size .values)
 size-bytes {p = p} {i = i} {c = c} e h = bytes-as e (h ∙ six-numbers p i c)

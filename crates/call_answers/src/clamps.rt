@@ -2,7 +2,7 @@
 ghost use mathlib.Core.Path.{_≡_};
 ghost use Rattle.level_clamps.specs.declared.Clamps.the-variants.{Triangles, Quads, Isolines};
 ghost use Rattle.level_clamps.specs.Numbers.{clampNumber, clampNumbers};
-ghost use Rattle.tessellate.specs.Answers.{toldSize};
+ghost use Rattle.tessellate.specs.Answers.{sizeCode};
 ghost use Rattle.call_answers.specs.Clamps.{clampBytes, noClamps};
 use level::Clamp;
 use level_clamps::Clamps;
@@ -72,7 +72,7 @@ pub fn say_nothing(clamps: &mut [u8; 6])
 }
 
 pub fn say_clamps(size: Size, clamps: &mut [u8; 6])
-    ensures { λ _. ⌜ now (clamps .exit) ≡ clampBytes (toldSize size .values) ⌝ }
+    ensures { λ _. ⌜ now (clamps .exit) ≡ clampBytes (sizeCode size .values) ⌝ }
 {
     match size {
         Size::Counts {

@@ -2,9 +2,9 @@
 ghost use mathlib.Core.Path.{_≡_};
 ghost use mathlib.Core.List.{[], _∷_};
 ghost use Prim.Native.Nat.{_<_};
-ghost use Rattle.tessellate.specs.Answers.{toldPoints, toldIndices, toldSize};
-ghost use Rattle.answer_codes.specs.Told.{refused, drewBoth};
-ghost use Rattle.call_answers.specs.Replies.{Tells, unknownSetting, badTop};
+ghost use Rattle.tessellate.specs.Answers.{pointsCode, indicesCode, sizeCode};
+ghost use Rattle.answer_codes.specs.AnswerCode.{refused, drewBoth};
+ghost use Rattle.call_answers.specs.Replies.{IsReply, unknownSetting, badTop};
 use tessellate::answer::IndicesAnswer;
 use tessellate::answer::PointsAnswer;
 use tessellate::answer::Size;
@@ -18,7 +18,7 @@ pub struct Reply {
 
 // A number without values.
 pub fn refusal(number: u32) -> Reply
-    ensures { λ r. ⌜ Tells (refused number) r ⌝ }
+    ensures { λ r. ⌜ IsReply (refused number) r ⌝ }
 {
     Reply {
         number,
@@ -29,7 +29,7 @@ pub fn refusal(number: u32) -> Reply
 
 // The number 0 with two values.
 pub fn success(first: u32, second: u32) -> Reply
-    ensures { λ r. ⌜ Tells (drewBoth first second) r ⌝ }
+    ensures { λ r. ⌜ IsReply (drewBoth first second) r ⌝ }
 {
     Reply {
         number: 0,
@@ -39,14 +39,14 @@ pub fn success(first: u32, second: u32) -> Reply
 }
 
 pub fn bad_top() -> Reply
-    ensures { λ r. ⌜ Tells badTop r ⌝ }
+    ensures { λ r. ⌜ IsReply badTop r ⌝ }
 {
     refusal(11)
 }
 
 pub fn unknown_setting(place: usize) -> Reply
     requires { ⌜ place < 5 ⌝ }
-    ensures { λ r. ⌜ Tells (unknownSetting place) r ⌝ }
+    ensures { λ r. ⌜ IsReply (unknownSetting place) r ⌝ }
 {
     Reply {
         number: 8,
@@ -56,7 +56,7 @@ pub fn unknown_setting(place: usize) -> Reply
 }
 
 pub fn of_points(answer: PointsAnswer) -> Reply
-    ensures { λ r. ⌜ Tells (toldPoints answer) r ⌝ }
+    ensures { λ r. ⌜ IsReply (pointsCode answer) r ⌝ }
 {
     match answer {
         PointsAnswer::Drawn { points } => success(points, 0),
@@ -67,7 +67,7 @@ pub fn of_points(answer: PointsAnswer) -> Reply
 }
 
 pub fn of_size(size: Size) -> Reply
-    ensures { λ r. ⌜ Tells (toldSize size) r ⌝ }
+    ensures { λ r. ⌜ IsReply (sizeCode size) r ⌝ }
 {
     match size {
         Size::Counts {
@@ -81,7 +81,7 @@ pub fn of_size(size: Size) -> Reply
 }
 
 pub fn of_indices(answer: IndicesAnswer) -> Reply
-    ensures { λ r. ⌜ Tells (toldIndices answer) r ⌝ }
+    ensures { λ r. ⌜ IsReply (indicesCode answer) r ⌝ }
 {
     match answer {
         IndicesAnswer::Drawn { indices } => success(indices, 0),

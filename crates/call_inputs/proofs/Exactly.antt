@@ -7,38 +7,38 @@ use mathlib.Core.Logic.{_↔_}
 use lib.Dec.{ltb, eqb}
 use lib.ListN.{getD}
 use Rattle.level.specs.Top.{Top, isTop}
-use Rattle.job_fields.specs.Settings.{choices, firstUnknown, FirstOver, AllBelow}
-use Rattle.answer_codes.specs.Told.{Told}
+use Rattle.job_fields.specs.Settings.{choices, firstUnknownSetting, FirstOver, AllBelow}
+use Rattle.answer_codes.specs.AnswerCode.{AnswerCode}
 use Rattle.call_answers.specs.Replies.{unknownSetting, badTop, Says}
 use Rattle.answer_codes.specs.Reports.{Reports}
 use Rattle.answer_codes.proofs.Exactly.{number-exactly, answered-exactly}
 use Rattle.call_inputs.specs.Inputs.{topIn}
 use Rattle.call_inputs.specs.Asked.{known}
-use Rattle.call_inputs.specs.Exactly.{CallAnswer, unknown, found, toldCall, CallMeans, CalledExactly}
+use Rattle.call_inputs.specs.Exactly.{CallAnswer, unknown, found, callCode, CallMeans, CalledExactly}
 use Rattle.call_inputs.proofs.Known.{known-cases, one-first, not-all}
 
 -- an operation whose answer is `right`, which holds exactly for its meaning
-pub record Answers {A : Type 0} (bs : List ℕ) (told : A → Told) (Means : A → Type 0) (right bad : A) : Type 0 where
+pub record Answers {A : Type 0} (bs : List ℕ) (told : A → AnswerCode) (Means : A → Type 0) (right bad : A) : Type 0 where
   pub exactly : (v : A) → right ≡ v ↔ Means v
   pub bad-number : told bad ≡ badTop
   pub bad-top : (Top (topIn bs) → ⊥) → right ≡ bad
 
 -- `back` recovers an answer from its number and words
-pub record Readable {A : Type 0} (words : List ℕ → List ℕ) (told : A → Told) (back : ℕ → List ℕ → A) : Type 0 where
+pub record Readable {A : Type 0} (words : List ℕ → List ℕ) (told : A → AnswerCode) (back : ℕ → List ℕ → A) : Type 0 where
   pub same : (v : A) → back (told v .number) (words (told v .values)) ≡ v
   pub no-eight : (v : A) → eqb (told v .number) 8 ≡ false
   pub place : (k : ℕ) → getD (words (k ∷ [])) 0 0 ≡ k
 
-module _ {A : Type 0} (bs : List ℕ) (told : A → Told) (Means : A → Type 0) (right bad : A) (op : Answers bs told Means right bad) where
+module _ {A : Type 0} (bs : List ℕ) (told : A → AnswerCode) (Means : A → Type 0) (right bad : A) (op : Answers bs told Means right bad) where
   abbrev answer : CallAnswer A
   answer = known bs (found bad) unknown (found right)
 
-  answer-told : known bs badTop unknownSetting (told right) ≡ toldCall told answer
+  answer-told : known bs badTop unknownSetting (told right) ≡ callCode told answer
   unfolding known
-  answer-told = go (isTop (topIn bs)) (ltb (firstUnknown bs 0) 5)
+  answer-told = go (isTop (topIn bs)) (ltb (firstUnknownSetting bs 0) 5)
     where
-      go : (a b : Bool) → cond a (cond b (unknownSetting (firstUnknown bs 0)) (told right)) badTop
-          ≡ toldCall told (cond a (cond b (unknown (firstUnknown bs 0)) (found right)) (found bad))
+      go : (a b : Bool) → cond a (cond b (unknownSetting (firstUnknownSetting bs 0)) (told right)) badTop
+          ≡ callCode told (cond a (cond b (unknown (firstUnknownSetting bs 0)) (found right)) (found bad))
       go false b = sym (op .bad-number)
       go true true = refl
       go true false = refl
@@ -68,20 +68,20 @@ module _ {A : Type 0} (bs : List ℕ) (told : A → Told) (Means : A → Type 0)
     abbrev pub answerIn : ℕ → List ℕ → CallAnswer A
     answerIn n w = cond (eqb n 8) (unknown (getD w 0 0)) (found (back n w))
 
-    same-answer : (a : CallAnswer A) → answerIn (toldCall told a .number) (words (toldCall told a .values)) ≡ a
+    same-answer : (a : CallAnswer A) → answerIn (callCode told a .number) (words (callCode told a .values)) ≡ a
     same-answer (unknown k) = ap unknown (read .place k)
     same-answer (found v) = rw (read .no-eight v) (ap found (read .same v))
 
     module _ {w : List ℕ} {r : ℕ} (says : Says words (known bs badTop unknownSetting (told right)) w r) where
-      told-is : Reports (λ (a : CallAnswer A). toldCall told a .number) (λ (a : CallAnswer A). words (toldCall told a .values)) answer w r
+      told-is : Reports (λ (a : CallAnswer A). callCode told a .number) (λ (a : CallAnswer A). words (callCode told a .values)) answer w r
       told-is = record {
-        number = says .number ∙ ap (λ (x : Told). x .number) answer-told;
-        words = says .counts ∙ ap (λ (x : Told). words (x .values)) answer-told;
+        number = says .number ∙ ap (λ (x : AnswerCode). x .number) answer-told;
+        words = says .counts ∙ ap (λ (x : AnswerCode). words (x .values)) answer-told;
       }
 
       pub called-exactly : CalledExactly words told bs Means w r
       called-exactly = answered-exactly answerIn (same-answer answer) told-is same-answer answer-exactly
 
       -- the call gives the number n exactly if the answer that n and the words give is right
-      pub number-called : (n : ℕ) → toldCall told (answerIn n w) .number ≡ n → (r ≡ n) ↔ CallMeans bs Means (answerIn n w)
+      pub number-called : (n : ℕ) → callCode told (answerIn n w) .number ≡ n → (r ≡ n) ↔ CallMeans bs Means (answerIn n w)
       number-called n e = number-exactly answerIn (same-answer answer) told-is answer-exactly n e

@@ -6,11 +6,11 @@ use mathlib.Core.List.{List}
 use native.Mathlib.Omega.{arith}
 use lib.Ieee.{Float}
 use Rattle.patch.specs.Subdivide.{discards}
-use Rattle.answer_codes.specs.Told.{Told}
+use Rattle.answer_codes.specs.AnswerCode.{AnswerCode}
 use Rattle.check_verdict.specs.declared.Verdict.{Verdict}
 use Rattle.check_verdict.specs.declared.Verdict.the-variants.{BadTop, Isolines, Dots, ShouldBeDiscarded, NotThrees, UnknownIndex, Outside, EqualPoints, Turned, SideTwice, OpenSide, MissingPiece, Accepted}
 use Rattle.check_meaning.specs.Answers.{checkVerdict}
-use Rattle.check_meaning.specs.Numbers.{toldVerdict}
+use Rattle.check_meaning.specs.Numbers.{verdictCode}
 use Rattle.check_meaning.specs.Covered.{Covered}
 use Rattle.check_meaning.proofs.Named.{verdict}
 use Rattle.check_meaning.proofs.Numbers.{verdict-told}
@@ -22,7 +22,7 @@ use Rattle.call_inputs.proofs.Known.{known-zero}
 use Rattle.check_exports.specs.Founds.{checkSays}
 
 -- no fault has the number 0
-zero-accepted : (v : Verdict) → toldVerdict v .number ≡ 0 → v ≡ Accepted
+zero-accepted : (v : Verdict) → verdictCode v .number ≡ 0 → v ≡ Accepted
 zero-accepted Accepted e = refl
 zero-accepted BadTop e = absurd (omega arith)
 zero-accepted Isolines e = absurd (omega arith)
@@ -42,5 +42,5 @@ pub called-covered : (bs : List ℕ) (xs : List Float) (pw iw : List ℕ) {c′ 
 called-covered bs xs pw iw s d =
     let v = verdict (settingsIn bs) (patchIn bs xs) pw iw in
     let k = known-zero bs (checkVerdict (settingsIn bs) (patchIn bs xs) pw iw) (sym (s .number)) in
-    let z = zero-accepted v (ap (λ (x : Told). x .number) (verdict-told (settingsIn bs) (patchIn bs xs) pw iw ∙ sym k) ∙ sym (s .number)) in
+    let z = zero-accepted v (ap (λ (x : AnswerCode). x .number) (verdict-told (settingsIn bs) (patchIn bs xs) pw iw ∙ sym k) ∙ sym (s .number)) in
     accepted-covered (settingsIn bs) (patchIn bs xs) pw iw (checked (settingsIn bs) (patchIn bs xs) pw iw (sym z)) d

@@ -14,7 +14,7 @@ use Rattle.patch.specs.declared.settings.Settings.{Settings}
 use Rattle.check_verdict.specs.declared.Verdict.{Verdict}
 use Rattle.check_verdict.specs.declared.Verdict.the-variants.{BadTop}
 use Rattle.check_meaning.specs.Means.{Accepts, Means}
-use Rattle.check_meaning.specs.Numbers.{toldVerdict}
+use Rattle.check_meaning.specs.Numbers.{verdictCode}
 use Rattle.check_meaning.proofs.Named.{verdict}
 use Rattle.check_meaning.proofs.Numbers.{verdictIn, verdict-back, verdict-told}
 use Rattle.check_meaning.proofs.Verdicts.{exactly, answers}
@@ -22,16 +22,16 @@ use Rattle.call_answers.specs.Replies.{unknownSetting, badTop, twoWords, Says}
 use Rattle.call_answers.proofs.Replies.{says-as}
 use Rattle.call_inputs.specs.Inputs.{patchIn, settingsIn}
 use Rattle.call_inputs.specs.Asked.{known}
-use Rattle.call_inputs.specs.Exactly.{toldCall, CallMeans}
+use Rattle.call_inputs.specs.Exactly.{callCode, CallMeans}
 use Rattle.call_inputs.proofs.Exactly.{Answers, Readable, answerIn, called-exactly, number-called}
 use Rattle.check_exports.specs.Founds.{checkSays}
 use Rattle.check_exports.specs.Exactly.{CheckExactly}
 
 -- no verdict has the number 8, since the verdict that is read from it has another number
-no-eight : (v : Verdict) → eqb (toldVerdict v .number) 8 ≡ false
-no-eight v = ne-eqb (toldVerdict v .number) 8 (λ e. omega (arith, e, ap (λ (w : Verdict). toldVerdict w .number) (rw e at (verdict-back v))))
+no-eight : (v : Verdict) → eqb (verdictCode v .number) 8 ≡ false
+no-eight v = ne-eqb (verdictCode v .number) 8 (λ e. omega (arith, e, ap (λ (w : Verdict). verdictCode w .number) (rw e at (verdict-back v))))
 
-verdict-readable : Readable twoWords toldVerdict verdictIn
+verdict-readable : Readable twoWords verdictCode verdictIn
 verdict-readable = record { same = verdict-back; no-eight = no-eight; place = λ k. refl }
 
 -- an accepted mesh has a good top level
@@ -45,20 +45,20 @@ module _ (bs : List ℕ) (xs : List Float) (pw iw : List ℕ) where
   abbrev p : Patch
   p = patchIn bs xs
 
-  operation : Answers bs toldVerdict (Means set p pw iw) (verdict set p pw iw) BadTop
+  operation : Answers bs verdictCode (Means set p pw iw) (verdict set p pw iw) BadTop
   operation = record { exactly = exactly set p pw iw; bad-number = refl; bad-top = λ n. answers set p pw iw BadTop n }
 
   module _ {c′ : List ℕ} {r : ℕ} (says : Says twoWords (checkSays bs xs pw iw) c′ r) where
-    by-name : Says twoWords (known bs badTop unknownSetting (toldVerdict (verdict set p pw iw))) c′ r
+    by-name : Says twoWords (known bs badTop unknownSetting (verdictCode (verdict set p pw iw))) c′ r
     by-name = says-as (ap (known bs badTop unknownSetting) (verdict-told set p pw iw)) says
 
-    at : (n : ℕ) → toldCall toldVerdict (answerIn bs toldVerdict (Means set p pw iw) (verdict set p pw iw) BadTop operation twoWords verdictIn verdict-readable n c′) .number ≡ n
-        → (r ≡ n) ↔ CallMeans bs (Means set p pw iw) (answerIn bs toldVerdict (Means set p pw iw) (verdict set p pw iw) BadTop operation twoWords verdictIn verdict-readable n c′)
-    at = number-called bs toldVerdict (Means set p pw iw) (verdict set p pw iw) BadTop operation twoWords verdictIn verdict-readable by-name
+    at : (n : ℕ) → callCode verdictCode (answerIn bs verdictCode (Means set p pw iw) (verdict set p pw iw) BadTop operation twoWords verdictIn verdict-readable n c′) .number ≡ n
+        → (r ≡ n) ↔ CallMeans bs (Means set p pw iw) (answerIn bs verdictCode (Means set p pw iw) (verdict set p pw iw) BadTop operation twoWords verdictIn verdict-readable n c′)
+    at = number-called bs verdictCode (Means set p pw iw) (verdict set p pw iw) BadTop operation twoWords verdictIn verdict-readable by-name
 
     pub check-call-exactly : CheckExactly bs xs pw iw c′ r
     check-call-exactly = record {
-      answers = called-exactly bs toldVerdict (Means set p pw iw) (verdict set p pw iw) BadTop operation twoWords verdictIn verdict-readable by-name;
+      answers = called-exactly bs verdictCode (Means set p pw iw) (verdict set p pw iw) BadTop operation twoWords verdictIn verdict-readable by-name;
       accepted = (
         λ h. let m = at 0 refl .0 h in (m .0 (accepts-top set p pw iw (m .1)), m .1),
         λ m. at 0 refl .1 ((λ h. m .0), m .1),

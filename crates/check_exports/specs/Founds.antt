@@ -2,12 +2,12 @@
 use Prim.Native.Nat.{ℕ}
 use mathlib.Core.List.{List}
 use lib.Ieee.{Float}
-use Rattle.answer_codes.specs.Told.{Told}
+use Rattle.answer_codes.specs.AnswerCode.{AnswerCode}
 use Rattle.check_meaning.specs.Answers.{checkVerdict}
 use Rattle.call_answers.specs.Replies.{unknownSetting, badTop}
 use Rattle.call_inputs.specs.Inputs.{patchIn, settingsIn}
 use Rattle.call_inputs.specs.Asked.{known}
 
 -- the answer for the setting bytes bs, the levels xs, the point words pw and the index words iw: a bad top level first, then an unknown setting
-abbrev pub checkSays : List ℕ → List Float → List ℕ → List ℕ → Told
+abbrev pub checkSays : List ℕ → List Float → List ℕ → List ℕ → AnswerCode
 checkSays bs xs pw iw = known bs badTop unknownSetting (checkVerdict (settingsIn bs) (patchIn bs xs) pw iw)

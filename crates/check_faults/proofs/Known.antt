@@ -9,14 +9,14 @@ use lib.ListN.{length, getD}
 use borrow.Author.Tests.{eqb-true, leb-true, leb-false, not-false}
 use Rattle.mesh_geometry.specs.declared.Point.{Point}
 use Rattle.mesh_geometry.specs.Faces.{at}
-use Rattle.check_searches.specs.Indices.{firstUnknown}
+use Rattle.check_searches.specs.Indices.{firstUnknownIndex}
 use Rattle.check_faults.specs.Inside.{inside, firstOutside}
 use Rattle.check_faults.specs.Turns.{Small, AllSmall, AllNumbered}
 use Rattle.check_searches.proofs.First.{first-before}
 
 -- every index is the number of a point
-pub all-numbered : (n : ℕ) (ws : List ℕ) → length ws ≤ firstUnknown ws n → AllNumbered n ws
-unfolding firstUnknown
+pub all-numbered : (n : ℕ) (ws : List ℕ) → length ws ≤ firstUnknownIndex ws n → AllNumbered n ws
+unfolding firstUnknownIndex
 all-numbered n ws h = record { at = λ k l. leb-false n (getD ws k 0) (first-before (λ i. leb n (getD ws i 0)) (length ws) k (omega arith)) }
 
 both-true : (x y z : Bool) → (x && y && z) ≡ true → (x ≡ true) × (y ≡ true)

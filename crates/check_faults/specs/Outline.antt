@@ -8,7 +8,7 @@ use Rattle.strip.specs.declared.triangle.Triangle.{Triangle}
 use Rattle.mesh_geometry.specs.declared.Point.{Point}
 use Rattle.mesh_geometry.specs.Cover.{Side, Face, piece}
 use Rattle.mesh_geometry.specs.Faces.{at, faceOf}
-use Rattle.check_searches.specs.First.{first, some}
+use Rattle.check_searches.specs.First.{first, someBelow}
 use Rattle.check_searches.specs.Points.{samePoint}
 use Rattle.check_searches.specs.Triangles.{triangleAt, someSide}
 
@@ -18,21 +18,21 @@ sameEnds s r = samePoint (s .start) (r .start) && samePoint (s .end) (r .end)
 
 -- whether the side is a piece of the outline
 abbrev pub onOutline : Bool → List Point → Side → Bool
-onOutline positive outline s = some (λ k. sameEnds (piece positive outline k) s) (length outline)
+onOutline positive outline s = someBelow (λ k. sameEnds (piece positive outline k) s) (length outline)
 
 -- the side x→y, with points in place of numbers
 abbrev pub sideBetween : List Point → ℕ → ℕ → Side
 sideBetween ps x y = record { start = at ps x; end = at ps y }
 
 -- whether the side x→y is closed: its reverse is a side, or it is a piece of the outline
-abbrev pub joined : Bool → List Point → List Point → List Triangle → ℕ → ℕ → Bool
-joined positive outline ps ts x y = someSide ts y x || onOutline positive outline (sideBetween ps x y)
+abbrev pub sideClosed : Bool → List Point → List Point → List Triangle → ℕ → ℕ → Bool
+sideClosed positive outline ps ts x y = someSide ts y x || onOutline positive outline (sideBetween ps x y)
 
 -- the vertex where side e of a triangle starts; side 0 goes from the first corner to the second
-abbrev pub startOf : Triangle → ℕ → ℕ
-startOf t zero = t .a
-startOf t (suc zero) = t .b
-startOf t (suc (suc e)) = t .c
+abbrev pub startCorner : Triangle → ℕ → ℕ
+startCorner t zero = t .a
+startCorner t (suc zero) = t .b
+startCorner t (suc (suc e)) = t .c
 
 -- the vertex where side e of a triangle ends
 abbrev pub endOf : Triangle → ℕ → ℕ
@@ -43,7 +43,7 @@ endOf t (suc (suc e)) = t .a
 -- whether side number m is closed; each triangle has three sides
 abbrev pub closes : Bool → List Point → List Point → List Triangle → ℕ → Bool
 closes positive outline ps ts m =
-    let t = triangleAt ts (m / 3) in joined positive outline ps ts (startOf t (m % 3)) (endOf t (m % 3))
+    let t = triangleAt ts (m / 3) in sideClosed positive outline ps ts (startCorner t (m % 3)) (endOf t (m % 3))
 
 -- the first side that is not closed
 unfoldable pub firstOpen : Bool → List Point → List Point → List Triangle → ℕ
@@ -60,7 +60,7 @@ bounds f s =
 
 -- whether the directed side is one of the mesh's
 abbrev pub isDrawn : List Point → List Triangle → Side → Bool
-isDrawn ps ts s = some (λ i. bounds (faceOf (at ps) (triangleAt ts i)) s) (length ts)
+isDrawn ps ts s = someBelow (λ i. bounds (faceOf (at ps) (triangleAt ts i)) s) (length ts)
 
 -- the first piece of the outline that is not a side
 unfoldable pub firstMissing : Bool → List Point → List Point → List Triangle → ℕ

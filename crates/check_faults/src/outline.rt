@@ -3,7 +3,7 @@ ghost use mathlib.Core.Path.{_≡_};
 ghost use mathlib.Core.Bool.{_&&_};
 ghost use Prim.Native.Nat.{_/_, _≤_, _<_};
 ghost use lib.ListN.{length};
-ghost use Rattle.mesh_geometry.specs.Cover.{next, piece};
+ghost use Rattle.mesh_geometry.specs.Cover.{nextPoint, piece};
 ghost use Rattle.mesh_geometry.specs.Faces.{at, faceOf};
 ghost use Rattle.mesh_geometry.specs.Words.{readPoints, readTriangles};
 ghost use Rattle.check_searches.specs.Points.{samePoint};
@@ -18,7 +18,7 @@ use strip::triangle::Triangle;
 // Returns the point after point k of a closed outline.
 fn next_point(outline: &[u32], k: usize) -> Point
     requires { ⌜ k < length (now outline) / 3 ⌝ }
-    ensures { λ r. ⌜ r ≡ next (readPoints (now (outline .entry))) k ⌝ }
+    ensures { λ r. ⌜ r ≡ nextPoint (readPoints (now (outline .entry))) k ⌝ }
 {
     if k + 1 < outline.len() / 3 {
         point_at(outline, k + 1)

@@ -4,7 +4,7 @@ ghost use Prim.Native.Nat.{_*_, _/_, _≤_, _<_};
 ghost use lib.ListN.{length};
 ghost use Rattle.mesh_geometry.specs.Words.{readPoints, readTriangles};
 ghost use Rattle.check_faults.specs.Turns.{AllNumbered};
-ghost use Rattle.check_faults.specs.Outline.{startOf, endOf, joined, closes, ClosedTo, firstOpen};
+ghost use Rattle.check_faults.specs.Outline.{startCorner, endOf, sideClosed, closes, ClosedTo, firstOpen};
 use check_searches::point::point_at;
 use check_searches::triangle::triangle_at;
 use check_side_searches::near::has_side_near;
@@ -12,7 +12,7 @@ use strip::triangle::Triangle;
 
 // Returns the vertex where side e of a triangle starts.
 fn start_of(t: Triangle, e: usize) -> u16
-    ensures { λ r. ⌜ r ≡ startOf t e ⌝ }
+    ensures { λ r. ⌜ r ≡ startCorner t e ⌝ }
 {
     match e {
         0 => t.a,
@@ -43,7 +43,7 @@ fn is_joined(
     y: u16,
 ) -> bool
     requires { ⌜ near ≤ length (now indices) / 3 ⌝ ∗ ⌜ x < length (readPoints (now points)) ⌝ ∗ ⌜ y < length (readPoints (now points)) ⌝ }
-    ensures { λ r. ⌜ r ≡ joined positive (readPoints (now (outline .entry))) (readPoints (now (points .entry))) (readTriangles (now (indices .entry))) x y ⌝ }
+    ensures { λ r. ⌜ r ≡ sideClosed positive (readPoints (now (outline .entry))) (readPoints (now (points .entry))) (readTriangles (now (indices .entry))) x y ⌝ }
 {
     if has_side_near(indices, near, y, x) {
         return true;

@@ -13,7 +13,7 @@ use Rattle.strip.specs.declared.triangle.Triangle.{Triangle}
 use Rattle.mesh_geometry.specs.declared.Point.{Point}
 use Rattle.mesh_geometry.specs.Faces.{at}
 use Rattle.mesh_geometry.specs.Words.{readPoints, readTriangles}
-use Rattle.check_searches.specs.Indices.{firstUnknown}
+use Rattle.check_searches.specs.Indices.{firstUnknownIndex}
 use Rattle.check_searches.specs.Points.{samePoint, firstRepeated}
 use Rattle.check_searches.specs.Triangles.{triangleAt, shareSide, firstReused}
 use Rattle.check_verdict.specs.declared.Verdict.{Verdict}
@@ -25,12 +25,12 @@ use Rattle.check_verdict.specs.Faults.{orElse, openSide, sideTwice, equalPoints
 use Rattle.check_soundness.specs.Sound.{SoundWords}
 use Rattle.check_meaning.specs.Checks.{isTriangles}
 use Rattle.check_meaning.specs.Firsts.{FirstNot, FirstPair}
-use Rattle.check_meaning.specs.Means.{KnownAt, InsideAt, EqualAt, TurnsAt, SharedAt, ClosedAt, DrawnAt, Threes, Kept, Counted, Known, Inside, Distinct, Turning, Single, Closed}
+use Rattle.check_meaning.specs.Means.{NumberedAt, InsideAt, EqualAt, TurnsAt, SharedAt, ClosedAt, DrawnAt, Threes, Kept, PassedThrees, PassedNumbered, PassedInside, PassedDistinct, PassedTurned, PassedSingle, PassedClosed}
 use Rattle.patch.specs.Turn.{turnAsked}
 use Rattle.patch_mesh.specs.Demand.{outlineOf}
-use Rattle.check_meaning.proofs.Tells.{all-none, first-is, none-pair, later-is, earlier-is}
-use Rattle.check_meaning.proofs.PointTests.{known-tells, inside-tells, equal-tells}
-use Rattle.check_meaning.proofs.SideTests.{turn-tells, share-tells, closed-tells, drawn-tells}
+use Rattle.check_meaning.proofs.Decides.{all-none, first-is, none-pair, later-is, earlier-is}
+use Rattle.check_meaning.proofs.PointTests.{numbered-decides, inside-decides, equal-decides}
+use Rattle.check_meaning.proofs.SideTests.{turn-decides, share-decides, closed-decides, drawn-decides}
 use Rattle.check_meaning.proofs.Stages.{distinct-of, numbers-of, sound-passed}
 
 -- a search that found nothing, and one that found a fault
@@ -51,37 +51,37 @@ module _ (set : Settings) (p : Patch) (pw iw : List ℕ) where
   mesh = meshFault (isTriangles p) (turnAsked set) (outlineOf set p) pw iw
 
   -- the answer, as far as the stages before are passed
-  to-index : Counted set p pw iw → mesh ≡ orElse (firstUnknown iw (length ps)) (length iw) (said.UnknownIndex (firstUnknown iw (length ps))) (pointFault (isTriangles p) (turnAsked set) (outlineOf set p) ps ts)
+  to-index : PassedThrees set p pw iw → mesh ≡ orElse (firstUnknownIndex iw (length ps)) (length iw) (said.UnknownIndex (firstUnknownIndex iw (length ps))) (pointFault (isTriangles p) (turnAsked set) (outlineOf set p) ps ts)
   unfolding meshFault
   to-index c = rw (eq-eqb (length pw % 3) 0 (c .1 .0), eq-eqb (length iw % 3) 0 (c .1 .1))
 
-  to-points : Known set p pw iw → mesh ≡ pointFault (isTriangles p) (turnAsked set) (outlineOf set p) ps ts
-  unfolding firstUnknown
-  to-points c = to-index (c .0) ∙ pass _ _ _ _ (all-none (known-tells ps iw) (c .1))
+  to-points : PassedNumbered set p pw iw → mesh ≡ pointFault (isTriangles p) (turnAsked set) (outlineOf set p) ps ts
+  unfolding firstUnknownIndex
+  to-points c = to-index (c .0) ∙ pass _ _ _ _ (all-none (numbered-decides ps iw) (c .1))
 
-  to-equal : Inside set p pw iw → mesh ≡ orElse (firstRepeated ps) (length ps) (equalPoints ps (firstRepeated ps)) (sideFault (turnAsked set) (outlineOf set p) ps ts)
+  to-equal : PassedInside set p pw iw → mesh ≡ orElse (firstRepeated ps) (length ps) (equalPoints ps (firstRepeated ps)) (sideFault (turnAsked set) (outlineOf set p) ps ts)
   unfolding pointFault firstOutside
-  to-equal c = to-points (c .0) ∙ pass _ _ _ _ (all-none (inside-tells p ps) (c .1))
+  to-equal c = to-points (c .0) ∙ pass _ _ _ _ (all-none (inside-decides p ps) (c .1))
 
-  to-sides : Distinct set p pw iw → mesh ≡ sideFault (turnAsked set) (outlineOf set p) ps ts
+  to-sides : PassedDistinct set p pw iw → mesh ≡ sideFault (turnAsked set) (outlineOf set p) ps ts
   unfolding firstRepeated
-  to-sides c = to-equal (c .0) ∙ pass _ _ _ _ (none-pair (λ i j. samePoint (at ps i) (at ps j)) (equal-tells ps) (c .1))
+  to-sides c = to-equal (c .0) ∙ pass _ _ _ _ (none-pair (λ i j. samePoint (at ps i) (at ps j)) (equal-decides ps) (c .1))
 
-  to-reused : Turning set p pw iw → mesh ≡ orElse (firstReused ts) (length ts) (sideTwice ts (firstReused ts)) (outlineFault (turnAsked set) (outlineOf set p) ps ts)
+  to-reused : PassedTurned set p pw iw → mesh ≡ orElse (firstReused ts) (length ts) (sideTwice ts (firstReused ts)) (outlineFault (turnAsked set) (outlineOf set p) ps ts)
   unfolding sideFault firstTurned
-  to-reused c = to-sides (c .0) ∙ pass _ _ _ _ (all-none (turn-tells set p ps iw) (c .1))
+  to-reused c = to-sides (c .0) ∙ pass _ _ _ _ (all-none (turn-decides set p ps iw) (c .1))
 
-  to-outline : Single set p pw iw → mesh ≡ outlineFault (turnAsked set) (outlineOf set p) ps ts
+  to-outline : PassedSingle set p pw iw → mesh ≡ outlineFault (turnAsked set) (outlineOf set p) ps ts
   unfolding firstReused
   to-outline c =
       to-reused (c .0)
-      ∙ pass _ _ _ _ (none-pair (λ i j. shareSide (triangleAt ts i) (triangleAt ts j)) (share-tells set p ps iw (distinct-of ps (c .0 .0 .1)) (numbers-of ps iw (c .0 .0 .0 .0 .1))) (c .1))
+      ∙ pass _ _ _ _ (none-pair (λ i j. shareSide (triangleAt ts i) (triangleAt ts j)) (share-decides set p ps iw (distinct-of ps (c .0 .0 .1)) (numbers-of ps iw (c .0 .0 .0 .0 .1))) (c .1))
 
-  to-missing : Closed set p pw iw → mesh ≡ orElse (firstMissing (turnAsked set) (outlineOf set p) ps ts) (length (outlineOf set p)) (said.MissingPiece (firstMissing (turnAsked set) (outlineOf set p) ps ts)) said.Accepted
+  to-missing : PassedClosed set p pw iw → mesh ≡ orElse (firstMissing (turnAsked set) (outlineOf set p) ps ts) (length (outlineOf set p)) (said.MissingPiece (firstMissing (turnAsked set) (outlineOf set p) ps ts)) said.Accepted
   unfolding outlineFault firstOpen
   to-missing c =
       to-outline (c .0)
-      ∙ pass _ _ _ _ (all-none (closed-tells set p ps iw (distinct-of ps (c .0 .0 .0 .1)) (numbers-of ps iw (c .0 .0 .0 .0 .0 .1))) (c .1))
+      ∙ pass _ _ _ _ (all-none (closed-decides set p ps iw (distinct-of ps (c .0 .0 .0 .1)) (numbers-of ps iw (c .0 .0 .0 .0 .0 .1))) (c .1))
 
   -- the answer for each fault
   pub not-threes : (Threes pw iw → ⊥) → mesh ≡ said.NotThrees
@@ -93,46 +93,46 @@ module _ (set : Settings) (p : Patch) (pw iw : List ℕ) where
       go v true false e f = refl
       go v false y e f = refl
 
-  pub unknown-index : (k : ℕ) → Counted set p pw iw → FirstNot (KnownAt ps iw) (length iw) k → mesh ≡ said.UnknownIndex k
-  unfolding firstUnknown
-  unknown-index k c f = to-index c ∙ hit _ said.UnknownIndex _ _ (first-is (known-tells ps iw) k f) (f .below)
+  pub unknown-index : (k : ℕ) → PassedThrees set p pw iw → FirstNot (NumberedAt ps iw) (length iw) k → mesh ≡ said.UnknownIndex k
+  unfolding firstUnknownIndex
+  unknown-index k c f = to-index c ∙ hit _ said.UnknownIndex _ _ (first-is (numbered-decides ps iw) k f) (f .below)
 
-  pub outside : (k : ℕ) → Known set p pw iw → FirstNot (InsideAt p ps) (length ps) k → mesh ≡ said.Outside k
+  pub outside : (k : ℕ) → PassedNumbered set p pw iw → FirstNot (InsideAt p ps) (length ps) k → mesh ≡ said.Outside k
   unfolding pointFault firstOutside
-  outside k c f = to-points c ∙ hit _ said.Outside _ _ (first-is (inside-tells p ps) k f) (f .below)
+  outside k c f = to-points c ∙ hit _ said.Outside _ _ (first-is (inside-decides p ps) k f) (f .below)
 
-  pub equal-points : (i j : ℕ) → Inside set p pw iw → FirstPair (EqualAt ps) (length ps) i j → mesh ≡ said.EqualPoints i j
+  pub equal-points : (i j : ℕ) → PassedInside set p pw iw → FirstPair (EqualAt ps) (length ps) i j → mesh ≡ said.EqualPoints i j
   unfolding firstRepeated
   equal-points i j c f =
       let t : ℕ → ℕ → Bool = λ x y. samePoint (at ps x) (at ps y) in
-      to-equal c ∙ hit _ (equalPoints ps) _ _ (later-is t (equal-tells ps) f) (f .below)
-      ∙ ap (λ x. said.EqualPoints x j) (earlier-is t (equal-tells ps) f)
+      to-equal c ∙ hit _ (equalPoints ps) _ _ (later-is t (equal-decides ps) f) (f .below)
+      ∙ ap (λ x. said.EqualPoints x j) (earlier-is t (equal-decides ps) f)
 
-  pub turned : (k : ℕ) → Distinct set p pw iw → FirstNot (TurnsAt set ps iw) (length ts) k → mesh ≡ said.Turned k
+  pub turned : (k : ℕ) → PassedDistinct set p pw iw → FirstNot (TurnsAt set ps iw) (length ts) k → mesh ≡ said.Turned k
   unfolding sideFault firstTurned
-  turned k c f = to-sides c ∙ hit _ said.Turned _ _ (first-is (turn-tells set p ps iw) k f) (f .below)
+  turned k c f = to-sides c ∙ hit _ said.Turned _ _ (first-is (turn-decides set p ps iw) k f) (f .below)
 
-  pub side-twice : (i j : ℕ) → Turning set p pw iw → FirstPair (SharedAt ps iw) (length ts) i j → mesh ≡ said.SideTwice i j
+  pub side-twice : (i j : ℕ) → PassedTurned set p pw iw → FirstPair (SharedAt ps iw) (length ts) i j → mesh ≡ said.SideTwice i j
   unfolding firstReused
   side-twice i j c f =
       let t : ℕ → ℕ → Bool = λ x y. shareSide (triangleAt ts x) (triangleAt ts y) in
-      let h = share-tells set p ps iw (distinct-of ps (c .0 .1)) (numbers-of ps iw (c .0 .0 .0 .1)) in
+      let h = share-decides set p ps iw (distinct-of ps (c .0 .1)) (numbers-of ps iw (c .0 .0 .0 .1)) in
       to-reused c ∙ hit _ (sideTwice ts) _ _ (later-is t h f) (f .below) ∙ ap (λ x. said.SideTwice x j) (earlier-is t h f)
 
-  pub open-side : (k e : ℕ) → Single set p pw iw → e < 3 → FirstNot (ClosedAt set p ps iw) (length ts * 3) (k * 3 + e) → mesh ≡ said.OpenSide k e
+  pub open-side : (k e : ℕ) → PassedSingle set p pw iw → e < 3 → FirstNot (ClosedAt set p ps iw) (length ts * 3) (k * 3 + e) → mesh ≡ said.OpenSide k e
   unfolding outlineFault firstOpen
   open-side k e c l f =
-      let h = closed-tells set p ps iw (distinct-of ps (c .0 .0 .1)) (numbers-of ps iw (c .0 .0 .0 .0 .1)) in
+      let h = closed-decides set p ps iw (distinct-of ps (c .0 .0 .1)) (numbers-of ps iw (c .0 .0 .0 .0 .1)) in
       let a : (k * 3 + e) / 3 ≡ k = omega arith in
       let b : (k * 3 + e) % 3 ≡ e = omega arith in
       to-outline c ∙ hit _ openSide _ _ (first-is h (k * 3 + e) f) (f .below) ∙ rw (a, b)
 
-  pub missing-piece : (k : ℕ) → Closed set p pw iw → FirstNot (DrawnAt set p ps iw) (length (outlineOf set p)) k → mesh ≡ said.MissingPiece k
+  pub missing-piece : (k : ℕ) → PassedClosed set p pw iw → FirstNot (DrawnAt set p ps iw) (length (outlineOf set p)) k → mesh ≡ said.MissingPiece k
   unfolding firstMissing
-  missing-piece k c f = to-missing c ∙ hit _ said.MissingPiece _ _ (first-is (drawn-tells set p ps iw) k f) (f .below)
+  missing-piece k c f = to-missing c ∙ hit _ said.MissingPiece _ _ (first-is (drawn-decides set p ps iw) k f) (f .below)
 
   pub accepted : Kept set p → SoundWords set p pw iw → mesh ≡ said.Accepted
   unfolding firstMissing
   accepted k s =
       let w = sound-passed set p pw iw k s in
-      to-missing (w .0) ∙ pass _ _ _ _ (all-none (drawn-tells set p ps iw) (w .1))
+      to-missing (w .0) ∙ pass _ _ _ _ (all-none (drawn-decides set p ps iw) (w .1))

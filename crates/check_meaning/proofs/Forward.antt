@@ -14,7 +14,7 @@ use Rattle.strip.specs.declared.triangle.Triangle.{Triangle}
 use Rattle.mesh_geometry.specs.declared.Point.{Point}
 use Rattle.mesh_geometry.specs.Faces.{at}
 use Rattle.mesh_geometry.specs.Words.{readPoints, readTriangles}
-use Rattle.check_searches.specs.Indices.{firstUnknown}
+use Rattle.check_searches.specs.Indices.{firstUnknownIndex}
 use Rattle.check_searches.specs.Points.{samePoint, firstRepeated}
 use Rattle.check_searches.specs.Triangles.{triangleAt, shareSide, firstReused}
 use Rattle.check_verdict.specs.declared.Verdict.{Verdict}
@@ -24,12 +24,12 @@ use Rattle.check_faults.specs.Turns.{firstTurned}
 use Rattle.check_faults.specs.Outline.{firstOpen, firstMissing}
 use Rattle.check_verdict.specs.Faults.{orElse, outlineFault, sideFault, pointFault, meshFault}
 use Rattle.check_meaning.specs.Checks.{isTriangles}
-use Rattle.check_meaning.specs.Means.{Kept, Counted, Known, Inside, Distinct, Turning, Single, Closed, Means}
+use Rattle.check_meaning.specs.Means.{Kept, PassedThrees, PassedNumbered, PassedInside, PassedDistinct, PassedTurned, PassedSingle, PassedClosed, Means}
 use Rattle.patch.specs.Turn.{turnAsked}
 use Rattle.patch_mesh.specs.Demand.{outlineOf}
-use Rattle.check_meaning.proofs.Tells.{tells-all, tells-first, pair-none, pair-first}
-use Rattle.check_meaning.proofs.PointTests.{known-tells, inside-tells, equal-tells}
-use Rattle.check_meaning.proofs.SideTests.{turn-tells, share-tells, closed-tells, drawn-tells}
+use Rattle.check_meaning.proofs.Decides.{decides-all, decides-first, pair-none, pair-first}
+use Rattle.check_meaning.proofs.PointTests.{numbered-decides, inside-decides, equal-decides}
+use Rattle.check_meaning.proofs.SideTests.{turn-decides, share-decides, closed-decides, drawn-decides}
 use Rattle.check_meaning.proofs.Stages.{distinct-of, numbers-of, passed-sound}
 
 -- the fault if it is found, else the rest
@@ -50,46 +50,46 @@ module _ (set : Settings) (p : Patch) (pw iw : List ℕ) where
   abbrev M : Verdict → Type 0
   M v = Means set p pw iw v
 
-  outline-means : Single set p pw iw → M (outlineFault (turnAsked set) (outlineOf set p) ps ts)
+  outline-means : PassedSingle set p pw iw → M (outlineFault (turnAsked set) (outlineOf set p) ps ts)
   unfolding outlineFault firstOpen firstMissing
   outline-means s =
-      let h = closed-tells set p ps iw (distinct-of ps (s .0 .0 .1)) (numbers-of ps iw (s .0 .0 .0 .0 .1)) in
-      let g = drawn-tells set p ps iw in
+      let h = closed-decides set p ps iw (distinct-of ps (s .0 .0 .1)) (numbers-of ps iw (s .0 .0 .0 .0 .1)) in
+      let g = drawn-decides set p ps iw in
       let m = firstOpen (turnAsked set) (outlineOf set p) ps ts in
       stage M _ _ _ _
-      (λ l. let e : m / 3 * 3 + m % 3 ≡ m = omega arith in (s, omega arith, rw e (tells-first h l)))
-      (λ l. let c : Closed set p pw iw = (s, tells-all h l) in
-      stage M (firstMissing (turnAsked set) (outlineOf set p) ps ts) (length (outlineOf set p)) (said.MissingPiece (firstMissing (turnAsked set) (outlineOf set p) ps ts)) said.Accepted (λ k. (c, tells-first g k)) (λ k. inr (s .0 .0 .0 .0 .0 .0, passed-sound set p pw iw c (tells-all g k))))
+      (λ l. let e : m / 3 * 3 + m % 3 ≡ m = omega arith in (s, omega arith, rw e (decides-first h l)))
+      (λ l. let c : PassedClosed set p pw iw = (s, decides-all h l) in
+      stage M (firstMissing (turnAsked set) (outlineOf set p) ps ts) (length (outlineOf set p)) (said.MissingPiece (firstMissing (turnAsked set) (outlineOf set p) ps ts)) said.Accepted (λ k. (c, decides-first g k)) (λ k. inr (s .0 .0 .0 .0 .0 .0, passed-sound set p pw iw c (decides-all g k))))
 
-  side-means : Distinct set p pw iw → M (sideFault (turnAsked set) (outlineOf set p) ps ts)
+  side-means : PassedDistinct set p pw iw → M (sideFault (turnAsked set) (outlineOf set p) ps ts)
   unfolding sideFault firstTurned firstReused
   side-means d =
-      let h = turn-tells set p ps iw in
-      let g = share-tells set p ps iw (distinct-of ps (d .1)) (numbers-of ps iw (d .0 .0 .1)) in
-      stage M _ _ _ _ (λ l. (d, tells-first h l))
-      (λ l. let t : Turning set p pw iw = (d, tells-all h l) in
+      let h = turn-decides set p ps iw in
+      let g = share-decides set p ps iw (distinct-of ps (d .1)) (numbers-of ps iw (d .0 .0 .1)) in
+      stage M _ _ _ _ (λ l. (d, decides-first h l))
+      (λ l. let t : PassedTurned set p pw iw = (d, decides-all h l) in
       stage M _ _ _ _ (λ k. (t, pair-first (λ i j. shareSide (triangleAt ts i) (triangleAt ts j)) g k))
       (λ k. outline-means (t, pair-none (λ i j. shareSide (triangleAt ts i) (triangleAt ts j)) g k)))
 
-  point-means : Known set p pw iw → M (pointFault (isTriangles p) (turnAsked set) (outlineOf set p) ps ts)
+  point-means : PassedNumbered set p pw iw → M (pointFault (isTriangles p) (turnAsked set) (outlineOf set p) ps ts)
   unfolding pointFault firstOutside firstRepeated
   point-means d =
-      let h = inside-tells p ps in
-      let g = equal-tells ps in
-      stage M _ _ _ _ (λ l. (d, tells-first h l))
-      (λ l. let t : Inside set p pw iw = (d, tells-all h l) in
+      let h = inside-decides p ps in
+      let g = equal-decides ps in
+      stage M _ _ _ _ (λ l. (d, decides-first h l))
+      (λ l. let t : PassedInside set p pw iw = (d, decides-all h l) in
       stage M _ _ _ _ (λ k. (t, pair-first (λ i j. samePoint (at ps i) (at ps j)) g k))
       (λ k. side-means (t, pair-none (λ i j. samePoint (at ps i) (at ps j)) g k)))
 
   pub mesh-means : Kept set p → M (meshFault (isTriangles p) (turnAsked set) (outlineOf set p) pw iw)
-  unfolding meshFault firstUnknown
+  unfolding meshFault firstUnknownIndex
   mesh-means d = go (eqb (length pw % 3) 0) (eqb (length iw % 3) 0) refl refl
     where
       go : (x y : Bool) → eqb (length pw % 3) 0 ≡ x → eqb (length iw % 3) 0 ≡ y
-          → M (cond (x && y) (orElse (firstUnknown iw (length ps)) (length iw) (said.UnknownIndex (firstUnknown iw (length ps))) (pointFault (isTriangles p) (turnAsked set) (outlineOf set p) ps ts)) said.NotThrees)
+          → M (cond (x && y) (orElse (firstUnknownIndex iw (length ps)) (length iw) (said.UnknownIndex (firstUnknownIndex iw (length ps))) (pointFault (isTriangles p) (turnAsked set) (outlineOf set p) ps ts)) said.NotThrees)
       go true true e f =
-          let t : Counted set p pw iw = (d, (eqb-true (length pw % 3) 0 e, eqb-true (length iw % 3) 0 f)) in
-          let h = known-tells ps iw in
-          stage M _ _ _ _ (λ l. (t, tells-first h l)) (λ l. point-means (t, tells-all h l))
+          let t : PassedThrees set p pw iw = (d, (eqb-true (length pw % 3) 0 e, eqb-true (length iw % 3) 0 f)) in
+          let h = numbered-decides ps iw in
+          stage M _ _ _ _ (λ l. (t, decides-first h l)) (λ l. point-means (t, decides-all h l))
       go true false e f = (d, λ w. eqb-false (length iw % 3) 0 f (w .1))
       go false y e f = (d, λ w. eqb-false (length pw % 3) 0 e (w .0))

@@ -1,5 +1,5 @@
 -- The laws of `check_meaning`, lowest first.
-pub mod Tells
+pub mod Decides
 pub mod Sides
 pub mod PointTests
 pub mod SideTests

@@ -12,20 +12,20 @@ use Rattle.patch.specs.Subdivide.{discards}
 use Rattle.strip.specs.declared.triangle.Triangle.{Triangle}
 use Rattle.mesh_geometry.specs.declared.Point.{Point}
 use Rattle.mesh_geometry.specs.Words.{readPoints}
-use Rattle.check_searches.specs.Indices.{firstUnknown}
+use Rattle.check_searches.specs.Indices.{firstUnknownIndex}
 use Rattle.check_searches.specs.Points.{firstRepeated}
 use Rattle.check_searches.specs.Triangles.{firstReused}
 use Rattle.check_faults.specs.Inside.{firstOutside}
 use Rattle.check_faults.specs.Turns.{firstTurned}
 use Rattle.check_faults.specs.Outline.{firstOpen, firstMissing}
-use Rattle.answer_codes.specs.Told.{Told, refused}
+use Rattle.answer_codes.specs.AnswerCode.{AnswerCode, refused}
 use Rattle.check_verdict.specs.declared.Verdict.{Verdict}
 use Rattle.check_verdict.specs.declared.Verdict.the-variants.{BadTop, Isolines, Dots, ShouldBeDiscarded, NotThrees, UnknownIndex, Outside, EqualPoints, Turned, SideTwice, OpenSide, MissingPiece, Accepted}
 use Rattle.check_verdict.specs.Faults.{openSide, sideTwice, equalPoints, outlineFault, sideFault, pointFault, meshFault}
 use Rattle.check_meaning.specs.Checks.{isIsolines, isEmpty}
 use Rattle.check_meaning.proofs.Named.{patchFault, verdict}
 use Rattle.check_meaning.specs.Answers.{faultVerdict, meshVerdict, checkVerdict}
-use Rattle.check_meaning.specs.Numbers.{toldVerdict}
+use Rattle.check_meaning.specs.Numbers.{verdictCode}
 
 -- ---- different verdicts have different numbers or values
 abbrev pub verdictIn : ℕ → List ℕ → Verdict
@@ -43,7 +43,7 @@ verdictIn n vs =
     (cond (eqb n 28) (SideTwice (getD vs 0 0) (getD vs 1 0))
     (cond (eqb n 29) (OpenSide (getD vs 0 0) (getD vs 1 0)) (MissingPiece (getD vs 0 0)))))))))))))
 
-pub verdict-back : (v : Verdict) → verdictIn (toldVerdict v .number) (toldVerdict v .values) ≡ v
+pub verdict-back : (v : Verdict) → verdictIn (verdictCode v .number) (verdictCode v .values) ≡ v
 verdict-back Accepted = refl
 verdict-back BadTop = refl
 verdict-back Isolines = refl
@@ -58,22 +58,22 @@ verdict-back (SideTwice first second) = refl
 verdict-back (OpenSide triangle corner) = refl
 verdict-back (MissingPiece piece) = refl
 
-pub same-verdict : (v w : Verdict) → toldVerdict v ≡ toldVerdict w → v ≡ w
-same-verdict v w e = sym (verdict-back v) ∙ ap (λ (t : Told). verdictIn (t .number) (t .values)) e ∙ verdict-back w
+pub same-verdict : (v w : Verdict) → verdictCode v ≡ verdictCode w → v ≡ w
+same-verdict v w e = sym (verdict-back v) ∙ ap (λ (t : AnswerCode). verdictIn (t .number) (t .values)) e ∙ verdict-back w
 
 -- ---- the number and values of a verdict that is found in steps
-record Has (v : Verdict) (t : Told) : Type 0 where
-  told : toldVerdict v ≡ t
+record Has (v : Verdict) (t : AnswerCode) : Type 0 where
+  told : verdictCode v ≡ t
 
 -- the fault of a search that found x among n places, or the rest; and the rest unless a test fails
-found : (n x : ℕ) (fault : ℕ → Verdict) {rest : Verdict} {t : Told} → Has rest t → Has (cond (ltb x n) (fault x) rest) (cond (ltb x n) (toldVerdict (fault x)) t)
+found : (n x : ℕ) (fault : ℕ → Verdict) {rest : Verdict} {t : AnswerCode} → Has rest t → Has (cond (ltb x n) (fault x) rest) (cond (ltb x n) (verdictCode (fault x)) t)
 found n x fault {rest} {t} h = go (ltb x n)
   where
-    go : (b : Bool) → Has (cond b (fault x) rest) (cond b (toldVerdict (fault x)) t)
+    go : (b : Bool) → Has (cond b (fault x) rest) (cond b (verdictCode (fault x)) t)
     go true = record { told = refl }
     go false = h
 
-unless : (b : Bool) (v : Verdict) {rest : Verdict} {t : Told} → Has rest t → Has (cond b rest v) (cond b t (toldVerdict v))
+unless : (b : Bool) (v : Verdict) {rest : Verdict} {t : AnswerCode} → Has rest t → Has (cond b rest v) (cond b t (verdictCode v))
 unless true v h = h
 unless false v h = record { told = refl }
 
@@ -91,7 +91,7 @@ module _ (set : Settings) (p : Patch) (pw iw : List ℕ) where
   unfolding patchFault meshFault meshVerdict
   mesh-has =
       unless (eqb (length pw % 3) 0 && eqb (length iw % 3) 0) NotThrees
-      (found (length iw) (firstUnknown iw (length (readPoints pw))) UnknownIndex (fault-has _ _ _ _ _))
+      (found (length iw) (firstUnknownIndex iw (length (readPoints pw))) UnknownIndex (fault-has _ _ _ _ _))
 
   verdict-has : Has (verdict set p pw iw) (checkVerdict set p pw iw)
   unfolding verdict checkVerdict
@@ -106,8 +106,8 @@ module _ (set : Settings) (p : Patch) (pw iw : List ℕ) where
       go true false false true false = record { told = refl }
       go true false false false e = mesh-has
 
-  pub verdict-told : toldVerdict (verdict set p pw iw) ≡ checkVerdict set p pw iw
+  pub verdict-told : verdictCode (verdict set p pw iw) ≡ checkVerdict set p pw iw
   verdict-told = verdict-has .told
 
-  pub is-verdict : {r : Verdict} → toldVerdict r ≡ checkVerdict set p pw iw → r ≡ verdict set p pw iw
+  pub is-verdict : {r : Verdict} → verdictCode r ≡ checkVerdict set p pw iw → r ≡ verdict set p pw iw
   is-verdict {r} e = same-verdict r _ (e ∙ sym verdict-told)

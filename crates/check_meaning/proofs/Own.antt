@@ -15,26 +15,26 @@ use Rattle.patch.specs.Subdivide.{discards}
 use Rattle.patch_mesh.specs.Demand.{Surface}
 use Rattle.tessellate.specs.declared.answer.PointsAnswer.{PointsAnswer}
 use Rattle.tessellate.specs.declared.answer.IndicesAnswer.{IndicesAnswer}
-use Rattle.tessellate.specs.Answers.{toldPoints, toldIndices, pointsOf, verdict}
-use Rattle.answer_codes.specs.Told.{Told, refused, drew}
+use Rattle.tessellate.specs.Answers.{pointsCode, indicesCode, pointsOf, listVerdict}
+use Rattle.answer_codes.specs.AnswerCode.{AnswerCode, refused, drew}
 use Rattle.tessellate.specs.Draws.{DrewPoints, DrewIndices}
 use Rattle.level.proofs.Top.{top-as}
 use Rattle.tessellate.proofs.Together.{points-drawn, point-words-drawn, indices-drawn}
 use Rattle.check_soundness.proofs.Patches.{drawn-words-sound}
 use Rattle.check_verdict.specs.declared.Verdict.{Verdict}
 use Rattle.check_verdict.specs.declared.Verdict.the-variants.{Accepted}
-use Rattle.check_meaning.specs.Means.{Checked}
+use Rattle.check_meaning.specs.Means.{CheckedExactly}
 use Rattle.check_meaning.proofs.Numbers.{is-verdict}
 use Rattle.check_meaning.proofs.Verdicts.{answers}
 
 -- what "discarded" means
-discarded-means : (set : Settings) (p : Patch) (short need have count : ℕ) → refused 1 ≡ verdict set p (short + 2) need have count
+discarded-means : (set : Settings) (p : Patch) (short need have count : ℕ) → refused 1 ≡ listVerdict set p (short + 2) need have count
     → Top (set .top) × (discards p ≡ true)
-unfolding verdict
+unfolding listVerdict
 discarded-means set p short need have count e = go (isTop (set .top)) (discards p) (ltb have need) refl refl e
   where
-    other : (t : Told) → refused 1 ≡ t → (t .number ≡ 1 → ⊥) → Top (set .top) × (discards p ≡ true)
-    other t h n = absurd (n (ap (λ (x : Told). x .number) (sym h)))
+    other : (t : AnswerCode) → refused 1 ≡ t → (t .number ≡ 1 → ⊥) → Top (set .top) × (discards p ≡ true)
+    other t h n = absurd (n (ap (λ (x : AnswerCode). x .number) (sym h)))
 
     go : (t a b : Bool) → isTop (set .top) ≡ t → discards p ≡ a
         → refused 1 ≡ cond t (cond a (refused 1) (cond b (refused (short + 2)) (drew count))) (refused 11) → Top (set .top) × (discards p ≡ true)
@@ -46,7 +46,7 @@ discarded-means set p short need have count e = go (isTop (set .top)) (discards 
 module _ (set : Settings) (p : Patch) (surface : Surface p) (filled : set .«point_mode» ≡ false) (a : Verdict) where
   -- the drawn points and indices, read from the two lists by the counts
   pub drawn-accepted : (r : PointsAnswer) (s : IndicesAnswer) {v v′ i i′ : List ℕ} {P I : ℕ} → DrewPoints set p v v′ r → DrewIndices set p i i′ s
-      → toldPoints r ≡ drew P → toldIndices s ≡ drew I → Checked set p (take (3 * P) v′) (take I i′) a → a ≡ Accepted
+      → pointsCode r ≡ drew P → indicesCode s ≡ drew I → CheckedExactly set p (take (3 * P) v′) (take I i′) a → a ≡ Accepted
   drawn-accepted r s d d′ e e′ c =
       let w = points-drawn set p r d e in
       is-verdict set p _ _ (c .answer)
@@ -54,7 +54,7 @@ module _ (set : Settings) (p : Patch) (surface : Surface p) (filled : set .«poi
       (answers set p _ _ Accepted (inr (record { asked = record { top = w .0; surface = surface; filled = filled }; kept = w .1 }, drawn-words-sound set (w .0) p surface (w .1) filled)))
 
   -- nothing is drawn for a discarded patch, and two empty lists are accepted
-  pub discarded-accepted : (r : PointsAnswer) {v v′ : List ℕ} → DrewPoints set p v v′ r → toldPoints r ≡ refused 1 → Checked set p [] [] a → a ≡ Accepted
+  pub discarded-accepted : (r : PointsAnswer) {v v′ : List ℕ} → DrewPoints set p v v′ r → pointsCode r ≡ refused 1 → CheckedExactly set p [] [] a → a ≡ Accepted
   discarded-accepted r {v} d e c =
       let w = discarded-means set p 1 (3 * pointsOf set p) (length v) (pointsOf set p) (sym e ∙ d .answer) in
       is-verdict set p [] [] (c .answer) ∙ answers set p [] [] Accepted (inl (record { top = w .0; surface = surface; filled = filled }, w .1, (refl, refl)))

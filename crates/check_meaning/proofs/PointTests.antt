@@ -15,12 +15,12 @@ use Rattle.patch_mesh.specs.InPatch.{InPatch, domainOf}
 use Rattle.check_searches.specs.Points.{samePoint}
 use Rattle.check_faults.specs.Inside.{inside}
 use Rattle.check_meaning.specs.Checks.{isTriangles}
-use Rattle.check_meaning.specs.Means.{KnownAt, InsideAt, EqualAt}
+use Rattle.check_meaning.specs.Means.{NumberedAt, InsideAt, EqualAt}
 use Rattle.check_meaning.proofs.Sides.{both-which}
-use Rattle.check_meaning.proofs.Tells.{Tells, TellsPair}
+use Rattle.check_meaning.proofs.Decides.{Decides, DecidesPair}
 
-pub known-tells : (ps : List Point) (iw : List ℕ) → Tells (λ k. leb (length ps) (getD iw k 0)) (KnownAt ps iw) (length iw)
-known-tells ps iw = record {
+pub numbered-decides : (ps : List Point) (iw : List ℕ) → Decides (λ k. leb (length ps) (getD iw k 0)) (NumberedAt ps iw) (length iw)
+numbered-decides ps iw = record {
   good = λ k l e. leb-false (length ps) (getD iw k 0) e;
   bad = λ k l e h. omega (arith, leb-true (length ps) (getD iw k 0) e);
 }
@@ -54,8 +54,8 @@ pub clash : {b : Bool} → not b ≡ true → b ≡ true → ⊥
 clash {b = true} h e = true≢false (sym h)
 clash {b = false} h e = true≢false (sym e)
 
-pub inside-tells : (p : Patch) (ps : List Point) → Tells (λ k. not (inside (isTriangles p) (at ps k))) (InsideAt p ps) (length ps)
-inside-tells p ps = record {
+pub inside-decides : (p : Patch) (ps : List Point) → Decides (λ k. not (inside (isTriangles p) (at ps k))) (InsideAt p ps) (length ps)
+inside-decides p ps = record {
   good = λ k l e. inside-is p (at ps k) (not-false (inside (isTriangles p) (at ps k)) e);
   bad = λ k l e h. clash e (is-inside p (at ps k) h);
 }
@@ -68,8 +68,8 @@ same-is p q h =
 pub is-same : (p q : Point) → p ≡ q → samePoint p q ≡ true
 is-same p q e = rw (e, eq-eqb (q .u) (q .u) refl, eq-eqb (q .v) (q .v) refl, eq-eqb (q .w) (q .w) refl)
 
-pub equal-tells : (ps : List Point) → TellsPair (λ i j. samePoint (at ps i) (at ps j)) (EqualAt ps) (length ps)
-equal-tells ps = record {
+pub equal-decides : (ps : List Point) → DecidesPair (λ i j. samePoint (at ps i) (at ps j)) (EqualAt ps) (length ps)
+equal-decides ps = record {
   yes = λ i j l m e. same-is (at ps i) (at ps j) e;
   no = λ i j l m e h. true≢false (sym (is-same (at ps i) (at ps j) h) ∙ e);
 }

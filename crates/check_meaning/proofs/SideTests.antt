@@ -20,14 +20,14 @@ use Rattle.check_searches.specs.Points.{samePoint}
 use Rattle.check_searches.specs.Triangles.{triangleAt, hasSide, shareSide, someSide}
 use Rattle.check_searches.proofs.First.{some-here, some-which}
 use Rattle.check_faults.specs.Turns.{hasSign, Numbered, turnsWrong}
-use Rattle.check_faults.specs.Outline.{sameEnds, onOutline, sideBetween, joined, startOf, endOf, closes, bounds, isDrawn}
+use Rattle.check_faults.specs.Outline.{sameEnds, onOutline, sideBetween, sideClosed, startCorner, endOf, closes, bounds, isDrawn}
 use Rattle.check_faults.proofs.Turns.{sign-holds, sign-tests}
 use Rattle.check_faults.proofs.Corners.{start-known, end-known}
 use Rattle.check_meaning.specs.Means.{TurnsAt, SharedAt, ClosedAt, DrawnAt}
 use Rattle.check_meaning.proofs.Sides.{sideNo, by-numbers, drawn-count, side-split, side-of, face-at, any-which, both-which, SideNo, side-which, side-has, share-which, share-has}
 use Rattle.check_meaning.proofs.PointTests.{clash, same-is, is-same}
 use Rattle.patch.specs.Turn.{turnAsked}
-use Rattle.check_meaning.proofs.Tells.{Tells, TellsPair}
+use Rattle.check_meaning.proofs.Decides.{Decides, DecidesPair}
 
 -- sides by coordinates
 ends-is : (s r : Side) → sameEnds s r ≡ true → s ≡ r
@@ -56,8 +56,8 @@ module _ (set : Settings) (p : Patch) (ps : List Point) (iw : List ℕ) where
   abbrev ts : List Triangle
   ts = readTriangles iw
 
-  pub turn-tells : Tells (λ k. turnsWrong (turnAsked set) ps (triangleAt ts k)) (TurnsAt set ps iw) (length ts)
-  turn-tells = record {
+  pub turn-decides : Decides (λ k. turnsWrong (turnAsked set) ps (triangleAt ts k)) (TurnsAt set ps iw) (length ts)
+  turn-decides = record {
     good = λ k l e. rw (face-at ps ts _ k l) (sign-holds (turnAsked set) _ (not-false (hasSign (turnAsked set) (twiceArea (faceOf (at ps) (triangleAt ts k)))) e));
     bad = λ k l e h. clash e (sign-tests (turnAsked set) _ (rw (face-at ps ts _ k l) at h));
   }
@@ -66,13 +66,13 @@ module _ (set : Settings) (p : Patch) (ps : List Point) (iw : List ℕ) where
   module _ (apart : (i j : ℕ) → i < length ps → j < length ps → at ps i ≡ at ps j → i ≡ j)
       (num : (k : ℕ) → k < length ts → Numbered (length ps) (triangleAt ts k)) where
     pub same-numbers : (s t : Triangle) (d e : ℕ) → Numbered (length ps) s → Numbered (length ps) t
-        → sideNo (faceOf (at ps) s) d ≡ sideNo (faceOf (at ps) t) e → (startOf s d ≡ startOf t e) × (endOf s d ≡ endOf t e)
+        → sideNo (faceOf (at ps) s) d ≡ sideNo (faceOf (at ps) t) e → (startCorner s d ≡ startCorner t e) × (endOf s d ≡ endOf t e)
     same-numbers s t d e m n h =
         let w = sym (by-numbers ps s d) ∙ h ∙ by-numbers ps t e in
         (apart _ _ (start-known _ s d m) (start-known _ t e n) (ap (λ x. x .start) w), apart _ _ (end-known _ s d m) (end-known _ t e n) (ap (λ x. x .end) w))
 
-    pub share-tells : TellsPair (λ i j. shareSide (triangleAt ts i) (triangleAt ts j)) (SharedAt ps iw) (length ts)
-    share-tells = record { yes = yes; no = no }
+    pub share-decides : DecidesPair (λ i j. shareSide (triangleAt ts i) (triangleAt ts j)) (SharedAt ps iw) (length ts)
+    share-decides = record { yes = yes; no = no }
       where
         yes : (i j : ℕ) → i < j → j < length ts → shareSide (triangleAt ts i) (triangleAt ts j) ≡ true → SharedAt ps iw i j
         yes i j l m h =
@@ -101,7 +101,7 @@ module _ (set : Settings) (p : Patch) (ps : List Point) (iw : List ℕ) where
       t = triangleAt ts (m / 3)
 
       abbrev x : ℕ
-      x = startOf t (m % 3)
+      x = startCorner t (m % 3)
 
       abbrev y : ℕ
       y = endOf t (m % 3)
@@ -147,14 +147,14 @@ module _ (set : Settings) (p : Patch) (ps : List Point) (iw : List ℕ) where
           (sym (apart _ _ (start-known _ _ (w .0 % 3) (num i b)) (end-known _ t (m % 3) n) (ap (λ s. s .start) e)))
           (sym (apart _ _ (end-known _ _ (w .0 % 3) (num i b)) (start-known _ t (m % 3) n) (ap (λ s. s .end) e)))))
 
-    pub closed-tells : Tells (λ m. not (closes (turnAsked set) (outlineOf set p) ps ts m)) (ClosedAt set p ps iw) (length ts * 3)
-    closed-tells = record {
+    pub closed-decides : Decides (λ m. not (closes (turnAsked set) (outlineOf set p) ps ts m)) (ClosedAt set p ps iw) (length ts * 3)
+    closed-decides = record {
       good = λ m l e. closes-closed m l (not-false (closes (turnAsked set) (outlineOf set p) ps ts m) e);
       bad = λ m l e h. clash e (⊎-elim (as-piece m l) (as-reverse m l) h);
     }
 
-  pub drawn-tells : Tells (λ k. not (isDrawn ps ts (piece (turnAsked set) (outlineOf set p) k))) (DrawnAt set p ps iw) (length (outlineOf set p))
-  drawn-tells = record { good = good; bad = λ k l e h. clash e (bad k h) }
+  pub drawn-decides : Decides (λ k. not (isDrawn ps ts (piece (turnAsked set) (outlineOf set p) k))) (DrawnAt set p ps iw) (length (outlineOf set p))
+  drawn-decides = record { good = good; bad = λ k l e h. clash e (bad k h) }
     where
       good : (k : ℕ) → k < length (outlineOf set p) → not (isDrawn ps ts (piece (turnAsked set) (outlineOf set p) k)) ≡ false → DrawnAt set p ps iw k
       good k l e =

@@ -14,7 +14,7 @@ use Rattle.mesh_geometry.specs.Cover.{Face, Side, sides, side}
 use Rattle.mesh_geometry.specs.Faces.{at, faceOf}
 use Rattle.mesh_geometry.proofs.Lists.{get-within}
 use Rattle.check_searches.specs.Triangles.{noTriangle, triangleAt, hasSide, shareSide}
-use Rattle.check_faults.specs.Outline.{sideBetween, startOf, endOf}
+use Rattle.check_faults.specs.Outline.{sideBetween, startCorner, endOf}
 
 -- side 0, 1 or 2 of a triangle
 abbrev pub sideNo : Face → ℕ → Side
@@ -39,7 +39,7 @@ at-third (f ∷ fs) d (suc (suc (suc m))) l =
     rw (e, k) (at-third fs d m (omega arith))
 
 -- a side by its vertices
-pub by-numbers : (ps : List Point) (t : Triangle) (e : ℕ) → sideNo (faceOf (at ps) t) e ≡ sideBetween ps (startOf t e) (endOf t e)
+pub by-numbers : (ps : List Point) (t : Triangle) (e : ℕ) → sideNo (faceOf (at ps) t) e ≡ sideBetween ps (startCorner t e) (endOf t e)
 by-numbers ps t zero = refl
 by-numbers ps t (suc zero) = refl
 by-numbers ps t (suc (suc e)) = refl
@@ -81,31 +81,31 @@ both-which false y h = absurd (true≢false (sym h))
 pub record SideNo (t : Triangle) (x y : ℕ) : Type 0 where
   pub e : ℕ
   pub few : e < 3
-  pub starts : x ≡ startOf t e
+  pub starts : x ≡ startCorner t e
   pub ends : y ≡ endOf t e
 
 pub side-which : (t : Triangle) (x y : ℕ) → hasSide t x y ≡ true → SideNo t x y
 side-which t x y h = ⊎-elim (λ w. is 0 (omega arith) w) (⊎-elim (λ w. is 1 (omega arith) w) (λ w. is 2 (omega arith) w))
     (any-which (eqb x (t .a) && eqb y (t .b)) (eqb x (t .b) && eqb y (t .c)) (eqb x (t .c) && eqb y (t .a)) h)
   where
-    is : (e : ℕ) → e < 3 → (eqb x (startOf t e) && eqb y (endOf t e)) ≡ true → SideNo t x y
+    is : (e : ℕ) → e < 3 → (eqb x (startCorner t e) && eqb y (endOf t e)) ≡ true → SideNo t x y
     is e l w =
-        let v = both-which (eqb x (startOf t e)) (eqb y (endOf t e)) w in
-        record { e = e; few = l; starts = eqb-true x (startOf t e) (v .0); ends = eqb-true y (endOf t e) (v .1) }
+        let v = both-which (eqb x (startCorner t e)) (eqb y (endOf t e)) w in
+        record { e = e; few = l; starts = eqb-true x (startCorner t e) (v .0); ends = eqb-true y (endOf t e) (v .1) }
 
-pub side-has : (t : Triangle) (e x y : ℕ) → x ≡ startOf t e → y ≡ endOf t e → hasSide t x y ≡ true
+pub side-has : (t : Triangle) (e x y : ℕ) → x ≡ startCorner t e → y ≡ endOf t e → hasSide t x y ≡ true
 side-has t zero x y h k = rw (eq-eqb x (t .a) h, eq-eqb y (t .b) k)
 side-has t (suc zero) x y h k = rw (eq-eqb x (t .b) h, eq-eqb y (t .c) k, or-true)
 side-has t (suc (suc e)) x y h k = rw (eq-eqb x (t .c) h, eq-eqb y (t .a) k, or-true)
 
 -- side d of s is a side of t
-pub share-which : (s t : Triangle) → shareSide s t ≡ true → (d : ℕ) × (d < 3) × SideNo t (startOf s d) (endOf s d)
+pub share-which : (s t : Triangle) → shareSide s t ≡ true → (d : ℕ) × (d < 3) × SideNo t (startCorner s d) (endOf s d)
 unfolding shareSide
 share-which s t h =
     ⊎-elim (λ w. (0, omega arith, side-which t _ _ w)) (⊎-elim (λ w. (1, omega arith, side-which t _ _ w)) (λ w. (2, omega arith, side-which t _ _ w)))
     (any-which (hasSide t (s .a) (s .b)) (hasSide t (s .b) (s .c)) (hasSide t (s .c) (s .a)) h)
 
-pub share-has : (s t : Triangle) (d e : ℕ) → startOf s d ≡ startOf t e → endOf s d ≡ endOf t e → shareSide s t ≡ true
+pub share-has : (s t : Triangle) (d e : ℕ) → startCorner s d ≡ startCorner t e → endOf s d ≡ endOf t e → shareSide s t ≡ true
 unfolding shareSide
 share-has s t zero e h k = rw (side-has t e (s .a) (s .b) h k)
 share-has s t (suc zero) e h k = rw (side-has t e (s .b) (s .c) h k, or-true)

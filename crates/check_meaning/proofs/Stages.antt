@@ -20,10 +20,10 @@ use Rattle.check_soundness.specs.Sound.{sidesIn, SoundWords}
 use Rattle.check_searches.specs.Triangles.{triangleAt}
 use Rattle.check_searches.proofs.Read.{triangles-count}
 use Rattle.check_faults.specs.Turns.{Numbered, AllNumbered}
-use Rattle.check_faults.specs.Outline.{startOf, endOf}
+use Rattle.check_faults.specs.Outline.{startCorner, endOf}
 use Rattle.check_faults.proofs.Turns.{numbered, Apart, area-apart}
 use Rattle.check_meaning.specs.Firsts.{Every, NoPair}
-use Rattle.check_meaning.specs.Means.{KnownAt, EqualAt, TurnsAt, SharedAt, DrawnAt, Kept, Known, Distinct, Turning, Single, Closed}
+use Rattle.check_meaning.specs.Means.{NumberedAt, EqualAt, TurnsAt, SharedAt, DrawnAt, Kept, PassedNumbered, PassedDistinct, PassedTurned, PassedSingle, PassedClosed}
 use Rattle.check_meaning.proofs.Sides.{by-numbers, drawn-count, side-split, face-at}
 use Rattle.check_meaning.proofs.SideTests.{same-numbers}
 
@@ -32,12 +32,12 @@ pub distinct-of : (ps : List Point) → NoPair (EqualAt ps) (length ps) → (i j
 distinct-of ps h i j l m e = neither i j (λ k. h i j k m e) (λ k. h j i k l (sym e))
 
 -- the corners of every triangle are numbers of points
-pub numbers-of : (ps : List Point) (iw : List ℕ) → Every (KnownAt ps iw) (length iw)
+pub numbers-of : (ps : List Point) (iw : List ℕ) → Every (NumberedAt ps iw) (length iw)
     → (k : ℕ) → k < length (readTriangles iw) → Numbered (length ps) (triangleAt (readTriangles iw) k)
 numbers-of ps iw h k l = numbered (length ps) iw k (record { at = h }) (omega (arith, triangles-count iw))
 
 -- sides of a triangle with different corners that start at the same corner are equal
-same-corner : (t : Triangle) (d e : ℕ) → Apart t → d < 3 → e < 3 → startOf t d ≡ startOf t e → d ≡ e
+same-corner : (t : Triangle) (d e : ℕ) → Apart t → d < 3 → e < 3 → startCorner t d ≡ startCorner t e → d ≡ e
 same-corner t zero zero a l m h = refl
 same-corner t zero (suc zero) a l m h = absurd (a .0 h)
 same-corner t zero (suc (suc e)) a l m h = absurd (a .2 (sym h))
@@ -56,7 +56,7 @@ module _ (set : Settings) (p : Patch) (pw iw : List ℕ) where
   ts = readTriangles iw
 
   -- no side occurs twice
-  module _ (s : Single set p pw iw) where
+  module _ (s : PassedSingle set p pw iw) where
     shared : (i j : ℕ) → i / 3 < j / 3 → j < length ts * 3 → side (sidesIn ps iw) i ≡ side (sidesIn ps iw) j → ⊥
     shared i j l m e =
         let a : i / 3 * 3 + i % 3 ≡ i = omega arith in
@@ -76,7 +76,7 @@ module _ (set : Settings) (p : Patch) (pw iw : List ℕ) where
     single-of : (i j : ℕ) → i < length ts * 3 → j < length ts * 3 → side (sidesIn ps iw) i ≡ side (sidesIn ps iw) j → i ≡ j
     single-of i j l m e = within i j (neither (i / 3) (j / 3) (λ k. shared i j k m e) (λ k. shared j i k l (sym e))) l m e
 
-  pub passed-sound : Closed set p pw iw → Every (DrawnAt set p ps iw) (length (outlineOf set p)) → SoundWords set p pw iw
+  pub passed-sound : PassedClosed set p pw iw → Every (DrawnAt set p ps iw) (length (outlineOf set p)) → SoundWords set p pw iw
   passed-sound c d =
       let s = c .0 in
       let k = s .0 .0 .0 .0 in
@@ -95,7 +95,7 @@ module _ (set : Settings) (p : Patch) (pw iw : List ℕ) where
       }
 
   -- conversely, a sound mesh has passed all stages
-  pub sound-passed : Kept set p → SoundWords set p pw iw → Closed set p pw iw × Every (DrawnAt set p ps iw) (length (outlineOf set p))
+  pub sound-passed : Kept set p → SoundWords set p pw iw → PassedClosed set p pw iw × Every (DrawnAt set p ps iw) (length (outlineOf set p))
   sound-passed k w =
       let s = w .mesh in
       let n = drawn-count ps ts in (

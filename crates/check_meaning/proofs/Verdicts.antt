@@ -17,8 +17,8 @@ use Rattle.check_verdict.specs.declared.Verdict.{Verdict}
 use Rattle.check_verdict.specs.declared.Verdict.the-variants as said
 use Rattle.check_meaning.specs.Checks.{isIsolines, isEmpty}
 use Rattle.check_meaning.proofs.Named.{patchFault, verdict}
-use Rattle.check_meaning.specs.Means.{Asked, Kept, Empty, Means, Checked}
-use Rattle.check_meaning.specs.Numbers.{toldVerdict}
+use Rattle.check_meaning.specs.Means.{TrianglesAsked, Kept, Empty, Means, CheckedExactly}
+use Rattle.check_meaning.specs.Numbers.{verdictCode}
 use Rattle.level.proofs.Top.{top-as, is-top, no-top, top-no}
 use Rattle.check_meaning.proofs.Sides.{both-which}
 use Rattle.check_meaning.proofs.Forward.{mesh-means}
@@ -64,11 +64,11 @@ module _ (set : Settings) (p : Patch) (pw iw : List ℕ) where
   unfolding verdict patchFault
   means = top (isTop (set .top)) refl
     where
-      discarded : Asked set p → discards p ≡ true → (b : Bool) → isEmpty pw iw ≡ b → Means set p pw iw (cond b said.Accepted said.ShouldBeDiscarded)
+      discarded : TrianglesAsked set p → discards p ≡ true → (b : Bool) → isEmpty pw iw ≡ b → Means set p pw iw (cond b said.Accepted said.ShouldBeDiscarded)
       discarded a d true e = inl (a, d, empty-is pw iw e)
       discarded a d false e = (a, d, λ h. true≢false (sym (is-empty pw iw h) ∙ e))
 
-      kept : Asked set p → (b : Bool) → discards p ≡ b
+      kept : TrianglesAsked set p → (b : Bool) → discards p ≡ b
           → Means set p pw iw (cond b (cond (isEmpty pw iw) said.Accepted said.ShouldBeDiscarded) (patchFault set p pw iw))
       kept a true e = discarded a e (isEmpty pw iw) refl
       kept a false e = mesh-means set p pw iw (record { asked = a; kept = e })
@@ -89,14 +89,14 @@ module _ (set : Settings) (p : Patch) (pw iw : List ℕ) where
       top false e = no-top (set .top) e
 
   -- triangles can be asked for: the answer by the patch and the mesh
-  to-patch : Asked set p → verdict set p pw iw ≡ cond (discards p) (cond (isEmpty pw iw) said.Accepted said.ShouldBeDiscarded) (patchFault set p pw iw)
+  to-patch : TrianglesAsked set p → verdict set p pw iw ≡ cond (discards p) (cond (isEmpty pw iw) said.Accepted said.ShouldBeDiscarded) (patchFault set p pw iw)
   unfolding verdict
   to-patch a = rw (is-top (set .top) (a .top), is-surface p (a .surface), a .filled)
 
   to-mesh : {v : Verdict} → Kept set p → patchFault set p pw iw ≡ v → verdict set p pw iw ≡ v
   to-mesh k e = to-patch (k .asked) ∙ rw (k .kept) e
 
-  empty-accepted : Asked set p → discards p ≡ true → Empty pw iw → verdict set p pw iw ≡ said.Accepted
+  empty-accepted : TrianglesAsked set p → discards p ≡ true → Empty pw iw → verdict set p pw iw ≡ said.Accepted
   empty-accepted a d e = to-patch a ∙ rw (d, is-empty pw iw e)
 
   -- if an answer is right, it is given
@@ -120,8 +120,8 @@ module _ (set : Settings) (p : Patch) (pw iw : List ℕ) where
   exactly v = (λ h. subst (λ (x : Verdict). Means set p pw iw x) h means, answers v)
 
   -- the whole contract
-  pub checked : {r : Verdict} → r ≡ verdict set p pw iw → Checked set p pw iw r
+  pub checked : {r : Verdict} → r ≡ verdict set p pw iw → CheckedExactly set p pw iw r
   checked e = record {
-    answer = ap toldVerdict e ∙ verdict-told set p pw iw;
-    exactly = λ v. (λ h. exactly v .0 (sym e ∙ same-verdict _ v h), λ m. ap toldVerdict (e ∙ answers v m));
+    answer = ap verdictCode e ∙ verdict-told set p pw iw;
+    exactly = λ v. (λ h. exactly v .0 (sym e ∙ same-verdict _ v h), λ m. ap verdictCode (e ∙ answers v m));
   }

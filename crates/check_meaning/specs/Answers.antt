@@ -14,17 +14,17 @@ use Rattle.mesh_geometry.specs.declared.Point.{Point}
 use Rattle.mesh_geometry.specs.Faces.{at}
 use Rattle.mesh_geometry.specs.Words.{readPoints, readTriangles}
 use Rattle.patch_mesh.specs.Demand.{outline, outlineOf}
-use Rattle.check_searches.specs.Indices.{firstUnknown}
+use Rattle.check_searches.specs.Indices.{firstUnknownIndex}
 use Rattle.check_searches.specs.Points.{firstEqual, firstRepeated}
 use Rattle.check_searches.specs.Triangles.{triangleAt, firstSharing, firstReused}
 use Rattle.check_faults.specs.Inside.{firstOutside}
 use Rattle.check_faults.specs.Turns.{firstTurned}
 use Rattle.check_faults.specs.Outline.{firstOpen, firstMissing}
-use Rattle.answer_codes.specs.Told.{Told, refused}
+use Rattle.answer_codes.specs.AnswerCode.{AnswerCode, refused}
 use Rattle.check_meaning.specs.Checks.{isIsolines, isTriangles, isEmpty}
 
 -- the fault with its values if x is below n, so that a search among n places found one; otherwise the rest
-abbrev pub faultAt : ℕ → ℕ → ℕ → (ℕ → List ℕ) → Told → Told
+abbrev pub faultAt : ℕ → ℕ → ℕ → (ℕ → List ℕ) → AnswerCode → AnswerCode
 faultAt number n x values rest = cond (ltb x n) (record { number = number; values = values x }) rest
 
 -- the values of a fault at one place
@@ -32,7 +32,7 @@ abbrev pub here : ℕ → List ℕ
 here x = x ∷ []
 
 -- the answer for the points ps and the triangles ts; equal points (26) and a side used twice (28) give the earlier partner first
-unfoldable pub faultVerdict : Bool → Bool → List Point → List Point → List Triangle → Told
+unfoldable pub faultVerdict : Bool → Bool → List Point → List Point → List Triangle → AnswerCode
 faultVerdict triangles positive outline ps ts =
     faultAt 25 (length ps) (firstOutside triangles ps) here
     (faultAt 26 (length ps) (firstRepeated ps) (λ j. firstEqual ps (at ps j) j ∷ j ∷ [])
@@ -42,15 +42,15 @@ faultVerdict triangles positive outline ps ts =
     (faultAt 30 (length outline) (firstMissing positive outline ps ts) here (refused 0))))))
 
 -- the answer for a mesh, given as words, of a patch that is not discarded
-unfoldable pub meshVerdict : Settings → Patch → List ℕ → List ℕ → Told
+unfoldable pub meshVerdict : Settings → Patch → List ℕ → List ℕ → AnswerCode
 meshVerdict set p pw iw =
     cond (eqb (length pw % 3) 0 && eqb (length iw % 3) 0)
-    (faultAt 24 (length iw) (firstUnknown iw (length (readPoints pw))) here
+    (faultAt 24 (length iw) (firstUnknownIndex iw (length (readPoints pw))) here
     (faultVerdict (isTriangles p) (turnAsked set) (outlineOf set p) (readPoints pw) (readTriangles iw)))
     (refused 23)
 
 -- the answer for a mesh of any patch
-unfoldable pub checkVerdict : Settings → Patch → List ℕ → List ℕ → Told
+unfoldable pub checkVerdict : Settings → Patch → List ℕ → List ℕ → AnswerCode
 checkVerdict set p pw iw =
     cond (isTop (set .top))
     (cond (isIsolines p) (refused 20)

@@ -5,7 +5,7 @@ use Rattle.patch.specs.declared.kinds.Patch.{Patch}
 use Rattle.patch.specs.declared.settings.Settings.{Settings}
 use Rattle.patch.specs.Turn.{turnAsked}
 use Rattle.mesh_geometry.specs.Cover.{Cover}
-use Rattle.mesh_geometry.specs.Held.{Spot, Clear, HeldOnce}
+use Rattle.mesh_geometry.specs.Held.{Spot, OffSides, HeldOnce}
 use Rattle.mesh_geometry.specs.Words.{readPoints}
 use Rattle.patch_mesh.specs.Demand.{outlineOf, twiceAreaOf}
 use Rattle.mesh_geometry.specs.Faces.{facesIn}
@@ -16,5 +16,5 @@ pub record Covered (set : Settings) (p : Patch) (pw iw : List ℕ) : Type 0 wher
   -- demand 3, as for a drawn mesh
   pub cover : Cover (turnAsked set) (twiceAreaOf p) (outlineOf set p) (readPoints pw) (facesIn (readPoints pw) iw)
   -- exactly one triangle holds each spot that lies strictly inside the patch and on no side
-  pub once : (z : Spot) → Inside p z → Clear (facesIn (readPoints pw) iw) z
+  pub once : (z : Spot) → Inside p z → OffSides (facesIn (readPoints pw) iw) z
       → HeldOnce (turnAsked set) (facesIn (readPoints pw) iw) z

@@ -22,17 +22,17 @@ use Rattle.check_verdict.specs.declared.Verdict.{Verdict}
 use Rattle.check_verdict.specs.declared.Verdict.the-variants as said
 use Rattle.check_meaning.specs.Answers.{checkVerdict}
 use Rattle.check_meaning.specs.Firsts.{Every, FirstNot, NoPair, FirstPair}
-use Rattle.check_meaning.specs.Numbers.{toldVerdict}
+use Rattle.check_meaning.specs.Numbers.{verdictCode}
 
 -- triangles can be asked for: a good top level, a triangle or quad patch, and no point mode
-pub record Asked (set : Settings) (p : Patch) : Type 0 where
+pub record TrianglesAsked (set : Settings) (p : Patch) : Type 0 where
   pub top : Top (set .top)
   pub surface : Surface p
   pub filled : set .«point_mode» ≡ false
 
 -- the same, and the patch is not discarded
 pub record Kept (set : Settings) (p : Patch) : Type 0 where
-  pub asked : Asked set p
+  pub asked : TrianglesAsked set p
   pub kept : discards p ≡ false
 
 -- both lists are empty
@@ -44,8 +44,8 @@ abbrev pub Threes : List ℕ → List ℕ → Type 0
 Threes pw iw = (length pw % 3 ≡ 0) × (length iw % 3 ≡ 0)
 
 -- index k is the number of a point
-abbrev pub KnownAt : List Point → List ℕ → ℕ → Type 0
-KnownAt ps iw k = getD iw k 0 < length ps
+abbrev pub NumberedAt : List Point → List ℕ → ℕ → Type 0
+NumberedAt ps iw k = getD iw k 0 < length ps
 
 -- point k lies in the patch
 abbrev pub InsideAt : Patch → List Point → ℕ → Type 0
@@ -79,48 +79,48 @@ abbrev pub DrawnAt : Settings → Patch → List Point → List ℕ → ℕ → 
 DrawnAt set p ps iw k = Occurs (piece (turnAsked set) (outlineOf set p) k) (sidesIn ps iw)
 
 -- what holds before faults of each kind are searched for
-abbrev pub Counted : Settings → Patch → List ℕ → List ℕ → Type 0
-Counted set p pw iw = Kept set p × Threes pw iw
+abbrev pub PassedThrees : Settings → Patch → List ℕ → List ℕ → Type 0
+PassedThrees set p pw iw = Kept set p × Threes pw iw
 
-abbrev pub Known : Settings → Patch → List ℕ → List ℕ → Type 0
-Known set p pw iw = Counted set p pw iw × Every (KnownAt (readPoints pw) iw) (length iw)
+abbrev pub PassedNumbered : Settings → Patch → List ℕ → List ℕ → Type 0
+PassedNumbered set p pw iw = PassedThrees set p pw iw × Every (NumberedAt (readPoints pw) iw) (length iw)
 
-abbrev pub Inside : Settings → Patch → List ℕ → List ℕ → Type 0
-Inside set p pw iw = Known set p pw iw × Every (InsideAt p (readPoints pw)) (length (readPoints pw))
+abbrev pub PassedInside : Settings → Patch → List ℕ → List ℕ → Type 0
+PassedInside set p pw iw = PassedNumbered set p pw iw × Every (InsideAt p (readPoints pw)) (length (readPoints pw))
 
-abbrev pub Distinct : Settings → Patch → List ℕ → List ℕ → Type 0
-Distinct set p pw iw = Inside set p pw iw × NoPair (EqualAt (readPoints pw)) (length (readPoints pw))
+abbrev pub PassedDistinct : Settings → Patch → List ℕ → List ℕ → Type 0
+PassedDistinct set p pw iw = PassedInside set p pw iw × NoPair (EqualAt (readPoints pw)) (length (readPoints pw))
 
-abbrev pub Turning : Settings → Patch → List ℕ → List ℕ → Type 0
-Turning set p pw iw = Distinct set p pw iw × Every (TurnsAt set (readPoints pw) iw) (length (readTriangles iw))
+abbrev pub PassedTurned : Settings → Patch → List ℕ → List ℕ → Type 0
+PassedTurned set p pw iw = PassedDistinct set p pw iw × Every (TurnsAt set (readPoints pw) iw) (length (readTriangles iw))
 
-abbrev pub Single : Settings → Patch → List ℕ → List ℕ → Type 0
-Single set p pw iw = Turning set p pw iw × NoPair (SharedAt (readPoints pw) iw) (length (readTriangles iw))
+abbrev pub PassedSingle : Settings → Patch → List ℕ → List ℕ → Type 0
+PassedSingle set p pw iw = PassedTurned set p pw iw × NoPair (SharedAt (readPoints pw) iw) (length (readTriangles iw))
 
-abbrev pub Closed : Settings → Patch → List ℕ → List ℕ → Type 0
-Closed set p pw iw = Single set p pw iw × Every (ClosedAt set p (readPoints pw) iw) (length (readTriangles iw) * 3)
+abbrev pub PassedClosed : Settings → Patch → List ℕ → List ℕ → Type 0
+PassedClosed set p pw iw = PassedSingle set p pw iw × Every (ClosedAt set p (readPoints pw) iw) (length (readTriangles iw) * 3)
 
 -- the mesh is accepted: two empty lists for a discarded patch, or a mesh that passes every test for any other patch
 abbrev pub Accepts : Settings → Patch → List ℕ → List ℕ → Type 0
-Accepts set p pw iw = (Asked set p × (discards p ≡ true) × Empty pw iw) ⊎ (Kept set p × SoundWords set p pw iw)
+Accepts set p pw iw = (TrianglesAsked set p × (discards p ≡ true) × Empty pw iw) ⊎ (Kept set p × SoundWords set p pw iw)
 
 -- the answer is right: its fault occurs first at this place, and no fault of an earlier kind occurs
 abbrev pub Means : Settings → Patch → List ℕ → List ℕ → Verdict → Type 0
 Means set p pw iw said.BadTop = Top (set .top) → ⊥
 Means set p pw iw said.Isolines = Top (set .top) × (Surface p → ⊥)
 Means set p pw iw said.Dots = Top (set .top) × Surface p × (set .«point_mode» ≡ true)
-Means set p pw iw said.ShouldBeDiscarded = Asked set p × (discards p ≡ true) × (Empty pw iw → ⊥)
+Means set p pw iw said.ShouldBeDiscarded = TrianglesAsked set p × (discards p ≡ true) × (Empty pw iw → ⊥)
 Means set p pw iw said.NotThrees = Kept set p × (Threes pw iw → ⊥)
-Means set p pw iw (said.UnknownIndex k) = Counted set p pw iw × FirstNot (KnownAt (readPoints pw) iw) (length iw) k
-Means set p pw iw (said.Outside k) = Known set p pw iw × FirstNot (InsideAt p (readPoints pw)) (length (readPoints pw)) k
-Means set p pw iw (said.EqualPoints i j) = Inside set p pw iw × FirstPair (EqualAt (readPoints pw)) (length (readPoints pw)) i j
-Means set p pw iw (said.Turned k) = Distinct set p pw iw × FirstNot (TurnsAt set (readPoints pw) iw) (length (readTriangles iw)) k
-Means set p pw iw (said.SideTwice i j) = Turning set p pw iw × FirstPair (SharedAt (readPoints pw) iw) (length (readTriangles iw)) i j
-Means set p pw iw (said.OpenSide k e) = Single set p pw iw × (e < 3) × FirstNot (ClosedAt set p (readPoints pw) iw) (length (readTriangles iw) * 3) (k * 3 + e)
-Means set p pw iw (said.MissingPiece k) = Closed set p pw iw × FirstNot (DrawnAt set p (readPoints pw) iw) (length (outlineOf set p)) k
+Means set p pw iw (said.UnknownIndex k) = PassedThrees set p pw iw × FirstNot (NumberedAt (readPoints pw) iw) (length iw) k
+Means set p pw iw (said.Outside k) = PassedNumbered set p pw iw × FirstNot (InsideAt p (readPoints pw)) (length (readPoints pw)) k
+Means set p pw iw (said.EqualPoints i j) = PassedInside set p pw iw × FirstPair (EqualAt (readPoints pw)) (length (readPoints pw)) i j
+Means set p pw iw (said.Turned k) = PassedDistinct set p pw iw × FirstNot (TurnsAt set (readPoints pw) iw) (length (readTriangles iw)) k
+Means set p pw iw (said.SideTwice i j) = PassedTurned set p pw iw × FirstPair (SharedAt (readPoints pw) iw) (length (readTriangles iw)) i j
+Means set p pw iw (said.OpenSide k e) = PassedSingle set p pw iw × (e < 3) × FirstNot (ClosedAt set p (readPoints pw) iw) (length (readTriangles iw) * 3) (k * 3 + e)
+Means set p pw iw (said.MissingPiece k) = PassedClosed set p pw iw × FirstNot (DrawnAt set p (readPoints pw) iw) (length (outlineOf set p)) k
 Means set p pw iw said.Accepted = Accepts set p pw iw
 
 -- the contract of the check: the number and values of the answer, and that they are those of a verdict exactly if that verdict is right
-pub record Checked (set : Settings) (p : Patch) (pw iw : List ℕ) (r : Verdict) : Type 0 where
-  pub answer : toldVerdict r ≡ checkVerdict set p pw iw
-  pub exactly : (v : Verdict) → toldVerdict r ≡ toldVerdict v ↔ Means set p pw iw v
+pub record CheckedExactly (set : Settings) (p : Patch) (pw iw : List ℕ) (r : Verdict) : Type 0 where
+  pub answer : verdictCode r ≡ checkVerdict set p pw iw
+  pub exactly : (v : Verdict) → verdictCode r ≡ verdictCode v ↔ Means set p pw iw v

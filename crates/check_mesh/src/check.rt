@@ -4,7 +4,7 @@ ghost use Rattle.level.specs.Top.{Top};
 ghost use Rattle.patch_mesh.specs.Demand.{outline};
 ghost use Rattle.check_verdict.specs.Faults.{meshFault};
 ghost use Rattle.check_meaning.specs.Checks.{isIsolines, isTriangles, isEmpty};
-ghost use Rattle.check_meaning.specs.Means.{Checked};
+ghost use Rattle.check_meaning.specs.Means.{CheckedExactly};
 use check_verdict::Verdict;
 use level::Spacing;
 use patch::kinds::Patch;
@@ -88,7 +88,7 @@ fn patch_fault(
 
 // Checks a mesh; the points are three words each and the triangles three indices each, as drawing writes them.
 pub fn check_mesh(patch: Patch, settings: Settings, points: &[u32], indices: &[u16]) -> Verdict
-    ensures { λ r. ⌜ Checked settings patch (now (points .entry)) (now (indices .entry)) r ⌝ }
+    ensures { λ r. ⌜ CheckedExactly settings patch (now (points .entry)) (now (indices .entry)) r ⌝ }
 {
     let spacing = settings.spacing;
     let top = settings.top;

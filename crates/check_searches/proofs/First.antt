@@ -7,7 +7,7 @@ use native.Mathlib.Decide.{decLe}
 use borrow.Author.Tests.{lt-ltb, le-ltb, ltb-true, ltb-false}
 use lib.Dec.{ltb}
 use borrow.Author.Count.{below-more as more}
-use Rattle.check_searches.specs.First.{first, some}
+use Rattle.check_searches.specs.First.{first, someBelow}
 
 -- the test fails for all numbers below n
 abbrev pub Below : (ℕ → Bool) → ℕ → Type 0
@@ -34,10 +34,10 @@ first-none t zero b = refl
 first-none t (suc n) b = rw (b 0 (omega arith)) (ap suc (first-none (λ k. t (suc k)) n (λ k m. b (suc k) (omega arith))))
 
 -- the same for whether a number exists
-pub some-at : (t : ℕ → Bool) (n i : ℕ) → i < n → Below t i → t i ≡ true → some t n ≡ true
+pub some-at : (t : ℕ → Bool) (n i : ℕ) → i < n → Below t i → t i ≡ true → someBelow t n ≡ true
 some-at t n i l b h = rw (first-at t n i l b h) (lt-ltb i n l)
 
-pub some-none : (t : ℕ → Bool) (n : ℕ) → Below t n → some t n ≡ false
+pub some-none : (t : ℕ → Bool) (n : ℕ) → Below t n → someBelow t n ≡ false
 some-none t n b = rw (first-none t n b) (le-ltb n n (omega arith))
 
 -- the test fails before the first place, and holds there if that is below n
@@ -73,14 +73,14 @@ first-most t (suc n) = most-step (first (λ k. t (suc k)) n) n (t 0) (first-most
 pub first-all : (t : ℕ → Bool) (n : ℕ) → first t n ≡ n → Below t n
 first-all t n e = rw e at (first-before t n)
 
-pub some-all : (t : ℕ → Bool) (n : ℕ) → some t n ≡ false → Below t n
+pub some-all : (t : ℕ → Bool) (n : ℕ) → someBelow t n ≡ false → Below t n
 some-all t n e i l = first-before t n i (omega (arith, ltb-false (first t n) n e))
 
 -- some place passes the test
-pub some-which : (t : ℕ → Bool) (n : ℕ) → some t n ≡ true → (i : ℕ) × (i < n) × (t i ≡ true)
+pub some-which : (t : ℕ → Bool) (n : ℕ) → someBelow t n ≡ true → (i : ℕ) × (i < n) × (t i ≡ true)
 some-which t n e = let l = ltb-true (first t n) n e in (first t n, l, first-holds t n l)
 
-pub some-here : (t : ℕ → Bool) (n i : ℕ) → i < n → t i ≡ true → some t n ≡ true
+pub some-here : (t : ℕ → Bool) (n i : ℕ) → i < n → t i ≡ true → someBelow t n ≡ true
 some-here t n i l h = lt-ltb (first t n) n (less (first t n) (first-before t n) (first-most t n))
   where
     less : (m : ℕ) → Below t m → m ≤ n → m < n
@@ -111,8 +111,8 @@ search-found {t} {n = n} {i = i} e p l h = sym (first-at t n i (omega arith) (p 
 pub search-none : {t : ℕ → Bool} {m n i : ℕ} → n ≡ m → Passed t m i → m ≤ i → i ≡ first t n
 search-none {t} {n = n} {i = i} e p l = let d : i ≡ n = omega (arith, p .most) in d ∙ sym (first-none t n (rw d at (p .below)))
 
-pub some-found : {t : ℕ → Bool} {m n i : ℕ} → n ≡ m → Passed t m i → i < m → t i ≡ true → true ≡ some t n
+pub some-found : {t : ℕ → Bool} {m n i : ℕ} → n ≡ m → Passed t m i → i < m → t i ≡ true → true ≡ someBelow t n
 some-found {t} {n = n} {i = i} e p l h = sym (some-at t n i (omega arith) (p .below) h)
 
-pub some-missed : {t : ℕ → Bool} {m n i : ℕ} → n ≡ m → Passed t m i → m ≤ i → false ≡ some t n
+pub some-missed : {t : ℕ → Bool} {m n i : ℕ} → n ≡ m → Passed t m i → m ≤ i → false ≡ someBelow t n
 some-missed {t} {n = n} {i = i} e p l = let d : i ≡ n = omega (arith, p .most) in sym (some-none t n (rw d at (p .below)))

@@ -7,8 +7,8 @@ use lib.Dec.{leb}
 use Rattle.check_searches.specs.First.{first}
 
 -- the place of the first index that is not below `count`
-unfoldable pub firstUnknown : List ℕ → ℕ → ℕ
-firstUnknown ws count = first (λ k. leb count (getD ws k 0)) (length ws)
+unfoldable pub firstUnknownIndex : List ℕ → ℕ → ℕ
+firstUnknownIndex ws count = first (λ k. leb count (getD ws k 0)) (length ws)
 
 -- neither x nor y is among the indices from place `from` up to, not including, `to`
 pub record Lacks (ws : List ℕ) (from to x y : ℕ) : Type 0 where

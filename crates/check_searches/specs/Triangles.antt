@@ -5,7 +5,7 @@ use mathlib.Core.List.{List}
 use lib.ListN.{length, getD}
 use lib.Dec.{ltb, eqb}
 use Rattle.strip.specs.declared.triangle.Triangle.{Triangle}
-use Rattle.check_searches.specs.First.{first, some}
+use Rattle.check_searches.specs.First.{first, someBelow}
 
 -- the value of a look-up past the end of a list of triangles; the statements below never use it
 abbrev pub noTriangle : Triangle
@@ -25,7 +25,7 @@ hasSide t x y = eqb x (t .a) && eqb y (t .b) || eqb x (t .b) && eqb y (t .c) || 
 
 -- whether x→y is a directed side of one of the triangles
 abbrev pub someSide : List Triangle → ℕ → ℕ → Bool
-someSide ts x y = some (λ i. hasSide (triangleAt ts i) x y) (length ts)
+someSide ts x y = someBelow (λ i. hasSide (triangleAt ts i) x y) (length ts)
 
 -- whether the two triangles have a directed side in common
 unfoldable pub shareSide : Triangle → Triangle → Bool

@@ -3,11 +3,11 @@ ghost use mathlib.Core.Path.{_≡_};
 ghost use mathlib.Core.Bool.{false};
 ghost use Prim.Native.Nat.{_≤_};
 ghost use lib.ListN.{length};
-ghost use Rattle.check_searches.specs.Indices.{firstUnknown, Lacks};
+ghost use Rattle.check_searches.specs.Indices.{firstUnknownIndex, Lacks};
 
 // Returns the place of the first index that is not the number of a point, or the number of indices.
 pub fn first_unknown(indices: &[u16], count: usize) -> usize
-    ensures { λ r. ⌜ r ≡ firstUnknown (now (indices .entry)) count ⌝ }
+    ensures { λ r. ⌜ r ≡ firstUnknownIndex (now (indices .entry)) count ⌝ }
 {
     let mut k = 0;
     while k < indices.len() {

@@ -13,7 +13,7 @@ use Rattle.mesh_geometry.specs.Words.{readTriangles}
 use Rattle.check_searches.specs.Indices.{Lacks}
 use Rattle.check_searches.specs.Triangles.{triangleAt, hasCorner, hasSide, shareSide}
 use Rattle.check_side_searches.specs.Skips.{Without, Skips, Sided}
-use Rattle.check_side_searches.specs.Same.{sameTriangle, Held}
+use Rattle.check_side_searches.specs.Same.{sameTriangle, TriangleFound}
 use Rattle.check_searches.proofs.First.{Below}
 use Rattle.check_searches.proofs.Read.{triangle-read}
 
@@ -108,5 +108,5 @@ module _ {f : ℕ → Bool} {ts : List Triangle} {x y : ℕ} (h : (k : ℕ) → 
 pub sided-missed : {ts : List Triangle} {from to x y i : ℕ} → Clear (λ k. hasSide (triangleAt ts k) x y) from to i → to ≤ i → Sided ts from to x y false
 sided-missed c l = record { yes = λ e. absurd (true≢false (sym e)); no = λ e k p q. c .none k p (omega arith) }
 
-pub held-missed : {ts : List Triangle} {t : Triangle} {from to i : ℕ} → Clear (λ k. sameTriangle (triangleAt ts k) t) from to i → to ≤ i → Held ts from to t false
+pub held-missed : {ts : List Triangle} {t : Triangle} {from to i : ℕ} → Clear (λ k. sameTriangle (triangleAt ts k) t) from to i → to ≤ i → TriangleFound ts from to t false
 held-missed c l = record { yes = λ e. absurd (true≢false (sym e)); no = λ e k p q. c .none k p (omega arith) }

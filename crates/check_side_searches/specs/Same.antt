@@ -15,6 +15,6 @@ sameTriangle s t =
     || eqb (s .a) (t .c) && eqb (s .b) (t .a) && eqb (s .c) (t .b)
 
 -- the answer r of a search for t: if true, one of the triangles is t; if false, no triangle from number `from` up to, not including, `to` is
-pub record Held (ts : List Triangle) (from to : ℕ) (t : Triangle) (r : Bool) : Type 0 where
+pub record TriangleFound (ts : List Triangle) (from to : ℕ) (t : Triangle) (r : Bool) : Type 0 where
   pub yes : r ≡ true → (i : ℕ) × (i < to) × (sameTriangle (triangleAt ts i) t ≡ true)
   pub no : r ≡ false → (i : ℕ) → from ≤ i → i < to → sameTriangle (triangleAt ts i) t ≡ false

@@ -3,7 +3,7 @@ ghost use mathlib.Core.Path.{_≡_};
 ghost use Prim.Native.Nat.{_/_, _≤_};
 ghost use lib.ListN.{length};
 ghost use Rattle.mesh_geometry.specs.Words.{readTriangles};
-ghost use Rattle.check_side_searches.specs.Same.{sameTriangle, Held};
+ghost use Rattle.check_side_searches.specs.Same.{sameTriangle, TriangleFound};
 use crate::pair::next_touching;
 use check_searches::triangle::triangle_at;
 use strip::triangle::Triangle;
@@ -20,7 +20,7 @@ pub fn same_triangle(s: Triangle, t: Triangle) -> bool
 // Whether one of the triangles from number `from` up to, not including, `to` is t, up to rotation.
 pub fn has_triangle_in(indices: &[u16], from: usize, to: usize, t: Triangle) -> bool
     requires { ⌜ from ≤ to ⌝ ∗ ⌜ to ≤ length (now indices) / 3 ⌝ }
-    ensures { λ r. ⌜ Held (readTriangles (now (indices .entry))) from to t r ⌝ }
+    ensures { λ r. ⌜ TriangleFound (readTriangles (now (indices .entry))) from to t r ⌝ }
 {
     let x = t.a;
     let mut i = next_touching(indices, from, to, x, x);

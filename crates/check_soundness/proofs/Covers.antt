@@ -10,8 +10,8 @@ use Rattle.mesh_geometry.specs.Cover.{Face, missing, reversed, directed, piece,
 use Rattle.mesh_geometry.specs.Edge.{Run, GoodRun, ring}
 use Rattle.mesh_geometry.proofs.Lists.{All, none, more, all-more, all-map, all-at}
 use Rattle.mesh_geometry.specs.Faces.{facesIn}
-use Rattle.mesh_geometry.specs.Held.{Spot, Clear, HeldOnce}
-use Rattle.mesh_geometry.specs.Domain.{Domain, edgeCount, placeOn, Within}
+use Rattle.mesh_geometry.specs.Held.{Spot, OffSides, HeldOnce}
+use Rattle.mesh_geometry.specs.Domain.{Domain, edgeCount, placeOn, InsideDomain}
 use Rattle.mesh_geometry.proofs.Members.{all-member, all-places}
 use Rattle.mesh_geometry.proofs.Walk.{pieces, piece-member}
 use Rattle.mesh_geometry.proofs.Stokes.{cover-closed}
@@ -76,5 +76,5 @@ module _ (k : Domain) (es : List Run) (n : length es ≡ edgeCount k) (good : Al
         covers (areaOf k) (whole-area es good k n b faces (cover-closed (covers (w .0) (w .1)) (outline-distinct es k n good)))
 
     -- exactly one triangle holds each spot that lies strictly inside and on no side
-    pub sound-once : (z : Spot) → Within k z → Clear (facesIn points ws) z → HeldOnce b (facesIn points ws) z
+    pub sound-once : (z : Spot) → InsideDomain k z → OffSides (facesIn points ws) z → HeldOnce b (facesIn points ws) z
     sound-once = cover-once k es n good sound-covers

@@ -8,7 +8,7 @@ use native.Mathlib.Omega.{arith}
 use lib.ListN.{length}
 use Rattle.edge.specs.Table.{table}
 use Rattle.mesh_geometry.specs.declared.Point.{Point}
-use Rattle.mesh_geometry.specs.Cover.{Side, missing, next, sides, twiceArea, HasSign, reversed, side, piece, Occurs, Cover}
+use Rattle.mesh_geometry.specs.Cover.{Side, missing, nextPoint, sides, twiceArea, HasSign, reversed, side, piece, Occurs, Cover}
 use Rattle.mesh_geometry.specs.Edge.{GoodRun, ends, ring}
 use Rattle.mesh_geometry.specs.TrianglePoints.{triangleCorners, triangleArea}
 use Rattle.mesh_geometry.proofs.Lists.{All, none, more, all-at, Distinct, distinct-at}
@@ -51,14 +51,14 @@ distinct =
 closed : (i : ℕ) → i < length (sidesIn triangleCorners words)
     → ((k : ℕ) × (k < length triangleCorners) × (side (sidesIn triangleCorners words) i ≡ piece true triangleCorners k))
     ⊎ Occurs (reversed (side (sidesIn triangleCorners words) i)) (sidesIn triangleCorners words)
-unfolding readTriangles sides next
+unfolding readTriangles sides nextPoint
 closed zero l = inl (1, omega arith, refl)
 closed (suc zero) l = inl (2, omega arith, refl)
 closed (suc (suc zero)) l = inl (0, omega arith, refl)
 closed (suc (suc (suc i))) l = absurd (omega arith)
 
 outlined : (k : ℕ) → k < length triangleCorners → Occurs (piece true triangleCorners k) (sidesIn triangleCorners words)
-unfolding readTriangles sides next
+unfolding readTriangles sides nextPoint
 outlined zero l = (2, omega arith, refl)
 outlined (suc zero) l = (0, omega arith, refl)
 outlined (suc (suc zero)) l = (1, omega arith, refl)

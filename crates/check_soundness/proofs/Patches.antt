@@ -14,7 +14,7 @@ use Rattle.strip.proofs.Strips.{indices-length}
 use Rattle.patch.specs.declared.kinds.Patch.{Patch}
 use Rattle.patch.specs.declared.kinds.Patch.the-variants.{Triangles, Quads, Isolines}
 use Rattle.patch.specs.declared.settings.Settings.{Settings}
-use Rattle.patch.specs.Subdivide.{outers, discards, subdivisionOf}
+use Rattle.patch.specs.Subdivide.{outerLevels, discards, subdivisionOf}
 use Rattle.patch.specs.Turn.{turnAsked}
 use Rattle.mesh_geometry.specs.declared.Point.{Point}
 use Rattle.mesh_geometry.specs.Cover.{missing, Cover}
@@ -30,7 +30,7 @@ use Rattle.mesh_geometry.proofs.ReadBack.{read-points}
 use Rattle.patch_mesh.proofs.Runs.{good-run}
 use Rattle.patch_mesh.proofs.Cases.{Cases, drawn-cases}
 use Rattle.patch_mesh.proofs.Demand.{not-discarded, demand}
-use Rattle.mesh_geometry.specs.Held.{Spot, Clear, HeldOnce}
+use Rattle.mesh_geometry.specs.Held.{Spot, OffSides, HeldOnce}
 use Rattle.mesh_geometry.specs.Domain.{Domain, triangle, square}
 use Rattle.patch_mesh.specs.Inside.{Inside}
 use Rattle.mesh_geometry.proofs.Members.{all-members}
@@ -41,7 +41,7 @@ use Rattle.patch_mesh.proofs.InPatch.{drawn-in}
 
 module _ (set : Settings) (top : Top (set .top)) where
   good-runs : (p : Patch) → All GoodRun (outerRuns (set .spacing) (set .top) p)
-  good-runs p = all-map _ GoodRun (all-members (outers p) (λ x m. good-run _ (segments-valid (set .spacing) (set .top) top x)))
+  good-runs p = all-map _ GoodRun (all-members (outerLevels p) (λ x m. good-run _ (segments-valid (set .spacing) (set .top) top x)))
 
   -- with the arguments of demand 3
   pub patch-sound-covers : (p : Patch) → Surface p → {ps : List Point} {ws : List ℕ} → SoundFor set p ps ws
@@ -52,7 +52,7 @@ module _ (set : Settings) (top : Top (set .top)) where
 
   -- exactly one triangle of a sound mesh holds each spot that lies strictly inside the patch and on no side
   pub patch-sound-once : (p : Patch) {ps : List Point} {ws : List ℕ} → SoundFor set p ps ws
-      → (z : Spot) → Inside p z → Clear (facesIn ps ws) z → HeldOnce (turnAsked set) (facesIn ps ws) z
+      → (z : Spot) → Inside p z → OffSides (facesIn ps ws) z → HeldOnce (turnAsked set) (facesIn ps ws) z
   patch-sound-once (Triangles a b c i) s = sound-once triangle _ refl (good-runs (Triangles a b c i)) s
   patch-sound-once (Quads a b c d i j) s = sound-once square _ refl (good-runs (Quads a b c d i j)) s
   patch-sound-once (Isolines a b) s = λ z i. absurd i

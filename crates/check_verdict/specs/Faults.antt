@@ -8,7 +8,7 @@ use Rattle.mesh_geometry.specs.Words.{readPoints, readTriangles}
 use Rattle.mesh_geometry.specs.declared.Point.{Point}
 use Rattle.mesh_geometry.specs.Faces.{at}
 use Rattle.strip.specs.declared.triangle.Triangle.{Triangle}
-use Rattle.check_searches.specs.Indices.{firstUnknown}
+use Rattle.check_searches.specs.Indices.{firstUnknownIndex}
 use Rattle.check_searches.specs.Points.{firstEqual, firstRepeated}
 use Rattle.check_searches.specs.Triangles.{triangleAt, firstSharing, firstReused}
 use Rattle.check_verdict.specs.declared.Verdict.{Verdict}
@@ -55,5 +55,5 @@ pointFault triangles positive outline ps ts =
 unfoldable pub meshFault : Bool → Bool → List Point → List ℕ → List ℕ → Verdict
 meshFault triangles positive outline pw iw =
     cond (eqb (length pw % 3) 0 && eqb (length iw % 3) 0)
-    (orElse (firstUnknown iw (length (readPoints pw))) (length iw) (UnknownIndex (firstUnknown iw (length (readPoints pw))))
+    (orElse (firstUnknownIndex iw (length (readPoints pw))) (length iw) (UnknownIndex (firstUnknownIndex iw (length (readPoints pw))))
     (pointFault triangles positive outline (readPoints pw) (readTriangles iw))) NotThrees

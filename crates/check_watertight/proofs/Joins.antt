@@ -12,17 +12,17 @@ use Rattle.strip.specs.declared.triangle.Triangle.{Triangle}
 use Rattle.mesh_geometry.specs.declared.Point.{Point}
 use Rattle.mesh_geometry.specs.Cover.{Side, piece}
 use Rattle.mesh_geometry.specs.Faces.{at, faceOf}
-use Rattle.check_searches.specs.First.{some}
+use Rattle.check_searches.specs.First.{someBelow}
 use Rattle.check_searches.specs.Points.{samePoint}
 use Rattle.check_searches.specs.Triangles.{triangleAt, hasSide, someSide}
 use Rattle.check_searches.proofs.First.{some-here, some-which}
 use Rattle.check_searches.proofs.Equal.{same-is, is-same}
-use Rattle.check_faults.specs.Outline.{sameEnds, sideBetween, startOf, endOf, closes, bounds, isDrawn, ClosedTo, DrawnTo}
+use Rattle.check_faults.specs.Outline.{sameEnds, sideBetween, startCorner, endOf, closes, bounds, isDrawn, ClosedTo, DrawnTo}
 use Rattle.half_edge_chains.specs.Sides.{sideStart, sideEnd, isSide, Once}
-use Rattle.check_watertight.specs.Closing.{IsPiece, Blank, Marked, AllMarked, Joins, Shown}
+use Rattle.check_watertight.specs.Closing.{IsPiece, Blank, MarksDrawn, AllMarked, OpensClosed, Shown}
 use Rattle.half_edge_chains.proofs.Table.{zero-at}
 use Rattle.half_edge_chains.proofs.Numbers.{one-of, both, both-which, ends-same, side-there}
-use Rattle.half_edges.specs.Opens.{meets, Among, Listed}
+use Rattle.half_edges.specs.Opens.{meets, Among, OpensListed}
 use Rattle.half_edges.proofs.Repeats.{once-new}
 
 -- the test of two sides holds exactly if they are equal
@@ -39,7 +39,7 @@ module _ (P : ℕ → Point) (t : Triangle) where
   abbrev from : ℕ → ℕ → Side
   from x y = record { start = P x; end = P y }
 
-  bounds-own : (e : ℕ) → bounds (faceOf P t) (record { start = P (startOf t e); end = P (endOf t e) }) ≡ true
+  bounds-own : (e : ℕ) → bounds (faceOf P t) (record { start = P (startCorner t e); end = P (endOf t e) }) ≡ true
   bounds-own zero =
       let s = from (t .a) (t .b) in one-of (sameEnds s s) (sameEnds (from (t .b) (t .c)) s) (sameEnds (from (t .c) (t .a)) s) (inl (ends-self s))
   bounds-own (suc zero) =
@@ -70,7 +70,7 @@ all-marked-more marks n a h = record {
 
 module _ (positive : Bool) (outline ps : List Point) (ts : List Triangle) where
   -- a side whose reverse is in the table
-  reverse-closes : (m n : ℕ) → n ≤ length ts * 3 → some (isSide ts (sideEnd ts m) (sideStart ts m)) n ≡ true → closes positive outline ps ts m ≡ true
+  reverse-closes : (m n : ℕ) → n ≤ length ts * 3 → someBelow (isSide ts (sideEnd ts m) (sideStart ts m)) n ≡ true → closes positive outline ps ts m ≡ true
   unfolding sideStart sideEnd
   reverse-closes m n l h =
       let w = some-which (isSide ts (sideEnd ts m) (sideStart ts m)) n h in
@@ -101,37 +101,37 @@ module _ (positive : Bool) (outline ps : List Point) (ts : List Triangle) where
       (some-here (λ i. bounds (faceOf (at ps) (triangleAt ts i)) s) (length ts) (m / 3) (omega arith) (bounds-own (at ps) (triangleAt ts (m / 3)) (m % 3)))
 
   -- the first sides in the list
-  pub joins-none : (opens : List ℕ) → Joins positive outline ps ts opens 0
+  pub joins-none : (opens : List ℕ) → OpensClosed positive outline ps ts opens 0
   joins-none opens = record { each = λ i l. absurd (omega arith) }
 
-  pub joins-more : (opens : List ℕ) (n : ℕ) → Joins positive outline ps ts opens n → closes positive outline ps ts (getD opens n 0) ≡ true
-      → Joins positive outline ps ts opens (n + 1)
+  pub joins-more : (opens : List ℕ) (n : ℕ) → OpensClosed positive outline ps ts opens n → closes positive outline ps ts (getD opens n 0) ≡ true
+      → OpensClosed positive outline ps ts opens (n + 1)
   joins-more opens n j h = record {
     each = λ i l. elim (decLe n i) [ yes p ↦ (let d : i ≡ n = omega arith in rw d h) | no p ↦ j .each i (omega arith) ];
   }
 
   -- a side that has its reverse or is in the list
-  pick : (opens : List ℕ) (n m : ℕ) → Joins positive outline ps ts opens n → (meets ts m ≡ true) ⊎ Among opens n m → closes positive outline ps ts m ≡ true
+  pick : (opens : List ℕ) (n m : ℕ) → OpensClosed positive outline ps ts opens n → (meets ts m ≡ true) ⊎ Among opens n m → closes positive outline ps ts m ≡ true
   pick opens n m j (inl h) = reverse-closes m (length ts * 3) (omega arith) h
   pick opens n m j (inr a) = rw (a .is) at (j .each (a .place) (a .within))
 
   -- all sides, if the list has all sides without a reverse
-  pub joined-all : (opens : List ℕ) (n m : ℕ) → m ≤ length ts * 3 → Listed ts (length ts * 3) opens n → Joins positive outline ps ts opens n → ClosedTo positive outline ps ts m
+  pub joined-all : (opens : List ℕ) (n m : ℕ) → m ≤ length ts * 3 → OpensListed ts (length ts * 3) opens n → OpensClosed positive outline ps ts opens n → ClosedTo positive outline ps ts m
   joined-all opens n m b l j = record { each = λ i c. pick opens n i j (l .each i (omega arith)) }
 
   -- the sides before entry k of the list
-  pub joined-before : (opens : List ℕ) (n k : ℕ) → k < n → Listed ts (length ts * 3) opens n → Joins positive outline ps ts opens k → ClosedTo positive outline ps ts (getD opens k 0)
+  pub joined-before : (opens : List ℕ) (n k : ℕ) → k < n → OpensListed ts (length ts * 3) opens n → OpensClosed positive outline ps ts opens k → ClosedTo positive outline ps ts (getD opens k 0)
   joined-before opens n k b l j = record { each = λ i c. pick opens k i j (l .before k b i c) }
 
   pub closed-none : ClosedTo positive outline ps ts 0
   closed-none = record { each = λ m l. absurd (omega arith) }
 
   -- the marks, and how they are set
-  pub marked-none : (marks : List ℕ) → Blank marks → Marked positive outline ps ts marks
+  pub marked-none : (marks : List ℕ) → Blank marks → MarksDrawn positive outline ps ts marks
   marked-none marks z = record { drawn = λ k l h. absurd (omega (arith, z .at k)) }
 
-  pub marked-more : (m k : ℕ) (marks : List ℕ) → m < length ts * 3 → IsPiece positive outline ps ts m k → Marked positive outline ps ts marks
-      → Marked positive outline ps ts (set marks k 1)
+  pub marked-more : (m k : ℕ) (marks : List ℕ) → m < length ts * 3 → IsPiece positive outline ps ts m k → MarksDrawn positive outline ps ts marks
+      → MarksDrawn positive outline ps ts (set marks k 1)
   marked-more m k marks l h t = record {
     drawn = λ i b p. elim (decLe i k) [
       | yes u ↦ elim (decLe k i) [
@@ -149,7 +149,7 @@ module _ (positive : Bool) (outline ps : List Point) (ts : List Triangle) where
   pub drawn-none : DrawnTo positive outline ps ts 0
   drawn-none = record { each = λ k l. absurd (omega arith) }
 
-  pub marked-drawn : (marks : List ℕ) (n : ℕ) → n ≤ length outline → Marked positive outline ps ts marks → AllMarked marks n → DrawnTo positive outline ps ts n
+  pub marked-drawn : (marks : List ℕ) (n : ℕ) → n ≤ length outline → MarksDrawn positive outline ps ts marks → AllMarked marks n → DrawnTo positive outline ps ts n
   marked-drawn marks n l t a = record { each = λ k b. t .drawn k (omega arith) (a .each k b) }
 
   -- nothing is shown yet
@@ -169,6 +169,6 @@ module _ (positive : Bool) (outline ps : List Point) (ts : List Triangle) where
 
   -- no side is repeated
   pub shown-all : (n m k : ℕ) (marks : List ℕ) → n ≤ length ts → Once ts (n * 3) → m ≤ length ts * 3 → ClosedTo positive outline ps ts m → k ≤ length outline
-      → Marked positive outline ps ts marks → AllMarked marks k → Shown positive outline ps ts (record { once = n; joined = m; drawn = k })
+      → MarksDrawn positive outline ps ts marks → AllMarked marks k → Shown positive outline ps ts (record { once = n; joined = m; drawn = k })
   shown-all n m k marks l o b c d t a =
       record { once-most = l; once = once-new ts n o; joined-most = b; joined = c; drawn-most = d; drawn = marked-drawn marks k d t a }

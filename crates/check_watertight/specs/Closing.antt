@@ -22,7 +22,7 @@ pub record Blank (marks : List ℕ) : Type 0 where
   pub at : (k : ℕ) → getD marks k 0 ≡ 0
 
 -- every marked piece is a side
-pub record Marked (positive : Bool) (outline ps : List Point) (ts : List Triangle) (marks : List ℕ) : Type 0 where
+pub record MarksDrawn (positive : Bool) (outline ps : List Point) (ts : List Triangle) (marks : List ℕ) : Type 0 where
   pub drawn : (k : ℕ) → k < length outline → 0 < getD marks k 0 → isDrawn ps ts (piece positive outline k) ≡ true
 
 -- the first n marks are set
@@ -30,7 +30,7 @@ pub record AllMarked (marks : List ℕ) (n : ℕ) : Type 0 where
   pub each : (k : ℕ) → k < n → 0 < getD marks k 0
 
 -- the first n sides in the list `opens` are closed: the reverse is a side, or the side is a piece of the outline
-pub record Joins (positive : Bool) (outline ps : List Point) (ts : List Triangle) (opens : List ℕ) (n : ℕ) : Type 0 where
+pub record OpensClosed (positive : Bool) (outline ps : List Point) (ts : List Triangle) (opens : List ℕ) (n : ℕ) : Type 0 where
   pub each : (i : ℕ) → i < n → closes positive outline ps ts (getD opens i 0) ≡ true
 
 -- up to r no fault of sides or outline occurs: no triangle has a repeated side, every side is closed, every piece is a side

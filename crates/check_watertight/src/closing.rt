@@ -4,7 +4,7 @@ ghost use Prim.Native.Nat.{_≤_, _<_};
 ghost use lib.ListN.{length};
 ghost use Rattle.mesh_geometry.specs.Words.{readPoints, readTriangles};
 ghost use Rattle.check_faults.specs.Turns.{AllNumbered};
-ghost use Rattle.half_edges.specs.Tables.{vertices, Room, Cleared};
+ghost use Rattle.half_edges.specs.Tables.{vertices, Room, EmptyTable};
 ghost use Rattle.check_watertight.specs.Closing.{Blank, Shown};
 
 // How many triangles, from the first on, have no side in common with an earlier one; how many sides, from the first on, are
@@ -28,7 +28,7 @@ fn reach_by(
     marks: &mut [u16],
     positive: bool,
 ) -> Reached
-    requires { ⌜ Cleared small (now rows) (now heads) ⌝ ∗ ⌜ Room small (length (now indices)) (now links) ⌝ ∗ ⌜ AllNumbered (length (readPoints (now points))) (now indices) ⌝ ∗ ⌜ length (readPoints (now points)) ≤ vertices small (now heads) ⌝ ∗ ⌜ (length (now indices) < 65536) × Blank (now marks) ⌝ }
+    requires { ⌜ EmptyTable small (now rows) (now heads) ⌝ ∗ ⌜ Room small (length (now indices)) (now links) ⌝ ∗ ⌜ AllNumbered (length (readPoints (now points))) (now indices) ⌝ ∗ ⌜ length (readPoints (now points)) ≤ vertices small (now heads) ⌝ ∗ ⌜ (length (now indices) < 65536) × Blank (now marks) ⌝ }
     ensures { λ r. ⌜ Shown positive (readPoints (now (outline .entry))) (readPoints (now (points .entry))) (readTriangles (now (indices .entry))) r ⌝ }
 {
     let once = half_edges::filling::fill(indices, small, rows, heads, links);

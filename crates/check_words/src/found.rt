@@ -1,23 +1,23 @@
 // Answers as numbers with two places, and how they are written to the caller's memory.
 ghost use mathlib.Core.Path.{_≡_};
 ghost use mathlib.Core.List.{[], _∷_};
-ghost use Rattle.check_meaning.specs.Numbers.{toldVerdict};
+ghost use Rattle.check_meaning.specs.Numbers.{verdictCode};
 ghost use Rattle.check_words.specs.Founds.{Finds};
 use call_answers::reply::Reply;
 use check_verdict::Verdict;
 
 // A place that the answer lacks is 0.
-pub struct Found {
+pub struct PlacedReply {
     pub number: u32,
     pub first: u64,
     pub second: u64,
 }
 
 // A number with places.
-fn told(number: u32, first: usize, second: usize) -> Found
+fn told(number: u32, first: usize, second: usize) -> PlacedReply
     ensures { λ r. ⌜ (r .number ≡ number) × (r .first ≡ first) × (r .second ≡ second) ⌝ }
 {
-    Found {
+    PlacedReply {
         number,
         first: first as u64,
         second: second as u64,
@@ -25,14 +25,14 @@ fn told(number: u32, first: usize, second: usize) -> Found
 }
 
 // Returns a refusal's number and values.
-pub fn of_reply(reply: Reply) -> Found
+pub fn of_reply(reply: Reply) -> PlacedReply
     ensures { λ r. ⌜ (r .number ≡ reply .number) × (r .first ≡ reply .first) × (r .second ≡ reply .second) ⌝ }
 {
     told(reply.number, reply.first as usize, reply.second as usize)
 }
 
-pub fn of_verdict(verdict: Verdict) -> Found
-    ensures { λ r. ⌜ Finds (toldVerdict verdict) r ⌝ }
+pub fn of_verdict(verdict: Verdict) -> PlacedReply
+    ensures { λ r. ⌜ Finds (verdictCode verdict) r ⌝ }
 {
     match verdict {
         Verdict::Accepted => told(0, 0, 0),
@@ -52,7 +52,7 @@ pub fn of_verdict(verdict: Verdict) -> Found
 }
 
 // Writes both places, whatever the answer is.
-pub fn say(found: Found, places: &mut [u64; 2]) -> u32
+pub fn say(found: PlacedReply, places: &mut [u64; 2]) -> u32
     ensures { λ r. ⌜ r ≡ found .number ⌝ ∗ ⌜ now (places .exit) ≡ found .first ∷ found .second ∷ [] ⌝ }
 {
     *places = [found.first, found.second];

@@ -8,7 +8,7 @@ use native.Mathlib.Decide.{decLe}
 use Rattle.mesh_geometry.specs.declared.Point.{Point}
 use Rattle.mesh_geometry.specs.Faces.{at}
 use Rattle.check_searches.specs.Points.{samePoint}
-use Rattle.compare_differences.specs.Found.{Passed, Found}
+use Rattle.compare_differences.specs.Found.{Passed, PointFound}
 
 -- no point from number `from` up to i equals p
 pub record Open (ps : List Point) (from to : ℕ) (p : Point) (i : ℕ) : Type 0 where
@@ -33,9 +33,9 @@ pub open-done : (ps : List Point) (from to : ℕ) (p : Point) (i : ℕ) → Open
 open-done ps from to p i h l = record { least = h .least; most = h .most; there = λ m. absurd (omega arith); none = h .none }
 
 -- a point equal to p is found
-pub found-at : (ps : List Point) (count : ℕ) (p : Point) (r : ℕ) → r < count → samePoint (at ps r) p ≡ true → Found ps count p r
+pub found-at : (ps : List Point) (count : ℕ) (p : Point) (r : ℕ) → r < count → samePoint (at ps r) p ≡ true → PointFound ps count p r
 found-at ps count p r l e = record { most = omega arith; there = λ m. e; none = λ d. absurd (omega arith) }
 
 -- all points were tested
-pub found-all : (ps : List Point) (count : ℕ) (p : Point) (r : ℕ) → Passed ps 0 count p r → Found ps count p r
+pub found-all : (ps : List Point) (count : ℕ) (p : Point) (r : ℕ) → Passed ps 0 count p r → PointFound ps count p r
 found-all ps count p r h = record { most = h .most; there = h .there; none = λ e i l. h .none i (omega arith) (omega arith) }

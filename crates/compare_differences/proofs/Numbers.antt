@@ -20,11 +20,11 @@ use Rattle.check_searches.proofs.Read.{points-count, triangle-read}
 use Rattle.check_searches.proofs.Equal.{same-is, is-same}
 use Rattle.strip.specs.declared.triangle.Triangle.{Triangle}
 use Rattle.compare_differences.specs.declared.corners.Match.the-variants.{Corners, Missing}
-use Rattle.compare_differences.specs.Meshes.{Single, Indexed, sameFace}
-use Rattle.compare_differences.specs.Found.{Found, Cornered, Matched}
+use Rattle.compare_differences.specs.Meshes.{NoneRepeated, Indexed, sameFace}
+use Rattle.compare_differences.specs.Found.{PointFound, Cornered, Matched}
 
 -- no point equals an earlier point
-pub single-before : (pw : List ℕ) → Single pw → (i j : ℕ) → i < j → j < length (readPoints pw) → samePoint (at (readPoints pw) i) (at (readPoints pw) j) ≡ false
+pub single-before : (pw : List ℕ) → NoneRepeated pw → (i j : ℕ) → i < j → j < length (readPoints pw) → samePoint (at (readPoints pw) i) (at (readPoints pw) j) ≡ false
 unfolding firstRepeated
 single-before pw h i j l m = some-all _ j (first-all _ _ (h .is) j m) i l
 
@@ -33,7 +33,7 @@ test-false true h = absurd (h refl)
 test-false false h = refl
 
 -- no two points are equal
-apart : (pw : List ℕ) → Single pw → (i x : ℕ) → i < length (readPoints pw) → x < length (readPoints pw) → (i ≡ x → ⊥)
+apart : (pw : List ℕ) → NoneRepeated pw → (i x : ℕ) → i < length (readPoints pw) → x < length (readPoints pw) → (i ≡ x → ⊥)
     → samePoint (at (readPoints pw) i) (at (readPoints pw) x) ≡ false
 apart pw h i x l m n = elim (decLe i x) [
   | yes q ↦ single-before pw h i x (lower i x q n) m
@@ -44,7 +44,7 @@ apart pw h i x l m n = elim (decLe i x) [
     lower i x l n = elim (decLe x i) [ yes q ↦ absurd (n (omega arith)) | no q ↦ omega arith ]
 
 -- points i and x are equal exactly if i is x
-pub number-is : (pw : List ℕ) → Single pw → (i x : ℕ) (p : Point) → i < length (readPoints pw) → x < length (readPoints pw)
+pub number-is : (pw : List ℕ) → NoneRepeated pw → (i x : ℕ) (p : Point) → i < length (readPoints pw) → x < length (readPoints pw)
     → samePoint (at (readPoints pw) x) p ≡ true → samePoint (at (readPoints pw) i) p ≡ eqb i x
 number-is pw h i x p l m e = rw (← same-is (at (readPoints pw) x) p e) (elim (decLe i x) [
   | yes q ↦ elim (decLe x i) [
@@ -60,7 +60,7 @@ pub record Lies (ps : List Point) (s : Triangle) (f : Face) : Type 0 where
   pub q : samePoint (at ps (s .b)) (f .q) ≡ true
   pub r : samePoint (at ps (s .c)) (f .r) ≡ true
 
-pub numbers-same : (pw : List ℕ) → Single pw → (t s : Triangle) (f : Face) → Cornered (length (readPoints pw)) t → Cornered (length (readPoints pw)) s
+pub numbers-same : (pw : List ℕ) → NoneRepeated pw → (t s : Triangle) (f : Face) → Cornered (length (readPoints pw)) t → Cornered (length (readPoints pw)) s
     → Lies (readPoints pw) s f → sameFace (faceOf (at (readPoints pw)) t) f ≡ sameTriangle t s
 unfolding sameTriangle
 numbers-same pw h t s f m n l = rw (
@@ -81,12 +81,12 @@ lies-itself ps t = record { p = is-same (at ps (t .a)) (at ps (t .a)) refl; q = 
 
 -- ---- the corners of f among the first `count` points, which are all that an index can refer to
 module _ (pw : List ℕ) (count : ℕ) (f : Face) where
-  there : (p q : Point) (r : ℕ) → Found (readPoints pw) count p r → p ≡ q → r < count → samePoint (at (readPoints pw) r) q ≡ true
+  there : (p q : Point) (r : ℕ) → PointFound (readPoints pw) count p r → p ≡ q → r < count → samePoint (at (readPoints pw) r) q ≡ true
   there p q r h e l = rw (← e) (h .there l)
 
   -- all three corners are found
-  pub match-found : (p q r : Point) (x y z : ℕ) → Single pw → count ≤ length pw / 3 → count ≤ 65536 → Found (readPoints pw) count p x
-      → Found (readPoints pw) count q y → Found (readPoints pw) count r z → p ≡ f .p → q ≡ f .q → r ≡ f .r → x < count → y < count → z < count
+  pub match-found : (p q r : Point) (x y z : ℕ) → NoneRepeated pw → count ≤ length pw / 3 → count ≤ 65536 → PointFound (readPoints pw) count p x
+      → PointFound (readPoints pw) count q y → PointFound (readPoints pw) count r z → p ≡ f .p → q ≡ f .q → r ≡ f .r → x < count → y < count → z < count
       → Matched (readPoints pw) f (Corners (record { a = x; b = y; c = z }))
   match-found p q r x y z s least small hx hy hz ep eq er lx ly lz =
       let n = points-count pw in
@@ -97,7 +97,7 @@ module _ (pw : List ℕ) (count : ℕ) (f : Face) where
       }
 
   -- a corner is missing, so no triangle has it
-  module _ (cap : (i : ℕ) → i < length pw / 3 → i < 65536 → i < count) (p : Point) (r : ℕ) (h : Found (readPoints pw) count p r) (l : count ≤ r) where
+  module _ (cap : (i : ℕ) → i < length pw / 3 → i < 65536 → i < count) (p : Point) (r : ℕ) (h : PointFound (readPoints pw) count p r) (l : count ≤ r) where
     none : (q : Point) → p ≡ q → (i : ℕ) → i < length (readPoints pw) → i < 65536 → samePoint (at (readPoints pw) i) q ≡ false
     none q e i m k = rw (← e) (h .none (omega (arith, h .most)) i (cap i (omega (arith, points-count pw)) k))
 

@@ -4,7 +4,7 @@ use mathlib.Core.Path.{_≡_, refl, ap}
 use mathlib.Core.Bool.{Bool, true, false, not, _&&_}
 use native.Mathlib.Omega.{arith}
 use lib.Dec.{ltb}
-use Rattle.check_searches.specs.First.{first, some}
+use Rattle.check_searches.specs.First.{first, someBelow}
 use Rattle.mesh_geometry.specs.Cover.{Face}
 use Rattle.compare_differences.specs.Meshes.{sameCorners, sameFace}
 use Rattle.compare_differences.specs.Lacking.{Row, among, lacks}
@@ -15,7 +15,7 @@ unfolding first
 first-same f g zero h = refl
 first-same f g (suc n) h = rw (h 0 (omega arith), first-same (λ i. f (suc i)) (λ i. g (suc i)) n (λ i l. h (suc i) (omega arith)))
 
-pub some-same : (f g : ℕ → Bool) (n : ℕ) → ((i : ℕ) → i < n → f i ≡ g i) → some f n ≡ some g n
+pub some-same : (f g : ℕ → Bool) (n : ℕ) → ((i : ℕ) → i < n → f i ≡ g i) → someBelow f n ≡ someBelow g n
 some-same f g n h = ap (λ (k : ℕ). ltb k n) (first-same f g n h)
 
 -- equal corners in the same order make the same triangle

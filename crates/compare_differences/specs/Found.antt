@@ -7,7 +7,7 @@ use lib.ListN.{length}
 use Rattle.mesh_geometry.specs.declared.Point.{Point}
 use Rattle.mesh_geometry.specs.Cover.{Face}
 use Rattle.mesh_geometry.specs.Faces.{at, faceOf}
-use Rattle.check_searches.specs.First.{some}
+use Rattle.check_searches.specs.First.{someBelow}
 use Rattle.check_searches.specs.Points.{samePoint}
 use Rattle.check_searches.specs.Triangles.{triangleAt}
 use Rattle.check_side_searches.specs.Same.{sameTriangle}
@@ -25,7 +25,7 @@ pub record Passed (ps : List Point) (from to : ℕ) (p : Point) (r : ℕ) : Type
   pub none : (i : ℕ) → from ≤ i → i < r → samePoint (at ps i) p ≡ false
 
 -- r is the number of a point that equals p, or `count` if none of the first `count` points does
-pub record Found (ps : List Point) (count : ℕ) (p : Point) (r : ℕ) : Type 0 where
+pub record PointFound (ps : List Point) (count : ℕ) (p : Point) (r : ℕ) : Type 0 where
   pub most : r ≤ count
   pub there : r < count → samePoint (at ps r) p ≡ true
   pub none : r ≡ count → (i : ℕ) → i < count → samePoint (at ps i) p ≡ false
@@ -50,7 +50,7 @@ pub record Matched (ps : List Point) (f : Face) (m : Match) : Type 0 where
 
 -- whether one of the triangles is t, up to rotation
 abbrev pub someTriangle : List Triangle → Triangle → Bool
-someTriangle ts t = some (λ i. sameTriangle (triangleAt ts i) t) (length ts)
+someTriangle ts t = someBelow (λ i. sameTriangle (triangleAt ts i) t) (length ts)
 
 -- triangle k of ys has the same corners in the same order as triangle k of xs
 pub record InPlace (xs ys : Row Face) (k : ℕ) : Type 0 where

@@ -3,7 +3,7 @@ use Prim.Native.Nat.{ℕ}
 use mathlib.Core.Bool.{Bool, cond, not, _&&_}
 use mathlib.Core.List.{List, [], _∷_}
 use Rattle.buffer.specs.Over.{flat}
-use Rattle.check_searches.specs.First.{some}
+use Rattle.check_searches.specs.First.{someBelow}
 
 -- a list as its length and its entries by number
 pub record Row (A : Type 0) : Type 0 where
@@ -16,7 +16,7 @@ passing t n = flat (λ k. cond (t k) (k ∷ []) []) 0 n
 
 -- whether one of the first n entries is the same as x
 abbrev pub among : {A : Type 0} → (A → A → Bool) → Row A → ℕ → A → Bool
-among same xs n x = some (λ i. same (xs .entry i) x) n
+among same xs n x = someBelow (λ i. same (xs .entry i) x) n
 
 -- whether entry k of xs is not in ys, and not earlier in xs
 abbrev pub lacks : {A : Type 0} → (A → A → Bool) → Row A → Row A → ℕ → Bool

@@ -18,16 +18,16 @@ pub record Mesh : Type 0 where
   pub faces : Row Face
 
 -- the points that words hold
-abbrev pub pointsIn : List ℕ → Row Point
-pointsIn pw = record { count = length (readPoints pw); entry = at (readPoints pw) }
+abbrev pub pointRow : List ℕ → Row Point
+pointRow pw = record { count = length (readPoints pw); entry = at (readPoints pw) }
 
 -- the triangles that point words and index words hold
-abbrev pub facesIn : List ℕ → List ℕ → Row Face
-facesIn pw iw = record { count = length (readTriangles iw); entry = λ k. faceOf (at (readPoints pw)) (triangleAt (readTriangles iw) k) }
+abbrev pub faceRow : List ℕ → List ℕ → Row Face
+faceRow pw iw = record { count = length (readTriangles iw); entry = λ k. faceOf (at (readPoints pw)) (triangleAt (readTriangles iw) k) }
 
 -- the mesh that point words and index words hold
 abbrev pub readMesh : List ℕ → List ℕ → Mesh
-readMesh pw iw = record { points = pointsIn pw; faces = facesIn pw iw }
+readMesh pw iw = record { points = pointRow pw; faces = faceRow pw iw }
 
 -- the triangles have equal corners in the same order
 abbrev pub sameCorners : Face → Face → Bool
@@ -42,7 +42,7 @@ abbrev pub sameFace : Face → Face → Bool
 sameFace f g = sameCorners f g || sameCorners f (rotated g) || sameCorners f (rotated (rotated g))
 
 -- no two points are equal
-pub record Single (pw : List ℕ) : Type 0 where
+pub record NoneRepeated (pw : List ℕ) : Type 0 where
   pub is : firstRepeated (readPoints pw) ≡ length (readPoints pw)
 
 -- every index is the number of a point
@@ -50,6 +50,6 @@ pub record Indexed (pw iw : List ℕ) : Type 0 where
   pub each : (k : ℕ) → k < length iw → getD iw k 0 < length (readPoints pw)
 
 -- the mesh can be compared
-pub record Good (pw iw : List ℕ) : Type 0 where
-  pub single : Single pw
+pub record DistinctAndNumbered (pw iw : List ℕ) : Type 0 where
+  pub single : NoneRepeated pw
   pub indexed : Indexed pw iw

@@ -4,7 +4,7 @@ ghost use Prim.Native.Nat.{_/_, _≤_, _<_, ℕ};
 ghost use lib.ListN.{length};
 ghost use Rattle.mesh_geometry.specs.Faces.{at, faceOf};
 ghost use Rattle.mesh_geometry.specs.Words.{readPoints, readTriangles};
-ghost use Rattle.compare_differences.specs.Meshes.{Single};
+ghost use Rattle.compare_differences.specs.Meshes.{NoneRepeated};
 ghost use Rattle.compare_differences.specs.Found.{Cornered, Matched, someTriangle};
 use crate::point::find_point;
 use crate::window::window_end;
@@ -32,7 +32,7 @@ fn numbered(points: &[u32]) -> usize
 
 // Returns the corners of triangle t among the points of the other mesh.
 pub(crate) fn match_corners(points: &[u32], t: Triangle, others: &[u32]) -> Match
-    requires { ⌜ Cornered (length (now points) / 3) t ⌝ ∗ ⌜ Single (now others) ⌝ }
+    requires { ⌜ Cornered (length (now points) / 3) t ⌝ ∗ ⌜ NoneRepeated (now others) ⌝ }
     ensures { λ m. ⌜ Matched (readPoints (now (others .entry))) (faceOf (at (readPoints (now (points .entry)))) t) m ⌝ }
 {
     let count = numbered(others);

@@ -4,7 +4,7 @@ ghost use mathlib.Core.Bool.{true};
 ghost use Prim.Native.Nat.{_/_, _<_};
 ghost use lib.ListN.{length};
 ghost use Rattle.check_searches.specs.Points.{samePoint};
-ghost use Rattle.compare_differences.specs.Meshes.{Indexed, pointsIn, facesIn};
+ghost use Rattle.compare_differences.specs.Meshes.{Indexed, pointRow, faceRow};
 ghost use Rattle.compare_differences.specs.Found.{InPlace};
 use check_searches::point::point_at;
 use check_searches::point::same_point;
@@ -13,7 +13,7 @@ use check_searches::triangle::triangle_at;
 // Whether point x of one list equals point y of another.
 fn same_place(points: &[u32], x: u16, others: &[u32], y: u16) -> bool
     requires { ⌜ x < length (now points) / 3 ⌝ ∗ ⌜ y < length (now others) / 3 ⌝ }
-    ensures { λ z. ⌜ z ≡ samePoint (pointsIn (now (others .entry)) .entry y) (pointsIn (now (points .entry)) .entry x) ⌝ }
+    ensures { λ z. ⌜ z ≡ samePoint (pointRow (now (others .entry)) .entry y) (pointRow (now (points .entry)) .entry x) ⌝ }
 {
     same_point(point_at(others, y as usize), point_at(points, x as usize))
 }
@@ -27,7 +27,7 @@ pub(crate) fn is_in_place(
     other_indices: &[u16],
 ) -> bool
     requires { ⌜ k < length (now indices) / 3 ⌝ ∗ ⌜ Indexed (now points) (now indices) ⌝ ∗ ⌜ Indexed (now «other_points») (now «other_indices») ⌝ }
-    ensures { λ z. ⌜ (z ≡ true → InPlace (facesIn (now (points .entry)) (now (indices .entry))) (facesIn (now («other_points» .entry)) (now («other_indices» .entry))) k) ⌝ }
+    ensures { λ z. ⌜ (z ≡ true → InPlace (faceRow (now (points .entry)) (now (indices .entry))) (faceRow (now («other_points» .entry)) (now («other_indices» .entry))) k) ⌝ }
 {
     if k < other_indices.len() / 3 {
         let s = triangle_at(indices, k);

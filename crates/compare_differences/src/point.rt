@@ -5,7 +5,7 @@ ghost use lib.ListN.{length};
 ghost use Rattle.mesh_geometry.specs.Faces.{at};
 ghost use Rattle.mesh_geometry.specs.Words.{readPoints};
 ghost use Rattle.check_searches.specs.Points.{samePoint};
-ghost use Rattle.compare_differences.specs.Found.{Passed, Found};
+ghost use Rattle.compare_differences.specs.Found.{Passed, PointFound};
 use crate::window::window_end;
 use crate::window::window_start;
 use check_searches::point::point_at;
@@ -42,7 +42,7 @@ fn first_in(points: &[u32], from: usize, to: usize, p: Point) -> usize
 // Returns a point that equals p and is near number `near`, else the first of the first `count` points that does, else `count`.
 fn find_far(points: &[u32], count: usize, near: usize, p: Point) -> usize
     requires { ⌜ count ≤ length (now points) / 3 ⌝ }
-    ensures { λ r. ⌜ Found (readPoints (now (points .entry))) count p r ⌝ }
+    ensures { λ r. ⌜ PointFound (readPoints (now (points .entry))) count p r ⌝ }
 {
     let from = window_start(near, count);
     let to = window_end(from, count);
@@ -56,7 +56,7 @@ fn find_far(points: &[u32], count: usize, near: usize, p: Point) -> usize
 // Returns a point that equals p among the first `count`, or `count`; number `near` is tested first.
 pub(crate) fn find_point(points: &[u32], count: usize, near: usize, p: Point) -> usize
     requires { ⌜ count ≤ length (now points) / 3 ⌝ }
-    ensures { λ r. ⌜ Found (readPoints (now (points .entry))) count p r ⌝ }
+    ensures { λ r. ⌜ PointFound (readPoints (now (points .entry))) count p r ⌝ }
 {
     if count <= near {
         return find_far(points, count, near, p);

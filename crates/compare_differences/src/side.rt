@@ -6,7 +6,7 @@ ghost use Rattle.mesh_geometry.specs.Faces.{at, faceOf};
 ghost use Rattle.mesh_geometry.specs.Words.{readPoints};
 ghost use Rattle.check_searches.specs.Points.{samePoint};
 ghost use Rattle.compare_differences.specs.Lacking.{among, lacks};
-ghost use Rattle.compare_differences.specs.Meshes.{Single, Good, pointsIn, facesIn, sameFace};
+ghost use Rattle.compare_differences.specs.Meshes.{NoneRepeated, DistinctAndNumbered, pointRow, faceRow, sameFace};
 ghost use Rattle.compare_differences.specs.Found.{Cornered};
 use crate::corners::Match;
 use crate::corners::has_triangle;
@@ -20,8 +20,8 @@ use strip::triangle::Triangle;
 
 // Whether point k is not among the other mesh's points.
 pub fn lacks_point(points: &[u32], k: usize, others: &[u32]) -> bool
-    requires { ⌜ k < length (now points) / 3 ⌝ ∗ ⌜ Single (now points) ⌝ }
-    ensures { λ r. ⌜ r ≡ lacks samePoint (pointsIn (now (points .entry))) (pointsIn (now (others .entry))) k ⌝ }
+    requires { ⌜ k < length (now points) / 3 ⌝ ∗ ⌜ NoneRepeated (now points) ⌝ }
+    ensures { λ r. ⌜ r ≡ lacks samePoint (pointRow (now (points .entry))) (pointRow (now (others .entry))) k ⌝ }
 {
     let count = others.len() / 3;
     if find_point(others, count, k, point_at(points, k)) < count {
@@ -38,8 +38,8 @@ fn has_face(
     other_points: &[u32],
     other_indices: &[u16],
 ) -> bool
-    requires { ⌜ Cornered (length (now points) / 3) t ⌝ ∗ ⌜ Good (now «other_points») (now «other_indices») ⌝ }
-    ensures { λ r. ⌜ r ≡ among sameFace (facesIn (now («other_points» .entry)) (now («other_indices» .entry))) (facesIn (now («other_points» .entry)) (now («other_indices» .entry)) .count) (faceOf (at (readPoints (now (points .entry)))) t) ⌝ }
+    requires { ⌜ Cornered (length (now points) / 3) t ⌝ ∗ ⌜ DistinctAndNumbered (now «other_points») (now «other_indices») ⌝ }
+    ensures { λ r. ⌜ r ≡ among sameFace (faceRow (now («other_points» .entry)) (now («other_indices» .entry))) (faceRow (now («other_points» .entry)) (now («other_indices» .entry)) .count) (faceOf (at (readPoints (now (points .entry)))) t) ⌝ }
 {
     let found = match_corners(points, t, other_points);
     if let Match::Corners(s) = found {
@@ -56,8 +56,8 @@ pub fn lacks_face(
     other_points: &[u32],
     other_indices: &[u16],
 ) -> bool
-    requires { ⌜ k < length (now indices) / 3 ⌝ ∗ ⌜ Good (now points) (now indices) ⌝ ∗ ⌜ Good (now «other_points») (now «other_indices») ⌝ }
-    ensures { λ r. ⌜ r ≡ lacks sameFace (facesIn (now (points .entry)) (now (indices .entry))) (facesIn (now («other_points» .entry)) (now («other_indices» .entry))) k ⌝ }
+    requires { ⌜ k < length (now indices) / 3 ⌝ ∗ ⌜ DistinctAndNumbered (now points) (now indices) ⌝ ∗ ⌜ DistinctAndNumbered (now «other_points») (now «other_indices») ⌝ }
+    ensures { λ r. ⌜ r ≡ lacks sameFace (faceRow (now (points .entry)) (now (indices .entry))) (faceRow (now («other_points» .entry)) (now («other_indices» .entry))) k ⌝ }
 {
     if is_in_place(k, points, indices, other_points, other_indices) {
         return false;

@@ -9,7 +9,7 @@ use lib.ListN.{length, getD}
 use Rattle.compare_meshes.specs.declared.answer.Fault.the-variants.{NotThrees, UnknownIndex, EqualPoints}
 use Rattle.compare_meshes.specs.declared.answer.Comparison.{Comparison}
 use Rattle.compare_meshes.specs.declared.answer.Comparison.the-variants.{Differences, NoRoom, LeftRefused, RightRefused}
-use Rattle.compare_meshes.specs.Answers.{told, verdict}
+use Rattle.compare_meshes.specs.Answers.{comparisonCode, compareVerdict}
 use Rattle.call_answers.specs.Replies.{oneWord}
 use Rattle.compare_sameness.specs.Refusals.{AnswerMeans}
 use Rattle.compare_sameness.proofs.Exactly.{answer-means, means-answer, same-told, told-same}
@@ -28,10 +28,10 @@ answerIn n c =
     (cond (eqb n 44) (RightRefused NotThrees) (cond (eqb n 45) (RightRefused UnknownIndex) (RightRefused EqualPoints)))))))
 
 abbrev numberOf : Comparison → ℕ
-numberOf a = told a .number
+numberOf a = comparisonCode a .number
 
 abbrev wordsOf : Comparison → List ℕ
-wordsOf a = oneWord (told a .values)
+wordsOf a = oneWord (comparisonCode a .values)
 
 same-answer : (a : Comparison) → answerIn (numberOf a) (wordsOf a) ≡ a
 same-answer (Differences n) = refl
@@ -44,7 +44,7 @@ same-answer (RightRefused UnknownIndex) = refl
 same-answer (RightRefused EqualPoints) = refl
 
 module _ (lp li rp ri : List ℕ) where
-  exactly : (room : ℕ) (a : Comparison) → verdict lp li rp ri room ≡ a ↔ AnswerMeans a lp li rp ri room
+  exactly : (room : ℕ) (a : Comparison) → compareVerdict lp li rp ri room ≡ a ↔ AnswerMeans a lp li rp ri room
   exactly room a = (λ e. rw e at (answer-means lp li rp ri room), means-answer lp li rp ri room a)
 
   pub compare-call-exactly : {xs xs′ c′ : List ℕ} {r : ℕ} → CompareCalled lp li rp ri xs xs′ c′ r → CompareExactly lp li rp ri (length xs) c′ r

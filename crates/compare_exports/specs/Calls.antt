@@ -5,20 +5,20 @@ use mathlib.Core.Path.{_≡_}
 use mathlib.Core.List.{List, [], _∷_}
 use mathlib.Core.Logic.{_↔_}
 use lib.ListN.{length, getD}
-use Rattle.answer_codes.specs.Told.{Told}
-use Rattle.draw_exports.specs.Calls.{Called}
+use Rattle.answer_codes.specs.AnswerCode.{AnswerCode}
+use Rattle.draw_exports.specs.Calls.{ListCalled}
 use Rattle.call_answers.specs.Replies.{oneWord}
 use Rattle.answer_codes.specs.Reports.{AnsweredExactly}
 use Rattle.compare_differences.specs.Meshes.{readMesh}
 use Rattle.compare_differences.specs.Differences.{differences, words}
-use Rattle.compare_meshes.specs.Answers.{verdict, told}
+use Rattle.compare_meshes.specs.Answers.{compareVerdict, comparisonCode}
 use Rattle.compare_meshes.specs.declared.answer.Fault.{Fault}
 use Rattle.compare_meshes.specs.declared.answer.Fault.the-variants.{NotThrees, UnknownIndex, EqualPoints}
 use Rattle.compare_meshes.specs.declared.answer.Comparison.{Comparison}
 use Rattle.compare_meshes.specs.declared.answer.Comparison.the-variants.{Differences, NoRoom, LeftRefused, RightRefused}
 use Rattle.compare_sameness.specs.Same.{SameMesh}
 use Rattle.compare_sameness.specs.Refusals.{Comparable, AnswerMeans}
-use Rattle.compare_exports.specs.declared.reply.Reply.{Reply}
+use Rattle.compare_exports.specs.declared.reply.CountReply.{CountReply}
 
 -- the position of a fault among the three numbers of its side
 abbrev pub shiftOf : Fault → ℕ
@@ -27,18 +27,18 @@ shiftOf UnknownIndex = 1
 shiftOf EqualPoints = 2
 
 -- the number of an answer and its value, 0 if it has no value
-abbrev pub replyOf : Told → Reply
-replyOf t = record { number = t .number; count = getD (t .values) 0 0 }
+abbrev pub comparisonReply : AnswerCode → CountReply
+comparisonReply t = record { number = t .number; count = getD (t .values) 0 0 }
 
 -- the contract: the number and the count of the answer; for 0 the list begins with the differences, else it is unchanged
 abbrev pub CompareCalled : List ℕ → List ℕ → List ℕ → List ℕ → List ℕ → List ℕ → List ℕ → ℕ → Type 0
 CompareCalled lp li rp ri xs xs′ c′ r =
-    Called (told (verdict lp li rp ri (length xs))) (words (differences (readMesh lp li) (readMesh rp ri))) xs xs′ c′ r
+    ListCalled (comparisonCode (compareVerdict lp li rp ri (length xs))) (words (differences (readMesh lp li) (readMesh rp ri))) xs xs′ c′ r
 
 -- when the call gives each number, for a list of `room` words, and which count it leaves
 pub record CompareExactly (lp li rp ri : List ℕ) (room : ℕ) (c′ : List ℕ) (r : ℕ) : Type 0 where
   -- each answer is given, by number and count, exactly if it is right
-  pub answers : AnsweredExactly (λ a. told a .number) (λ a. oneWord (told a .values)) (λ a. AnswerMeans a lp li rp ri room) c′ r
+  pub answers : AnsweredExactly (λ a. comparisonCode a .number) (λ a. oneWord (comparisonCode a .values)) (λ a. AnswerMeans a lp li rp ri room) c′ r
   -- the same for each number; 0 with the count 0: both meshes can be compared, and have the same points and triangles
   pub same : ((r ≡ 0) × (c′ ≡ 0 ∷ [])) ↔ (Comparable lp li × Comparable rp ri × SameMesh (readMesh lp li) (readMesh rp ri))
   pub compared : (r ≡ 0) ↔ AnswerMeans (Differences (getD c′ 0 0)) lp li rp ri room

@@ -7,8 +7,8 @@ ghost use lib.ListN.{length};
 ghost use Rattle.check_searches.specs.Points.{samePoint};
 ghost use Rattle.half_edge_chains.specs.Links.{Zeros};
 ghost use Rattle.compare_differences.specs.Lacking.{lacks};
-ghost use Rattle.compare_differences.specs.Meshes.{Good, pointsIn};
-ghost use Rattle.compare_table_flags.specs.Flags.{ManySides, Narrowed, missing, isFirst};
+ghost use Rattle.compare_differences.specs.Meshes.{DistinctAndNumbered, pointRow};
+ghost use Rattle.compare_table_flags.specs.Flags.{ManySides, Narrowed, noSameFace, isFirst};
 ghost use Rattle.compare_flags.specs.Sides.{Flaggable, FacesFlagged};
 use compare_table_flags::flag::flag_first;
 use compare_table_flags::flag::flag_missing;
@@ -118,8 +118,8 @@ pub(crate) fn flag_side(
     face_flags: &mut [u8],
     other_flags: &mut [u8],
 )
-    requires { ⌜ Good (now points) (now indices) × ManySides (now points) (now indices) ⌝ ∗ ⌜ Good (now others) (now «other_indices») × ManySides (now others) (now «other_indices») ⌝ ∗ ⌜ (length (now points) / 3 ≤ length (now «point_flags»)) × (length (now indices) / 3 ≤ length (now «face_flags»)) × (length (now «other_indices») / 3 ≤ length (now «other_flags»)) ⌝ }
-    ensures { λ r. ⌜ Narrowed (lacks samePoint (pointsIn (now (points .entry))) (pointsIn (now (others .entry)))) (length (now (points .entry)) / 3) (now («point_flags» .entry)) (now («point_flags» .exit)) ⌝ ∗ ⌜ Narrowed (missing (now (points .entry)) (now (indices .entry)) (now (others .entry)) (now («other_indices» .entry))) (length (now (indices .entry)) / 3) (now («face_flags» .entry)) (now («face_flags» .exit)) ⌝ ∗ ⌜ Narrowed (isFirst (now (others .entry)) (now («other_indices» .entry))) (length (now («other_indices» .entry)) / 3) (now («other_flags» .entry)) (now («other_flags» .exit)) ⌝ }
+    requires { ⌜ DistinctAndNumbered (now points) (now indices) × ManySides (now points) (now indices) ⌝ ∗ ⌜ DistinctAndNumbered (now others) (now «other_indices») × ManySides (now others) (now «other_indices») ⌝ ∗ ⌜ (length (now points) / 3 ≤ length (now «point_flags»)) × (length (now indices) / 3 ≤ length (now «face_flags»)) × (length (now «other_indices») / 3 ≤ length (now «other_flags»)) ⌝ }
+    ensures { λ r. ⌜ Narrowed (lacks samePoint (pointRow (now (points .entry))) (pointRow (now (others .entry)))) (length (now (points .entry)) / 3) (now («point_flags» .entry)) (now («point_flags» .exit)) ⌝ ∗ ⌜ Narrowed (noSameFace (now (points .entry)) (now (indices .entry)) (now (others .entry)) (now («other_indices» .entry))) (length (now (indices .entry)) / 3) (now («face_flags» .entry)) (now («face_flags» .exit)) ⌝ ∗ ⌜ Narrowed (isFirst (now (others .entry)) (now («other_indices» .entry))) (length (now («other_indices» .entry)) / 3) (now («other_flags» .entry)) (now («other_flags» .exit)) ⌝ }
 {
     let mut partners = [0u16; 8192];
     match_points(points, others, &mut partners);

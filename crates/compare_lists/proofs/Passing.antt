@@ -16,7 +16,7 @@ use Rattle.check_searches.proofs.First.{Below, some-here}
 use Rattle.check_searches.proofs.Equal.{is-same}
 use Rattle.check_searches.proofs.Read.{points-count, triangles-count}
 use Rattle.compare_differences.specs.Lacking.{Row, passing, lacks, lacking}
-use Rattle.compare_differences.specs.Meshes.{Mesh, readMesh, pointsIn, facesIn, sameFace}
+use Rattle.compare_differences.specs.Meshes.{Mesh, readMesh, pointRow, faceRow, sameFace}
 use Rattle.compare_differences.proofs.Tests.{lacks-found, in-order}
 use Rattle.compare_table_flags.specs.Flags.{isSet, Flagged}
 use Rattle.compare_table_flags.proofs.Tables.{flag-tells}
@@ -135,17 +135,17 @@ pub same-none : (lp li rp ri : List ℕ) → lp ≡ rp → li ≡ ri → 0 ≡ l
 same-none lp li rp ri e h = rw (e, h) (sym (ap length (differences-itself (readMesh rp ri))))
 
 -- ---- meshes given as words have no more differences than points and triangles
-few-points : (pw qw : List ℕ) → length (lacking samePoint (pointsIn pw) (pointsIn qw)) ≤ length pw / 3
-few-points pw qw = omega (arith, passing-most (lacks samePoint (pointsIn pw) (pointsIn qw)) (length (readPoints pw)), points-count pw)
+few-points : (pw qw : List ℕ) → length (lacking samePoint (pointRow pw) (pointRow qw)) ≤ length pw / 3
+few-points pw qw = omega (arith, passing-most (lacks samePoint (pointRow pw) (pointRow qw)) (length (readPoints pw)), points-count pw)
 
-few-faces : (pw iw qw jw : List ℕ) → length (lacking sameFace (facesIn pw iw) (facesIn qw jw)) ≤ length iw / 3
-few-faces pw iw qw jw = omega (arith, passing-most (lacks sameFace (facesIn pw iw) (facesIn qw jw)) (length (readTriangles iw)), triangles-count iw)
+few-faces : (pw iw qw jw : List ℕ) → length (lacking sameFace (faceRow pw iw) (faceRow qw jw)) ≤ length iw / 3
+few-faces pw iw qw jw = omega (arith, passing-most (lacks sameFace (faceRow pw iw) (faceRow qw jw)) (length (readTriangles iw)), triangles-count iw)
 
 pub record Few (pw iw qw jw : List ℕ) : Type 0 where
-  pub left-points : length (lacking samePoint (pointsIn pw) (pointsIn qw)) ≤ length pw / 3
-  pub right-points : length (lacking samePoint (pointsIn qw) (pointsIn pw)) ≤ length qw / 3
-  pub left-faces : length (lacking sameFace (facesIn pw iw) (facesIn qw jw)) ≤ length iw / 3
-  pub right-faces : length (lacking sameFace (facesIn qw jw) (facesIn pw iw)) ≤ length jw / 3
+  pub left-points : length (lacking samePoint (pointRow pw) (pointRow qw)) ≤ length pw / 3
+  pub right-points : length (lacking samePoint (pointRow qw) (pointRow pw)) ≤ length qw / 3
+  pub left-faces : length (lacking sameFace (faceRow pw iw) (faceRow qw jw)) ≤ length iw / 3
+  pub right-faces : length (lacking sameFace (faceRow qw jw) (faceRow pw iw)) ≤ length jw / 3
 
 pub few : (pw iw qw jw : List ℕ) → Few pw iw qw jw
 few pw iw qw jw = record {

@@ -6,7 +6,7 @@ ghost use lib.ListN.{length};
 ghost use Rattle.buffer.specs.Over.{Wrote};
 ghost use Rattle.check_searches.specs.Points.{samePoint};
 ghost use Rattle.compare_differences.specs.Lacking.{lacks};
-ghost use Rattle.compare_differences.specs.Meshes.{Single, Good, pointsIn, readMesh};
+ghost use Rattle.compare_differences.specs.Meshes.{NoneRepeated, DistinctAndNumbered, pointRow, readMesh};
 ghost use Rattle.compare_differences.specs.Differences.{pointDifferences, differences, words};
 ghost use Rattle.compare_table_flags.specs.Flags.{KnownFlags, MeshFlags};
 use crate::list::count_faces;
@@ -26,7 +26,7 @@ pub fn count_differences(
     right_point_flags: &[u8],
     right_face_flags: &[u8],
 ) -> usize
-    requires { ⌜ Good (now «left_points») (now «left_indices») ⌝ ∗ ⌜ Good (now «right_points») (now «right_indices») ⌝ ∗ ⌜ MeshFlags known (now «left_points») (now «left_indices») (now «right_points») (now «right_indices») (now «left_point_flags») (now «left_face_flags») (now «right_point_flags») (now «right_face_flags») ⌝ }
+    requires { ⌜ DistinctAndNumbered (now «left_points») (now «left_indices») ⌝ ∗ ⌜ DistinctAndNumbered (now «right_points») (now «right_indices») ⌝ ∗ ⌜ MeshFlags known (now «left_points») (now «left_indices») (now «right_points») (now «right_indices») (now «left_point_flags») (now «left_face_flags») (now «right_point_flags») (now «right_face_flags») ⌝ }
     ensures { λ n. ⌜ n ≡ length (differences (readMesh (now («left_points» .entry)) (now («left_indices» .entry))) (readMesh (now («right_points» .entry)) (now («right_indices» .entry)))) ⌝ }
 {
     let n0 = count_points(left_points, right_points, known, left_point_flags);
@@ -59,8 +59,8 @@ fn write_all_points(
     right_flags: &[u8],
     out: &mut [u64],
 ) -> usize
-    requires { ⌜ Single (now «left_points») × Single (now «right_points») ⌝ ∗ ⌜ KnownFlags known (lacks samePoint (pointsIn (now «left_points»)) (pointsIn (now «right_points»))) (length (now «left_points») / 3) (now «left_flags») ⌝ ∗ ⌜ KnownFlags known (lacks samePoint (pointsIn (now «right_points»)) (pointsIn (now «left_points»))) (length (now «right_points») / 3) (now «right_flags») ⌝ ∗ ⌜ length (words (pointDifferences 0 (pointsIn (now «left_points»)) (pointsIn (now «right_points»))) ++ words (pointDifferences 1 (pointsIn (now «right_points»)) (pointsIn (now «left_points»)))) ≤ length (now out) ⌝ }
-    ensures { λ r. ⌜ Wrote (now (out .entry)) 0 (words (pointDifferences 0 (pointsIn (now («left_points» .entry))) (pointsIn (now («right_points» .entry)))) ++ words (pointDifferences 1 (pointsIn (now («right_points» .entry))) (pointsIn (now («left_points» .entry))))) (now (out .exit)) r ⌝ }
+    requires { ⌜ NoneRepeated (now «left_points») × NoneRepeated (now «right_points») ⌝ ∗ ⌜ KnownFlags known (lacks samePoint (pointRow (now «left_points»)) (pointRow (now «right_points»))) (length (now «left_points») / 3) (now «left_flags») ⌝ ∗ ⌜ KnownFlags known (lacks samePoint (pointRow (now «right_points»)) (pointRow (now «left_points»))) (length (now «right_points») / 3) (now «right_flags») ⌝ ∗ ⌜ length (words (pointDifferences 0 (pointRow (now «left_points»)) (pointRow (now «right_points»))) ++ words (pointDifferences 1 (pointRow (now «right_points»)) (pointRow (now «left_points»)))) ≤ length (now out) ⌝ }
+    ensures { λ r. ⌜ Wrote (now (out .entry)) 0 (words (pointDifferences 0 (pointRow (now («left_points» .entry))) (pointRow (now («right_points» .entry)))) ++ words (pointDifferences 1 (pointRow (now («right_points» .entry))) (pointRow (now («left_points» .entry))))) (now (out .exit)) r ⌝ }
 {
     let w = write_points(out, 0, 0, left_points, right_points, known, left_flags);
     write_points(out, w, 1, right_points, left_points, known, right_flags)
@@ -79,7 +79,7 @@ pub fn write_differences(
     right_point_flags: &[u8],
     right_face_flags: &[u8],
 ) -> usize
-    requires { ⌜ Good (now «left_points») (now «left_indices») ⌝ ∗ ⌜ Good (now «right_points») (now «right_indices») ⌝ ∗ ⌜ MeshFlags known (now «left_points») (now «left_indices») (now «right_points») (now «right_indices») (now «left_point_flags») (now «left_face_flags») (now «right_point_flags») (now «right_face_flags») ⌝ ∗ ⌜ length (words (differences (readMesh (now «left_points») (now «left_indices»)) (readMesh (now «right_points») (now «right_indices»)))) ≤ length (now out) ⌝ }
+    requires { ⌜ DistinctAndNumbered (now «left_points») (now «left_indices») ⌝ ∗ ⌜ DistinctAndNumbered (now «right_points») (now «right_indices») ⌝ ∗ ⌜ MeshFlags known (now «left_points») (now «left_indices») (now «right_points») (now «right_indices») (now «left_point_flags») (now «left_face_flags») (now «right_point_flags») (now «right_face_flags») ⌝ ∗ ⌜ length (words (differences (readMesh (now «left_points») (now «left_indices»)) (readMesh (now «right_points») (now «right_indices»)))) ≤ length (now out) ⌝ }
     ensures { λ r. ⌜ Wrote (now (out .entry)) 0 (words (differences (readMesh (now («left_points» .entry)) (now («left_indices» .entry))) (readMesh (now («right_points» .entry)) (now («right_indices» .entry))))) (now (out .exit)) r ⌝ }
 {
     let w = write_all_points(

@@ -4,7 +4,7 @@ ghost use Prim.Native.Nat.{_/_, _<_};
 ghost use lib.ListN.{length};
 ghost use Rattle.check_searches.specs.Points.{samePoint};
 ghost use Rattle.compare_differences.specs.Lacking.{lacks};
-ghost use Rattle.compare_differences.specs.Meshes.{Single, Good, pointsIn, facesIn, sameFace};
+ghost use Rattle.compare_differences.specs.Meshes.{NoneRepeated, DistinctAndNumbered, pointRow, faceRow, sameFace};
 ghost use Rattle.compare_table_flags.specs.Flags.{KnownFlags};
 
 pub(crate) fn lacks_point(
@@ -14,8 +14,8 @@ pub(crate) fn lacks_point(
     known: bool,
     flags: &[u8],
 ) -> bool
-    requires { ⌜ k < length (now points) / 3 ⌝ ∗ ⌜ Single (now points) ⌝ ∗ ⌜ KnownFlags known (lacks samePoint (pointsIn (now points)) (pointsIn (now others))) (length (now points) / 3) (now flags) ⌝ }
-    ensures { λ r. ⌜ r ≡ lacks samePoint (pointsIn (now (points .entry))) (pointsIn (now (others .entry))) k ⌝ }
+    requires { ⌜ k < length (now points) / 3 ⌝ ∗ ⌜ NoneRepeated (now points) ⌝ ∗ ⌜ KnownFlags known (lacks samePoint (pointRow (now points)) (pointRow (now others))) (length (now points) / 3) (now flags) ⌝ }
+    ensures { λ r. ⌜ r ≡ lacks samePoint (pointRow (now (points .entry))) (pointRow (now (others .entry))) k ⌝ }
 {
     if known {
         return flags[k] == 1;
@@ -32,8 +32,8 @@ pub(crate) fn lacks_face(
     known: bool,
     flags: &[u8],
 ) -> bool
-    requires { ⌜ k < length (now indices) / 3 ⌝ ∗ ⌜ Good (now points) (now indices) ⌝ ∗ ⌜ Good (now «other_points») (now «other_indices») ⌝ ∗ ⌜ KnownFlags known (lacks sameFace (facesIn (now points) (now indices)) (facesIn (now «other_points») (now «other_indices»))) (length (now indices) / 3) (now flags) ⌝ }
-    ensures { λ r. ⌜ r ≡ lacks sameFace (facesIn (now (points .entry)) (now (indices .entry))) (facesIn (now («other_points» .entry)) (now («other_indices» .entry))) k ⌝ }
+    requires { ⌜ k < length (now indices) / 3 ⌝ ∗ ⌜ DistinctAndNumbered (now points) (now indices) ⌝ ∗ ⌜ DistinctAndNumbered (now «other_points») (now «other_indices») ⌝ ∗ ⌜ KnownFlags known (lacks sameFace (faceRow (now points) (now indices)) (faceRow (now «other_points») (now «other_indices»))) (length (now indices) / 3) (now flags) ⌝ }
+    ensures { λ r. ⌜ r ≡ lacks sameFace (faceRow (now (points .entry)) (now (indices .entry))) (faceRow (now («other_points» .entry)) (now («other_indices» .entry))) k ⌝ }
 {
     if known {
         return flags[k] == 1;

@@ -6,7 +6,7 @@ ghost use lib.ListN.{length};
 ghost use Rattle.buffer.specs.Over.{Wrote};
 ghost use Rattle.check_searches.specs.Points.{samePoint};
 ghost use Rattle.compare_differences.specs.Lacking.{passing, lacks, lacking};
-ghost use Rattle.compare_differences.specs.Meshes.{Single, Good, pointsIn, facesIn, sameFace};
+ghost use Rattle.compare_differences.specs.Meshes.{NoneRepeated, DistinctAndNumbered, pointRow, faceRow, sameFace};
 ghost use Rattle.compare_table_flags.specs.Flags.{isSet, KnownFlags};
 ghost use Rattle.compare_differences.specs.Differences.{wordsIf, pointDifferences, faceDifferences, words};
 use crate::ask::lacks_face;
@@ -34,8 +34,8 @@ fn count_set(flags: &[u8], count: usize) -> usize
 }
 
 pub(crate) fn count_points(points: &[u32], others: &[u32], known: bool, flags: &[u8]) -> usize
-    requires { ⌜ Single (now points) ⌝ ∗ ⌜ KnownFlags known (lacks samePoint (pointsIn (now points)) (pointsIn (now others))) (length (now points) / 3) (now flags) ⌝ }
-    ensures { λ n. ⌜ n ≡ length (lacking samePoint (pointsIn (now (points .entry))) (pointsIn (now (others .entry)))) ⌝ }
+    requires { ⌜ NoneRepeated (now points) ⌝ ∗ ⌜ KnownFlags known (lacks samePoint (pointRow (now points)) (pointRow (now others))) (length (now points) / 3) (now flags) ⌝ }
+    ensures { λ n. ⌜ n ≡ length (lacking samePoint (pointRow (now (points .entry))) (pointRow (now (others .entry)))) ⌝ }
 {
     let count = points.len() / 3;
     if known {
@@ -58,8 +58,8 @@ pub(crate) fn count_faces(
     known: bool,
     flags: &[u8],
 ) -> usize
-    requires { ⌜ Good (now points) (now indices) ⌝ ∗ ⌜ Good (now «other_points») (now «other_indices») ⌝ ∗ ⌜ KnownFlags known (lacks sameFace (facesIn (now points) (now indices)) (facesIn (now «other_points») (now «other_indices»))) (length (now indices) / 3) (now flags) ⌝ }
-    ensures { λ n. ⌜ n ≡ length (lacking sameFace (facesIn (now (points .entry)) (now (indices .entry))) (facesIn (now («other_points» .entry)) (now («other_indices» .entry)))) ⌝ }
+    requires { ⌜ DistinctAndNumbered (now points) (now indices) ⌝ ∗ ⌜ DistinctAndNumbered (now «other_points») (now «other_indices») ⌝ ∗ ⌜ KnownFlags known (lacks sameFace (faceRow (now points) (now indices)) (faceRow (now «other_points») (now «other_indices»))) (length (now indices) / 3) (now flags) ⌝ }
+    ensures { λ n. ⌜ n ≡ length (lacking sameFace (faceRow (now (points .entry)) (now (indices .entry))) (faceRow (now («other_points» .entry)) (now («other_indices» .entry)))) ⌝ }
 {
     let count = indices.len() / 3;
     if known {
@@ -103,8 +103,8 @@ pub(crate) fn write_points(
     known: bool,
     flags: &[u8],
 ) -> usize
-    requires { ⌜ Single (now points) ⌝ ∗ ⌜ KnownFlags known (lacks samePoint (pointsIn (now points)) (pointsIn (now others))) (length (now points) / 3) (now flags) ⌝ ∗ ⌜ at + length (words (pointDifferences side (pointsIn (now points)) (pointsIn (now others)))) ≤ length (now out) ⌝ }
-    ensures { λ r. ⌜ Wrote (now (out .entry)) at (words (pointDifferences side (pointsIn (now (points .entry))) (pointsIn (now (others .entry))))) (now (out .exit)) r ⌝ }
+    requires { ⌜ NoneRepeated (now points) ⌝ ∗ ⌜ KnownFlags known (lacks samePoint (pointRow (now points)) (pointRow (now others))) (length (now points) / 3) (now flags) ⌝ ∗ ⌜ at + length (words (pointDifferences side (pointRow (now points)) (pointRow (now others)))) ≤ length (now out) ⌝ }
+    ensures { λ r. ⌜ Wrote (now (out .entry)) at (words (pointDifferences side (pointRow (now (points .entry))) (pointRow (now (others .entry))))) (now (out .exit)) r ⌝ }
 {
     let count = points.len() / 3;
     let mut to = at;
@@ -134,8 +134,8 @@ pub(crate) fn write_faces(
     known: bool,
     flags: &[u8],
 ) -> usize
-    requires { ⌜ Good (now points) (now indices) ⌝ ∗ ⌜ Good (now «other_points») (now «other_indices») ⌝ ∗ ⌜ KnownFlags known (lacks sameFace (facesIn (now points) (now indices)) (facesIn (now «other_points») (now «other_indices»))) (length (now indices) / 3) (now flags) ⌝ ∗ ⌜ at + length (words (faceDifferences side (facesIn (now points) (now indices)) (facesIn (now «other_points») (now «other_indices»)))) ≤ length (now out) ⌝ }
-    ensures { λ r. ⌜ Wrote (now (out .entry)) at (words (faceDifferences side (facesIn (now (points .entry)) (now (indices .entry))) (facesIn (now («other_points» .entry)) (now («other_indices» .entry))))) (now (out .exit)) r ⌝ }
+    requires { ⌜ DistinctAndNumbered (now points) (now indices) ⌝ ∗ ⌜ DistinctAndNumbered (now «other_points») (now «other_indices») ⌝ ∗ ⌜ KnownFlags known (lacks sameFace (faceRow (now points) (now indices)) (faceRow (now «other_points») (now «other_indices»))) (length (now indices) / 3) (now flags) ⌝ ∗ ⌜ at + length (words (faceDifferences side (faceRow (now points) (now indices)) (faceRow (now «other_points») (now «other_indices»)))) ≤ length (now out) ⌝ }
+    ensures { λ r. ⌜ Wrote (now (out .entry)) at (words (faceDifferences side (faceRow (now (points .entry)) (now (indices .entry))) (faceRow (now («other_points» .entry)) (now («other_indices» .entry))))) (now (out .exit)) r ⌝ }
 {
     let count = indices.len() / 3;
     let mut to = at;

@@ -9,7 +9,7 @@ use lib.Dec.{ltb, leb, eqb}
 use borrow.Author.Tests.{lt-ltb, le-ltb, ltb-false, leb-false}
 use Rattle.buffer.proofs.Laws.{over-none}
 use Rattle.mesh_geometry.specs.Words.{readPoints}
-use Rattle.check_searches.specs.Indices.{firstUnknown}
+use Rattle.check_searches.specs.Indices.{firstUnknownIndex}
 use Rattle.check_searches.specs.Points.{repeats, firstRepeated}
 use Rattle.check_searches.proofs.First.{first-most, first-before}
 use Rattle.compare_meshes.specs.declared.answer.Fault.{Fault}
@@ -17,10 +17,10 @@ use Rattle.compare_meshes.specs.declared.answer.Fault.the-variants.{NotT
 use Rattle.compare_meshes.specs.declared.answer.Checked.the-variants.{Sound, Refused}
 use Rattle.compare_meshes.specs.declared.answer.Comparison.{Comparison}
 use Rattle.compare_meshes.specs.declared.answer.Comparison.the-variants.{Differences, NoRoom, LeftRefused, RightRefused}
-use Rattle.compare_differences.specs.Meshes.{readMesh, Good}
+use Rattle.compare_differences.specs.Meshes.{readMesh, DistinctAndNumbered}
 use Rattle.compare_differences.specs.Differences.{Difference, differences, words}
-use Rattle.compare_meshes.specs.Answers.{checked, counted, verdict, told, Listed, Compared}
-use Rattle.answer_codes.specs.Drew.{after}
+use Rattle.compare_meshes.specs.Answers.{checked, counted, compareVerdict, comparisonCode, DifferencesListed, Compared}
+use Rattle.answer_codes.specs.Drew.{listAfter}
 
 pub counted-short : (n k room : ℕ) → n ≡ k → room / 3 < n → NoRoom n ≡ counted k room
 counted-short n k room e h = rw (← e, lt-ltb room (3 * n) (omega arith))
@@ -29,18 +29,18 @@ pub counted-fits : (n k room : ℕ) → n ≡ k → n ≤ room / 3 → Differenc
 counted-fits n k room e h = rw (← e, le-ltb room (3 * n) (omega arith))
 
 -- no differences, and nothing to write
-pub listed-none : (ds : List Difference) (xs : List ℕ) (n : ℕ) → n ≡ length ds → n ≡ 0 → Listed ds xs xs (Differences 0)
+pub listed-none : (ds : List Difference) (xs : List ℕ) (n : ℕ) → n ≡ length ds → n ≡ 0 → DifferencesListed ds xs xs (Differences 0)
 unfolding words
 listed-none [] xs n e h = record { answer = counted-fits 0 0 (length xs) refl (omega arith); list = sym (over-none xs 0) }
 listed-none (d ∷ ds) xs n e h = absurd (omega arith)
 
 -- a refusal leaves the list unchanged
-left-untouched : (f : Fault) (xs ws : List ℕ) → xs ≡ after (told (LeftRefused f) .number) xs ws
+left-untouched : (f : Fault) (xs ws : List ℕ) → xs ≡ listAfter (comparisonCode (LeftRefused f) .number) xs ws
 left-untouched NotThrees xs ws = refl
 left-untouched UnknownIndex xs ws = refl
 left-untouched EqualPoints xs ws = refl
 
-right-untouched : (f : Fault) (xs ws : List ℕ) → xs ≡ after (told (RightRefused f) .number) xs ws
+right-untouched : (f : Fault) (xs ws : List ℕ) → xs ≡ listAfter (comparisonCode (RightRefused f) .number) xs ws
 right-untouched NotThrees xs ws = refl
 right-untouched UnknownIndex xs ws = refl
 right-untouched EqualPoints xs ws = refl
@@ -48,18 +48,18 @@ right-untouched EqualPoints xs ws = refl
 module _ (lp li rp ri xs : List ℕ) where
   -- the left mesh is refused
   pub refused-left : (f : Fault) → checked lp li ≡ Refused f → Compared lp li rp ri xs xs (LeftRefused f)
-  unfolding verdict
+  unfolding compareVerdict
   refused-left f e = record { answer = rw e; list = left-untouched f xs _ }
 
   -- the right mesh is refused
   pub refused-right : (f : Fault) → checked lp li ≡ Sound → checked rp ri ≡ Refused f → Compared lp li rp ri xs xs (RightRefused f)
-  unfolding verdict
+  unfolding compareVerdict
   refused-right f e h = record { answer = rw (e, h); list = right-untouched f xs _ }
 
   -- the differences are listed
   pub both-sound : (xs′ : List ℕ) (r : Comparison) → checked lp li ≡ Sound → checked rp ri ≡ Sound
-      → Listed (differences (readMesh lp li) (readMesh rp ri)) xs xs′ r → Compared lp li rp ri xs xs′ r
-  unfolding verdict
+      → DifferencesListed (differences (readMesh lp li) (readMesh rp ri)) xs xs′ r → Compared lp li rp ri xs xs′ r
+  unfolding compareVerdict
   both-sound xs′ r e h w = record { answer = w .answer ∙ rw (e, h); list = w .list }
 
 -- a mesh that is not refused can be compared
@@ -73,12 +73,12 @@ sound-tests true false true h = absurd (no-fault EqualPoints h)
 sound-tests true true e h = absurd (no-fault UnknownIndex h)
 sound-tests false d e h = absurd (no-fault NotThrees h)
 
-pub sound-good : (pw iw : List ℕ) → checked pw iw ≡ Sound → Good pw iw
-unfolding checked firstRepeated firstUnknown
+pub sound-good : (pw iw : List ℕ) → checked pw iw ≡ Sound → DistinctAndNumbered pw iw
+unfolding checked firstRepeated firstUnknownIndex
 sound-good pw iw h =
     let n = length (readPoints pw) in
-    let t = sound-tests (eqb (length pw % 3) 0 && eqb (length iw % 3) 0) (ltb (firstUnknown iw n) (length iw)) (ltb (firstRepeated (readPoints pw)) n) h in
-    let u = ltb-false (firstUnknown iw n) (length iw) (t .0) in
+    let t = sound-tests (eqb (length pw % 3) 0 && eqb (length iw % 3) 0) (ltb (firstUnknownIndex iw n) (length iw)) (ltb (firstRepeated (readPoints pw)) n) h in
+    let u = ltb-false (firstUnknownIndex iw n) (length iw) (t .0) in
     let v = ltb-false (firstRepeated (readPoints pw)) n (t .1) in
     record {
       single = record { is = omega (arith, first-most (repeats (readPoints pw)) n) };

@@ -6,10 +6,10 @@ use mathlib.Core.List.{List, [], _∷_}
 use lib.ListN.{length}
 use lib.Dec.{ltb, eqb}
 use Rattle.mesh_geometry.specs.Words.{readPoints}
-use Rattle.check_searches.specs.Indices.{firstUnknown}
+use Rattle.check_searches.specs.Indices.{firstUnknownIndex}
 use Rattle.check_searches.specs.Points.{firstRepeated}
-use Rattle.answer_codes.specs.Told.{Told, refused}
-use Rattle.answer_codes.specs.Drew.{after}
+use Rattle.answer_codes.specs.AnswerCode.{AnswerCode, refused}
+use Rattle.answer_codes.specs.Drew.{listAfter}
 use Rattle.compare_meshes.specs.declared.answer.Fault.{Fault}
 use Rattle.compare_meshes.specs.declared.answer.Fault.the-variants.{NotThrees, UnknownIndex, EqualPoints}
 use Rattle.compare_meshes.specs.declared.answer.Checked.{Checked}
@@ -24,48 +24,48 @@ use Rattle.compare_differences.specs.Differences.{Difference, differences, word
 unfoldable pub checked : List ℕ → List ℕ → Checked
 checked pw iw =
     cond (eqb (length pw % 3) 0 && eqb (length iw % 3) 0)
-    (cond (ltb (firstUnknown iw (length (readPoints pw))) (length iw)) (Refused UnknownIndex)
+    (cond (ltb (firstUnknownIndex iw (length (readPoints pw))) (length iw)) (Refused UnknownIndex)
     (cond (ltb (firstRepeated (readPoints pw)) (length (readPoints pw))) (Refused EqualPoints) Sound)) (Refused NotThrees)
 
 -- the refusal, if the mesh is refused, and the answer a otherwise
-abbrev pub unlessRefused : (Fault → Comparison) → Checked → Comparison → Comparison
-unlessRefused refusal Sound a = a
-unlessRefused refusal (Refused f) a = refusal f
+abbrev pub unlessFault : (Fault → Comparison) → Checked → Comparison → Comparison
+unlessFault refusal Sound a = a
+unlessFault refusal (Refused f) a = refusal f
 
 -- the answer for n differences and a list of `room` words
 abbrev pub counted : ℕ → ℕ → Comparison
 counted n room = cond (ltb room (3 * n)) (NoRoom n) (Differences n)
 
 -- the answer for a left and a right mesh and a list of `room` words: the left mesh is checked first
-unfoldable pub verdict : List ℕ → List ℕ → List ℕ → List ℕ → ℕ → Comparison
-verdict lp li rp ri room =
-    unlessRefused LeftRefused (checked lp li)
-    (unlessRefused RightRefused (checked rp ri) (counted (length (differences (readMesh lp li) (readMesh rp ri))) room))
+unfoldable pub compareVerdict : List ℕ → List ℕ → List ℕ → List ℕ → ℕ → Comparison
+compareVerdict lp li rp ri room =
+    unlessFault LeftRefused (checked lp li)
+    (unlessFault RightRefused (checked rp ri) (counted (length (differences (readMesh lp li) (readMesh rp ri))) room))
 
 -- the three refusals of one side, with the numbers n, n + 1 and n + 2
-abbrev pub toldFault : ℕ → Fault → Told
-toldFault n NotThrees = refused n
-toldFault n UnknownIndex = refused (n + 1)
-toldFault n EqualPoints = refused (n + 2)
+abbrev pub faultCode : ℕ → Fault → AnswerCode
+faultCode n NotThrees = refused n
+faultCode n UnknownIndex = refused (n + 1)
+faultCode n EqualPoints = refused (n + 2)
 
 -- 0 compared and 40 no room, with the number of differences; 41 to 43 if the left mesh is refused, 44 to 46 if the right mesh is
-abbrev pub told : Comparison → Told
-told (Differences n) = record { number = 0; values = n ∷ [] }
-told (NoRoom n) = record { number = 40; values = n ∷ [] }
-told (LeftRefused f) = toldFault 41 f
-told (RightRefused f) = toldFault 44 f
+abbrev pub comparisonCode : Comparison → AnswerCode
+comparisonCode (Differences n) = record { number = 0; values = n ∷ [] }
+comparisonCode (NoRoom n) = record { number = 40; values = n ∷ [] }
+comparisonCode (LeftRefused f) = faultCode 41 f
+comparisonCode (RightRefused f) = faultCode 44 f
 
 -- an operation answered r, which is `right`, and its list xs became xs′
-pub record Answered (right r : Comparison) (ws xs xs′ : List ℕ) : Type 0 where
+pub record ListAnswered (right r : Comparison) (ws xs xs′ : List ℕ) : Type 0 where
   pub answer : r ≡ right
   -- if compared, the list begins with the words and is unchanged after them; otherwise it is unchanged
-  pub list : xs′ ≡ after (told r .number) xs ws
+  pub list : xs′ ≡ listAfter (comparisonCode r .number) xs ws
 
 -- the contract of listing the differences ds
-abbrev pub Listed : List Difference → List ℕ → List ℕ → Comparison → Type 0
-Listed ds xs xs′ r = Answered (counted (length ds) (length xs)) r (words ds) xs xs′
+abbrev pub DifferencesListed : List Difference → List ℕ → List ℕ → Comparison → Type 0
+DifferencesListed ds xs xs′ r = ListAnswered (counted (length ds) (length xs)) r (words ds) xs xs′
 
 -- the contract of comparing a left and a right mesh, given as words
 abbrev pub Compared : List ℕ → List ℕ → List ℕ → List ℕ → List ℕ → List ℕ → Comparison → Type 0
 Compared lp li rp ri xs xs′ r =
-    Answered (verdict lp li rp ri (length xs)) r (words (differences (readMesh lp li) (readMesh rp ri))) xs xs′
+    ListAnswered (compareVerdict lp li rp ri (length xs)) r (words (differences (readMesh lp li) (readMesh rp ri))) xs xs′

@@ -1,9 +1,9 @@
 // The comparison of two meshes.
 ghost use mathlib.Core.Path.{_≡_};
-ghost use Rattle.compare_differences.specs.Meshes.{Good, readMesh};
+ghost use Rattle.compare_differences.specs.Meshes.{DistinctAndNumbered, readMesh};
 ghost use Rattle.compare_differences.specs.Differences.{differences};
 ghost use Rattle.compare_table_flags.specs.Flags.{MeshFlags};
-ghost use Rattle.compare_meshes.specs.Answers.{checked, Listed, Compared};
+ghost use Rattle.compare_meshes.specs.Answers.{checked, DifferencesListed, Compared};
 use crate::answer::Checked;
 use crate::answer::Comparison;
 use crate::answer::Fault;
@@ -44,8 +44,8 @@ fn list_by_flags(
     known: bool,
     out: &mut [u64],
 ) -> Comparison
-    requires { ⌜ Good (now «left_points») (now «left_indices») ⌝ ∗ ⌜ Good (now «right_points») (now «right_indices») ⌝ ∗ ⌜ MeshFlags known (now «left_points») (now «left_indices») (now «right_points») (now «right_indices») (now «left_point_flags») (now «left_face_flags») (now «right_point_flags») (now «right_face_flags») ⌝ }
-    ensures { λ r. ⌜ Listed (differences (readMesh (now («left_points» .entry)) (now («left_indices» .entry))) (readMesh (now («right_points» .entry)) (now («right_indices» .entry)))) (now (out .entry)) (now (out .exit)) r ⌝ }
+    requires { ⌜ DistinctAndNumbered (now «left_points») (now «left_indices») ⌝ ∗ ⌜ DistinctAndNumbered (now «right_points») (now «right_indices») ⌝ ∗ ⌜ MeshFlags known (now «left_points») (now «left_indices») (now «right_points») (now «right_indices») (now «left_point_flags») (now «left_face_flags») (now «right_point_flags») (now «right_face_flags») ⌝ }
+    ensures { λ r. ⌜ DifferencesListed (differences (readMesh (now («left_points» .entry)) (now («left_indices» .entry))) (readMesh (now («right_points» .entry)) (now («right_indices» .entry)))) (now (out .entry)) (now (out .exit)) r ⌝ }
 {
     let n = count_differences(
         left_points,
@@ -87,8 +87,8 @@ fn list_differences(
     right_indices: &[u16],
     out: &mut [u64],
 ) -> Comparison
-    requires { ⌜ Good (now «left_points») (now «left_indices») ⌝ ∗ ⌜ Good (now «right_points») (now «right_indices») ⌝ }
-    ensures { λ r. ⌜ Listed (differences (readMesh (now («left_points» .entry)) (now («left_indices» .entry))) (readMesh (now («right_points» .entry)) (now («right_indices» .entry)))) (now (out .entry)) (now (out .exit)) r ⌝ }
+    requires { ⌜ DistinctAndNumbered (now «left_points») (now «left_indices») ⌝ ∗ ⌜ DistinctAndNumbered (now «right_points») (now «right_indices») ⌝ }
+    ensures { λ r. ⌜ DifferencesListed (differences (readMesh (now («left_points» .entry)) (now («left_indices» .entry))) (readMesh (now («right_points» .entry)) (now («right_indices» .entry)))) (now (out .entry)) (now (out .exit)) r ⌝ }
 {
     if same_mesh(left_points, left_indices, right_points, right_indices) {
         return Comparison::Differences(0);

@@ -9,7 +9,7 @@ use lib.Dec.{ltb, leb, eqb}
 use borrow.Author.Tests.{lt-ltb, le-ltb, ltb-true, ltb-false, le-leb, lt-leb, leb-true, leb-false, eq-eqb, eqb-true}
 use Rattle.mesh_geometry.specs.Faces.{at}
 use Rattle.mesh_geometry.specs.Words.{readPoints}
-use Rattle.check_searches.specs.Indices.{firstUnknown}
+use Rattle.check_searches.specs.Indices.{firstUnknownIndex}
 use Rattle.check_searches.specs.Points.{samePoint, repeats, firstRepeated}
 use Rattle.check_searches.proofs.First.{some-which, some-here, some-none, some-all}
 use Rattle.check_searches.proofs.Equal.{same-is, is-same}
@@ -18,11 +18,11 @@ use Rattle.compare_meshes.specs.declared.answer.Checked.{Checked}
 use Rattle.compare_meshes.specs.declared.answer.Checked.the-variants.{Sound, Refused}
 use Rattle.compare_meshes.specs.declared.answer.Comparison.{Comparison}
 use Rattle.compare_meshes.specs.declared.answer.Comparison.the-variants.{Differences, NoRoom, LeftRefused, RightRefused}
-use Rattle.compare_meshes.specs.Answers.{checked, unlessRefused, verdict}
+use Rattle.compare_meshes.specs.Answers.{checked, unlessFault, compareVerdict}
 use Rattle.compare_differences.specs.Meshes.{readMesh}
 use Rattle.compare_differences.specs.Differences.{differences}
 use Rattle.compare_sameness.specs.Same.{SameMesh}
-use Rattle.compare_sameness.specs.Refusals.{InThrees, AllKnown, AllApart, Comparable, PastPoints, TwoEqual, CheckMeans, AnswerMeans}
+use Rattle.compare_sameness.specs.Refusals.{InThrees, IndicesNumbered, DistinctPoints, Comparable, PastPoints, TwoEqual, CheckMeans, AnswerMeans}
 use Rattle.compare_sameness.proofs.Sames.{empty, none-same, same-none}
 
 -- ---- the three tests of a mesh
@@ -31,7 +31,7 @@ module _ (pw iw : List ℕ) where
   threes = eqb (length pw % 3) 0 && eqb (length iw % 3) 0
 
   abbrev unknown : Bool
-  unknown = ltb (firstUnknown iw (length (readPoints pw))) (length iw)
+  unknown = ltb (firstUnknownIndex iw (length (readPoints pw))) (length iw)
 
   abbrev equal : Bool
   equal = ltb (firstRepeated (readPoints pw)) (length (readPoints pw))
@@ -57,21 +57,21 @@ module _ (pw iw : List ℕ) where
       go false e = e
 
   unknown-is : unknown ≡ true → PastPoints pw iw
-  unfolding firstUnknown
+  unfolding firstUnknownIndex
   unknown-is h =
       let w = some-which (λ k. leb (length (readPoints pw)) (getD iw k 0)) (length iw) h in
       record { k = w .0; index = w .1; past = leb-true (length (readPoints pw)) (getD iw (w .0) 0) (w .2) }
 
   is-unknown : PastPoints pw iw → unknown ≡ true
-  unfolding firstUnknown
+  unfolding firstUnknownIndex
   is-unknown h = some-here (λ k. leb (length (readPoints pw)) (getD iw k 0)) (length iw) (h .k) (h .index) (le-leb (length (readPoints pw)) (getD iw (h .k) 0) (h .past))
 
-  known-is : unknown ≡ false → AllKnown pw iw
-  unfolding firstUnknown
+  known-is : unknown ≡ false → IndicesNumbered pw iw
+  unfolding firstUnknownIndex
   known-is h k l = leb-false (length (readPoints pw)) (getD iw k 0) (some-all (λ i. leb (length (readPoints pw)) (getD iw i 0)) (length iw) h k l)
 
-  is-known : AllKnown pw iw → unknown ≡ false
-  unfolding firstUnknown
+  is-known : IndicesNumbered pw iw → unknown ≡ false
+  unfolding firstUnknownIndex
   is-known h = some-none (λ k. leb (length (readPoints pw)) (getD iw k 0)) (length iw) (λ k l. lt-leb (length (readPoints pw)) (getD iw k 0) (h k l))
 
   equal-is : equal ≡ true → TwoEqual pw
@@ -89,7 +89,7 @@ module _ (pw iw : List ℕ) where
       some-here (repeats ps) (length ps) (h .j) (h .point)
       (some-here (λ i. samePoint (at ps i) (at ps (h .j))) (h .j) (h .i) (h .earlier) (is-same (at ps (h .i)) (at ps (h .j)) (h .equal)))
 
-  apart-is : equal ≡ false → AllApart pw
+  apart-is : equal ≡ false → DistinctPoints pw
   unfolding firstRepeated
   apart-is h i j l m e =
       let ps = readPoints pw in
@@ -99,7 +99,7 @@ module _ (pw iw : List ℕ) where
   not-true true h = absurd (h refl)
   not-true false h = refl
 
-  is-apart : AllApart pw → equal ≡ false
+  is-apart : DistinctPoints pw → equal ≡ false
   is-apart h = not-true equal (λ e. let w = equal-is e in h (w .i) (w .j) (w .earlier) (w .point) (w .equal))
 
   -- a mesh is refused exactly if the refusal is right
@@ -126,29 +126,29 @@ module _ (lp li rp ri : List ℕ) (room : ℕ) where
   abbrev total : ℕ
   total = length (differences (readMesh lp li) (readMesh rp ri))
 
-  pub answer-means : AnswerMeans (verdict lp li rp ri room) lp li rp ri room
-  unfolding verdict
+  pub answer-means : AnswerMeans (compareVerdict lp li rp ri room) lp li rp ri room
+  unfolding compareVerdict
   answer-means = go (checked lp li) (checked rp ri) (ltb room (3 * total)) (check-means lp li) (check-means rp ri) refl
     where
       go : (a b : Checked) (s : Bool) → CheckMeans a lp li → CheckMeans b rp ri → ltb room (3 * total) ≡ s
-          → AnswerMeans (unlessRefused LeftRefused a (unlessRefused RightRefused b (cond s (NoRoom total) (Differences total)))) lp li rp ri room
+          → AnswerMeans (unlessFault LeftRefused a (unlessFault RightRefused b (cond s (NoRoom total) (Differences total)))) lp li rp ri room
       go (Refused f) b s l r e = l
       go Sound (Refused f) s l r e = (l, r)
       go Sound Sound true l r e = ((l, r, refl), ltb-true room (3 * total) e)
       go Sound Sound false l r e = ((l, r, refl), ltb-false room (3 * total) e)
 
-  pub means-answer : (a : Comparison) → AnswerMeans a lp li rp ri room → verdict lp li rp ri room ≡ a
-  unfolding verdict
+  pub means-answer : (a : Comparison) → AnswerMeans a lp li rp ri room → compareVerdict lp li rp ri room ≡ a
+  unfolding compareVerdict
   means-answer (LeftRefused f) h = rw (means-check lp li (Refused f) h)
   means-answer (RightRefused f) h = rw (means-check lp li Sound (h .0), means-check rp ri (Refused f) (h .1))
   means-answer (NoRoom n) h = rw (means-check lp li Sound (h .0 .0), means-check rp ri Sound (h .0 .1), h .0 .2, lt-ltb room (3 * n) (h .1))
   means-answer (Differences n) h = rw (means-check lp li Sound (h .0 .0), means-check rp ri Sound (h .0 .1), h .0 .2, le-ltb room (3 * n) (h .1))
 
   -- "no differences" is answered exactly if both meshes can be compared and have the same points and triangles, whatever the room
-  pub same-told : Comparable lp li → Comparable rp ri → SameMesh (readMesh lp li) (readMesh rp ri) → verdict lp li rp ri room ≡ Differences 0
+  pub same-told : Comparable lp li → Comparable rp ri → SameMesh (readMesh lp li) (readMesh rp ri) → compareVerdict lp li rp ri room ≡ Differences 0
   same-told l r s = means-answer (Differences 0) ((l, r, ap length (same-none (readMesh lp li) (readMesh rp ri) s)), omega arith)
 
-  pub told-same : verdict lp li rp ri room ≡ Differences 0 → Comparable lp li × Comparable rp ri × SameMesh (readMesh lp li) (readMesh rp ri)
+  pub told-same : compareVerdict lp li rp ri room ≡ Differences 0 → Comparable lp li × Comparable rp ri × SameMesh (readMesh lp li) (readMesh rp ri)
   told-same e =
       let w = rw e at answer-means in
       (w .0 .0, w .0 .1, none-same (readMesh lp li) (readMesh rp ri) (empty _ (w .0 .2)))

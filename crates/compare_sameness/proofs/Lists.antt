@@ -10,7 +10,7 @@ use lib.ListN.{length}
 use Rattle.buffer.specs.Over.{flat}
 use Rattle.check_searches.proofs.First.{Below, some-which, some-here}
 use Rattle.compare_differences.specs.Lacking.{Row, passing, among, lacks, lacking}
-use Rattle.compare_sameness.specs.Same.{In, Within}
+use Rattle.compare_sameness.specs.Same.{In, AllIn}
 use Rattle.compare_lists.proofs.Passing.{one, passing-none}
 use Rattle.compare_differences.proofs.Tests.{lacks-found}
 
@@ -48,9 +48,9 @@ module _ {A : Type 0} (same : A → A → Bool) (Same : A → A → Type 0) (rea
       (v .0, v .1, joins (ys .entry (v .0)) (xs .entry (w .0)) (xs .entry k) (v .2) (reads (xs .entry (w .0)) (xs .entry k) (w .2))))
       (which (among same ys (ys .count) (xs .entry k)) (among same xs k (xs .entry k)) (h k m))
 
-  pub none-within : lacking same xs ys ≡ [] → Within Same xs ys
+  pub none-within : lacking same xs ys ≡ [] → AllIn Same xs ys
   none-within e k l = found (suc k) (none-passing (lacks same xs ys) (xs .count) e) k (omega arith) l
 
-  pub within-none : Within Same xs ys → lacking same xs ys ≡ []
+  pub within-none : AllIn Same xs ys → lacking same xs ys ≡ []
   within-none h = passing-none (lacks same xs ys) (xs .count)
       (λ k l. let w = h k l in lacks-found same xs ys k (some-here _ (ys .count) (w .0) (w .1) (tests (ys .entry (w .0)) (xs .entry k) (w .2))))

@@ -20,18 +20,18 @@ pub record InThrees (pw iw : List ℕ) : Type 0 where
   pub indices : length iw % 3 ≡ 0
 
 -- every index is the number of a point
-abbrev pub AllKnown : List ℕ → List ℕ → Type 0
-AllKnown pw iw = (k : ℕ) → k < length iw → getD iw k 0 < length (readPoints pw)
+abbrev pub IndicesNumbered : List ℕ → List ℕ → Type 0
+IndicesNumbered pw iw = (k : ℕ) → k < length iw → getD iw k 0 < length (readPoints pw)
 
 -- no two points are equal
-abbrev pub AllApart : List ℕ → Type 0
-AllApart pw = (i j : ℕ) → i < j → j < length (readPoints pw) → at (readPoints pw) i ≡ at (readPoints pw) j → ⊥
+abbrev pub DistinctPoints : List ℕ → Type 0
+DistinctPoints pw = (i j : ℕ) → i < j → j < length (readPoints pw) → at (readPoints pw) i ≡ at (readPoints pw) j → ⊥
 
 -- the mesh can be compared
 pub record Comparable (pw iw : List ℕ) : Type 0 where
   pub threes : InThrees pw iw
-  pub known : AllKnown pw iw
-  pub apart : AllApart pw
+  pub known : IndicesNumbered pw iw
+  pub apart : DistinctPoints pw
 
 -- index k is not the number of a point
 pub record PastPoints (pw iw : List ℕ) : Type 0 where
@@ -51,7 +51,7 @@ pub record TwoEqual (pw : List ℕ) : Type 0 where
 abbrev pub FaultMeans : Fault → List ℕ → List ℕ → Type 0
 FaultMeans NotThrees pw iw = InThrees pw iw → ⊥
 FaultMeans UnknownIndex pw iw = InThrees pw iw × PastPoints pw iw
-FaultMeans EqualPoints pw iw = InThrees pw iw × AllKnown pw iw × TwoEqual pw
+FaultMeans EqualPoints pw iw = InThrees pw iw × IndicesNumbered pw iw × TwoEqual pw
 
 -- what the check of one mesh means
 abbrev pub CheckMeans : Checked → List ℕ → List ℕ → Type 0
@@ -59,12 +59,12 @@ CheckMeans Sound pw iw = Comparable pw iw
 CheckMeans (Refused f) pw iw = FaultMeans f pw iw
 
 -- both meshes can be compared, and have n differences
-abbrev pub Counts : List ℕ → List ℕ → List ℕ → List ℕ → ℕ → Type 0
-Counts lp li rp ri n = Comparable lp li × Comparable rp ri × (length (differences (readMesh lp li) (readMesh rp ri)) ≡ n)
+abbrev pub HasDifferences : List ℕ → List ℕ → List ℕ → List ℕ → ℕ → Type 0
+HasDifferences lp li rp ri n = Comparable lp li × Comparable rp ri × (length (differences (readMesh lp li) (readMesh rp ri)) ≡ n)
 
 -- what each answer means, for a list of `room` words: the left mesh is checked first, and room last
 abbrev pub AnswerMeans : Comparison → List ℕ → List ℕ → List ℕ → List ℕ → ℕ → Type 0
 AnswerMeans (LeftRefused f) lp li rp ri room = FaultMeans f lp li
 AnswerMeans (RightRefused f) lp li rp ri room = Comparable lp li × FaultMeans f rp ri
-AnswerMeans (NoRoom n) lp li rp ri room = Counts lp li rp ri n × (room < 3 * n)
-AnswerMeans (Differences n) lp li rp ri room = Counts lp li rp ri n × (3 * n ≤ room)
+AnswerMeans (NoRoom n) lp li rp ri room = HasDifferences lp li rp ri n × (room < 3 * n)
+AnswerMeans (Differences n) lp li rp ri room = HasDifferences lp li rp ri n × (3 * n ≤ room)

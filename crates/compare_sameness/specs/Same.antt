@@ -16,15 +16,15 @@ abbrev pub In : {A : Type 0} → (A → A → Type 0) → Row A → A → Type 0
 In Same ys x = (i : ℕ) × (i < ys .count) × Same (ys .entry i) x
 
 -- every entry of xs is in ys
-abbrev pub Within : {A : Type 0} → (A → A → Type 0) → Row A → Row A → Type 0
-Within Same xs ys = (k : ℕ) → k < xs .count → In Same ys (xs .entry k)
+abbrev pub AllIn : {A : Type 0} → (A → A → Type 0) → Row A → Row A → Type 0
+AllIn Same xs ys = (k : ℕ) → k < xs .count → In Same ys (xs .entry k)
 
 -- both meshes have the same points, by coordinates, and the same triangles, up to rotation
 pub record SameMesh (l r : Mesh) : Type 0 where
-  pub leftPoints : Within _≡_ (l .points) (r .points)
-  pub rightPoints : Within _≡_ (r .points) (l .points)
-  pub leftFaces : Within Rotation (l .faces) (r .faces)
-  pub rightFaces : Within Rotation (r .faces) (l .faces)
+  pub leftPoints : AllIn _≡_ (l .points) (r .points)
+  pub rightPoints : AllIn _≡_ (r .points) (l .points)
+  pub leftFaces : AllIn Rotation (l .faces) (r .faces)
+  pub rightFaces : AllIn Rotation (r .faces) (l .faces)
 
 -- the same difference with its side exchanged
 abbrev pub exchanged : Difference → Difference

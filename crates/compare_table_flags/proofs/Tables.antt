@@ -13,7 +13,7 @@ use Rattle.mesh_geometry.specs.declared.Point.{Point}
 use Rattle.mesh_geometry.specs.Cover.{Face}
 use Rattle.mesh_geometry.specs.Faces.{at, faceOf}
 use Rattle.mesh_geometry.specs.Words.{readPoints, readTriangles}
-use Rattle.check_searches.specs.First.{some}
+use Rattle.check_searches.specs.First.{someBelow}
 use Rattle.check_searches.specs.Points.{firstRepeated}
 use Rattle.check_searches.specs.Triangles.{triangleAt}
 use Rattle.check_searches.proofs.Read.{points-count, triangles-count}
@@ -24,25 +24,25 @@ use Rattle.point_table.specs.Trees.{PointTable}
 use Rattle.triangle_table.specs.Hits.{someFace}
 use Rattle.compare_differences.specs.declared.corners.Match.the-variants.{Corners, Missing}
 use Rattle.compare_differences.specs.Lacking.{among}
-use Rattle.compare_differences.specs.Meshes.{Single, Indexed, Good, facesIn, sameFace}
-use Rattle.compare_differences.specs.Found.{Found, Cornered, Matched}
+use Rattle.compare_differences.specs.Meshes.{NoneRepeated, Indexed, DistinctAndNumbered, faceRow, sameFace}
+use Rattle.compare_differences.specs.Found.{PointFound, Cornered, Matched}
 use Rattle.compare_differences.proofs.Numbers.{match-found, missing-p, missing-q, missing-r}
 use Rattle.compare_differences.proofs.Lacks.{has-found, has-missing, among-own}
-use Rattle.compare_table_flags.specs.Flags.{Partners, Partnered, AllSet, Narrowed, Flagged, KnownFlags, missing, isFirst}
+use Rattle.compare_table_flags.specs.Flags.{Partners, Partnered, AllSet, Narrowed, Flagged, KnownFlags, noSameFace, isFirst}
 
 -- ---- a table of all points
-pub table-whole : {ow : List ℕ} {slots r : ℕ} {t : List ℕ} → Single ow → r ≡ firstRepeated (readPoints ow) → PointTable (readPoints ow) slots r t → PointTable (readPoints ow) slots (length ow / 3) t
+pub table-whole : {ow : List ℕ} {slots r : ℕ} {t : List ℕ} → NoneRepeated ow → r ≡ firstRepeated (readPoints ow) → PointTable (readPoints ow) slots r t → PointTable (readPoints ow) slots (length ow / 3) t
 table-whole {ow} s e h = rw (e ∙ s .is ∙ points-count ow) at h
 
 -- ---- partners
 pub partners-none : (pw ow ms : List ℕ) → Partners pw ow 0 ms
 partners-none pw ow ms = record { each = λ k l. absurd (omega arith) }
 
-pub partners-more : {pw ow ms : List ℕ} {n : ℕ} (p : Point) (r : ℕ) → Partners pw ow n ms → n < length ms → p ≡ at (readPoints pw) n → Found (readPoints ow) (length ow / 3) p r
+pub partners-more : {pw ow ms : List ℕ} {n : ℕ} (p : Point) (r : ℕ) → Partners pw ow n ms → n < length ms → p ≡ at (readPoints pw) n → PointFound (readPoints ow) (length ow / 3) p r
     → Partners pw ow (n + 1) (set ms n r)
 partners-more {pw} {ow} {ms} {n} p r h l e f = record { each = one }
   where
-    one : (k : ℕ) → k < n + 1 → Found (readPoints ow) (length ow / 3) (at (readPoints pw) k) (getD (set ms n r) k 0)
+    one : (k : ℕ) → k < n + 1 → PointFound (readPoints ow) (length ow / 3) (at (readPoints pw) k) (getD (set ms n r) k 0)
     one k b = elim (decLe n k) [
       | yes q ↦ (let d : k ≡ n = omega arith in rw (d, getD-set-same ms n r 0 l, ← e) f)
       | no q ↦ rw (getD-set-other ms n k r 0 (λ d. q (omega arith))) (h .each k (omega arith))
@@ -119,25 +119,25 @@ pub flag-stays : (flag : ℕ) (r b : Bool) → flag ≡ 1 → r ≡ false → no
 flag-stays flag r b e h f = rw (eq-eqb flag 1 e, ← f, h)
 
 -- ---- the corners of a triangle by their partners
-module _ (pw ow jw ms : List ℕ) (g : Good ow jw) (small : (k : ℕ) → getD jw k 0 < 65536) (p : Partnered pw ow ms) (t : Triangle) (m : Cornered (length pw / 3) t) where
+module _ (pw ow jw ms : List ℕ) (g : DistinctAndNumbered ow jw) (small : (k : ℕ) → getD jw k 0 < 65536) (p : Partnered pw ow ms) (t : Triangle) (m : Cornered (length pw / 3) t) where
   face : Face
   face = faceOf (at (readPoints pw)) t
 
-  pub corner-missing-a : length ow / 3 ≤ getD ms (t .a) 0 → false ≡ among sameFace (facesIn ow jw) (facesIn ow jw .count) (faceOf (at (readPoints pw)) t)
+  pub corner-missing-a : length ow / 3 ≤ getD ms (t .a) 0 → false ≡ among sameFace (faceRow ow jw) (faceRow ow jw .count) (faceOf (at (readPoints pw)) t)
   corner-missing-a l = has-missing ow jw (g .indexed) small (faceOf (at (readPoints pw)) t) Missing
       (missing-p ow (length ow / 3) (faceOf (at (readPoints pw)) t) (λ i k j. k) (at (readPoints pw) (t .a)) (getD ms (t .a) 0) (p .all .each (t .a) (m .a)) l refl) refl
 
-  pub corner-missing-b : length ow / 3 ≤ getD ms (t .b) 0 → false ≡ among sameFace (facesIn ow jw) (facesIn ow jw .count) (faceOf (at (readPoints pw)) t)
+  pub corner-missing-b : length ow / 3 ≤ getD ms (t .b) 0 → false ≡ among sameFace (faceRow ow jw) (faceRow ow jw .count) (faceOf (at (readPoints pw)) t)
   corner-missing-b l = has-missing ow jw (g .indexed) small (faceOf (at (readPoints pw)) t) Missing
       (missing-q ow (length ow / 3) (faceOf (at (readPoints pw)) t) (λ i k j. k) (at (readPoints pw) (t .b)) (getD ms (t .b) 0) (p .all .each (t .b) (m .b)) l refl) refl
 
-  pub corner-missing-c : length ow / 3 ≤ getD ms (t .c) 0 → false ≡ among sameFace (facesIn ow jw) (facesIn ow jw .count) (faceOf (at (readPoints pw)) t)
+  pub corner-missing-c : length ow / 3 ≤ getD ms (t .c) 0 → false ≡ among sameFace (faceRow ow jw) (faceRow ow jw .count) (faceOf (at (readPoints pw)) t)
   corner-missing-c l = has-missing ow jw (g .indexed) small (faceOf (at (readPoints pw)) t) Missing
       (missing-r ow (length ow / 3) (faceOf (at (readPoints pw)) t) (λ i k j. k) (at (readPoints pw) (t .c)) (getD ms (t .c) 0) (p .all .each (t .c) (m .c)) l refl) refl
 
   pub corners-found : (x y z : ℕ) (r : Bool) → x ≡ getD ms (t .a) 0 → y ≡ getD ms (t .b) 0 → z ≡ getD ms (t .c) 0 → x < length ow / 3 → y < length ow / 3 → z < length ow / 3
       → length ow / 3 ≤ 65536 → r ≡ someFace (readTriangles jw) (record { a = x; b = y; c = z }) (length jw / 3)
-      → r ≡ among sameFace (facesIn ow jw) (facesIn ow jw .count) (faceOf (at (readPoints pw)) t)
+      → r ≡ among sameFace (faceRow ow jw) (faceRow ow jw .count) (faceOf (at (readPoints pw)) t)
   corners-found x y z r ex ey ez lx ly lz few h =
       has-found ow jw (g .indexed) small (faceOf (at (readPoints pw)) t) (Corners (record { a = x; b = y; c = z })) (record { a = x; b = y; c = z }) r
       (match-found ow (length ow / 3) (faceOf (at (readPoints pw)) t) (at (readPoints pw) (t .a)) (at (readPoints pw) (t .b)) (at (readPoints pw) (t .c)) x y z (g .single) (omega arith) few
@@ -145,14 +145,14 @@ module _ (pw ow jw ms : List ℕ) (g : Good ow jw) (small : (k : ℕ) → getD j
       refl (rw (triangles-count jw) h)
 
 -- ---- a triangle that the other mesh has
-pub missing-is : (pw iw ow jw : List ℕ) (k : ℕ) (t : Triangle) (r : Bool) → t ≡ triangleAt (readTriangles iw) k → r ≡ among sameFace (facesIn ow jw) (facesIn ow jw .count) (faceOf (at (readPoints pw)) t)
-    → not r ≡ missing pw iw ow jw k
-missing-is pw iw ow jw k t r e h = ap not (h ∙ ap (λ (u : Triangle). among sameFace (facesIn ow jw) (facesIn ow jw .count) (faceOf (at (readPoints pw)) u)) e)
+pub missing-is : (pw iw ow jw : List ℕ) (k : ℕ) (t : Triangle) (r : Bool) → t ≡ triangleAt (readTriangles iw) k → r ≡ among sameFace (faceRow ow jw) (faceRow ow jw .count) (faceOf (at (readPoints pw)) t)
+    → not r ≡ noSameFace pw iw ow jw k
+missing-is pw iw ow jw k t r e h = ap not (h ∙ ap (λ (u : Triangle). among sameFace (faceRow ow jw) (faceRow ow jw .count) (faceOf (at (readPoints pw)) u)) e)
 
 -- ---- a triangle that its own mesh has earlier
-pub first-is : (pw iw : List ℕ) (k : ℕ) (t : Triangle) (q : Bool) → t ≡ triangleAt (readTriangles iw) k → Good pw iw → ((i : ℕ) → getD iw i 0 < 65536) → k < length iw / 3 → q ≡ someFace (readTriangles iw) t k
+pub first-is : (pw iw : List ℕ) (k : ℕ) (t : Triangle) (q : Bool) → t ≡ triangleAt (readTriangles iw) k → DistinctAndNumbered pw iw → ((i : ℕ) → getD iw i 0 < 65536) → k < length iw / 3 → q ≡ someFace (readTriangles iw) t k
     → not q ≡ isFirst pw iw k
-first-is pw iw k t q e g small l h = ap not (h ∙ ap (λ (u : Triangle). some (λ i. sameTriangle (triangleAt (readTriangles iw) i) u) k) e ∙ among-own pw iw g small k l)
+first-is pw iw k t q e g small l h = ap not (h ∙ ap (λ (u : Triangle). someBelow (λ i. sameTriangle (triangleAt (readTriangles iw) i) u) k) e ∙ among-own pw iw g small k l)
 
 -- ---- flags that are known, and those that are not
 pub known-all : {t : ℕ → Bool} {n : ℕ} {fs : List ℕ} → Flagged t n fs → KnownFlags true t n fs
@@ -162,5 +162,5 @@ pub known-none : {t : ℕ → Bool} {n : ℕ} {fs : List ℕ} → KnownFlags fal
 known-none = record { is = λ e. absurd (true≢false (sym e)) }
 
 -- ---- the indices of a mesh that can be compared fit a table for its points
-pub numbered-in : (pw iw : List ℕ) (n : ℕ) → Good pw iw → length pw / 3 ≤ n → AllNumbered n iw
+pub numbered-in : (pw iw : List ℕ) (n : ℕ) → DistinctAndNumbered pw iw → length pw / 3 ≤ n → AllNumbered n iw
 numbered-in pw iw n g l = record { at = λ k m. omega (arith, g .indexed .each k m, points-count pw) }

@@ -10,8 +10,8 @@ use Rattle.mesh_geometry.specs.Words.{readPoints, readTriangles}
 use Rattle.half_edge_chains.specs.Links.{Linked}
 use Rattle.check_searches.specs.Points.{samePoint}
 use Rattle.compare_differences.specs.Lacking.{among, lacks}
-use Rattle.compare_differences.specs.Meshes.{Good, pointsIn, facesIn, sameFace}
-use Rattle.compare_differences.specs.Found.{Found}
+use Rattle.compare_differences.specs.Meshes.{DistinctAndNumbered, pointRow, faceRow, sameFace}
+use Rattle.compare_differences.specs.Found.{PointFound}
 
 -- the mesh fits into the large tables
 pub record ManySides (pw iw : List ℕ) : Type 0 where
@@ -20,14 +20,14 @@ pub record ManySides (pw iw : List ℕ) : Type 0 where
 
 -- the mesh can be compared, and heads and links are the table of its sides
 pub record SideTable (pw iw heads links : List ℕ) : Type 0 where
-  pub good : Good pw iw
+  pub good : DistinctAndNumbered pw iw
   pub linked : Linked (readTriangles iw) (length iw / 3 * 3) heads links
   pub fits : length pw / 3 ≤ length heads
   pub few : length pw / 3 ≤ 8192
 
 -- the first n entries of ms are the partners of the first n points of pw: the number of an equal point of ow, or the number of its points
 pub record Partners (pw ow : List ℕ) (n : ℕ) (ms : List ℕ) : Type 0 where
-  pub each : (k : ℕ) → k < n → Found (readPoints ow) (length ow / 3) (at (readPoints pw) k) (getD ms k 0)
+  pub each : (k : ℕ) → k < n → PointFound (readPoints ow) (length ow / 3) (at (readPoints pw) k) (getD ms k 0)
 
 -- the same for all points
 pub record Partnered (pw ow ms : List ℕ) : Type 0 where
@@ -35,12 +35,12 @@ pub record Partnered (pw ow ms : List ℕ) : Type 0 where
   pub all : Partners pw ow (length pw / 3) ms
 
 -- whether the other mesh lacks triangle k
-abbrev pub missing : List ℕ → List ℕ → List ℕ → List ℕ → ℕ → Bool
-missing pw iw ow jw k = not (among sameFace (facesIn ow jw) (facesIn ow jw .count) (facesIn pw iw .entry k))
+abbrev pub noSameFace : List ℕ → List ℕ → List ℕ → List ℕ → ℕ → Bool
+noSameFace pw iw ow jw k = not (among sameFace (faceRow ow jw) (faceRow ow jw .count) (faceRow pw iw .entry k))
 
 -- whether no earlier triangle of the same mesh is triangle k
 abbrev pub isFirst : List ℕ → List ℕ → ℕ → Bool
-isFirst pw iw k = not (among sameFace (facesIn pw iw) k (facesIn pw iw .entry k))
+isFirst pw iw k = not (among sameFace (faceRow pw iw) k (faceRow pw iw .entry k))
 
 -- the first n flags are there and are 1
 pub record AllSet (n : ℕ) (fs : List ℕ) : Type 0 where
@@ -68,7 +68,7 @@ pub record KnownFlags (known : Bool) (t : ℕ → Bool) (n : ℕ) (fs : List ℕ
 
 -- the flags of all points and triangles of a left and a right mesh, if they are known
 pub record MeshFlags (known : Bool) (lp li rp ri left-points left-faces right-points right-faces : List ℕ) : Type 0 where
-  pub points : KnownFlags known (lacks samePoint (pointsIn lp) (pointsIn rp)) (length lp / 3) left-points
-  pub faces : KnownFlags known (lacks sameFace (facesIn lp li) (facesIn rp ri)) (length li / 3) left-faces
-  pub back-points : KnownFlags known (lacks samePoint (pointsIn rp) (pointsIn lp)) (length rp / 3) right-points
-  pub back-faces : KnownFlags known (lacks sameFace (facesIn rp ri) (facesIn lp li)) (length ri / 3) right-faces
+  pub points : KnownFlags known (lacks samePoint (pointRow lp) (pointRow rp)) (length lp / 3) left-points
+  pub faces : KnownFlags known (lacks sameFace (faceRow lp li) (faceRow rp ri)) (length li / 3) left-faces
+  pub back-points : KnownFlags known (lacks samePoint (pointRow rp) (pointRow lp)) (length rp / 3) right-points
+  pub back-faces : KnownFlags known (lacks sameFace (faceRow rp ri) (faceRow lp li)) (length ri / 3) right-faces

@@ -5,7 +5,7 @@ ghost use lib.ListN.{length};
 ghost use Rattle.mesh_geometry.specs.Faces.{at, faceOf};
 ghost use Rattle.mesh_geometry.specs.Words.{readPoints};
 ghost use Rattle.compare_differences.specs.Lacking.{among};
-ghost use Rattle.compare_differences.specs.Meshes.{facesIn, sameFace};
+ghost use Rattle.compare_differences.specs.Meshes.{faceRow, sameFace};
 ghost use Rattle.compare_differences.specs.Found.{Cornered};
 ghost use Rattle.compare_table_flags.specs.Flags.{SideTable, Partnered};
 use strip::triangle::Triangle;
@@ -22,7 +22,7 @@ pub(crate) fn has_face(
     links: &[u32],
 ) -> bool
     requires { ⌜ Cornered (length (now points) / 3) t ⌝ ∗ ⌜ SideTable (now others) (now «other_indices») (now heads) (now links) ⌝ ∗ ⌜ Partnered (now points) (now others) (now partners) ⌝ }
-    ensures { λ r. ⌜ r ≡ among sameFace (facesIn (now (others .entry)) (now («other_indices» .entry))) (facesIn (now (others .entry)) (now («other_indices» .entry)) .count) (faceOf (at (readPoints (now (points .entry)))) t) ⌝ }
+    ensures { λ r. ⌜ r ≡ among sameFace (faceRow (now (others .entry)) (now («other_indices» .entry))) (faceRow (now (others .entry)) (now («other_indices» .entry)) .count) (faceOf (at (readPoints (now (points .entry)))) t) ⌝ }
 {
     let count = others.len() / 3;
     let a = t.a;

@@ -6,16 +6,16 @@ ghost use lib.Dec.{eqb};
 ghost use lib.ListN.{length};
 ghost use Rattle.check_searches.specs.Points.{samePoint};
 ghost use Rattle.compare_differences.specs.Lacking.{lacks};
-ghost use Rattle.compare_differences.specs.Meshes.{Single, Good, pointsIn};
-ghost use Rattle.compare_table_flags.specs.Flags.{SideTable, Partnered, Narrowed, missing, isFirst};
+ghost use Rattle.compare_differences.specs.Meshes.{NoneRepeated, DistinctAndNumbered, pointRow};
+ghost use Rattle.compare_table_flags.specs.Flags.{SideTable, Partnered, Narrowed, noSameFace, isFirst};
 use crate::face::has_face;
 use check_searches::triangle::triangle_at;
 use triangle_table::has_earlier;
 
 // Returns the flag of point k: unchanged if the other mesh lacks the point, else 0.
 fn point_flag(points: &[u32], k: usize, others: &[u32], partners: &[u16], flag: u8) -> u8
-    requires { ⌜ k < length (now points) / 3 ⌝ ∗ ⌜ Single (now points) ⌝ ∗ ⌜ Partnered (now points) (now others) (now partners) ⌝ }
-    ensures { λ r. ⌜ r ≡ cond (eqb flag 1 && lacks samePoint (pointsIn (now (points .entry))) (pointsIn (now (others .entry))) k) 1 0 ⌝ }
+    requires { ⌜ k < length (now points) / 3 ⌝ ∗ ⌜ NoneRepeated (now points) ⌝ ∗ ⌜ Partnered (now points) (now others) (now partners) ⌝ }
+    ensures { λ r. ⌜ r ≡ cond (eqb flag 1 && lacks samePoint (pointRow (now (points .entry))) (pointRow (now (others .entry))) k) 1 0 ⌝ }
 {
     let count = others.len() / 3;
     if flag != 1 {
@@ -28,8 +28,8 @@ fn point_flag(points: &[u32], k: usize, others: &[u32], partners: &[u16], flag: 
 }
 
 pub fn flag_points(points: &[u32], others: &[u32], partners: &[u16], flags: &mut [u8])
-    requires { ⌜ Single (now points) ⌝ ∗ ⌜ Partnered (now points) (now others) (now partners) ⌝ ∗ ⌜ length (now points) / 3 ≤ length (now flags) ⌝ }
-    ensures { λ r. ⌜ Narrowed (lacks samePoint (pointsIn (now (points .entry))) (pointsIn (now (others .entry)))) (length (now (points .entry)) / 3) (now (flags .entry)) (now (flags .exit)) ⌝ }
+    requires { ⌜ NoneRepeated (now points) ⌝ ∗ ⌜ Partnered (now points) (now others) (now partners) ⌝ ∗ ⌜ length (now points) / 3 ≤ length (now flags) ⌝ }
+    ensures { λ r. ⌜ Narrowed (lacks samePoint (pointRow (now (points .entry))) (pointRow (now (others .entry)))) (length (now (points .entry)) / 3) (now (flags .entry)) (now (flags .exit)) ⌝ }
 {
     let count = points.len() / 3;
     let mut k = 0;
@@ -51,8 +51,8 @@ fn missing_flag(
     links: &[u32],
     flag: u8,
 ) -> u8
-    requires { ⌜ k < length (now indices) / 3 ⌝ ∗ ⌜ Good (now points) (now indices) ⌝ ∗ ⌜ SideTable (now others) (now «other_indices») (now heads) (now links) ⌝ ∗ ⌜ Partnered (now points) (now others) (now partners) ⌝ }
-    ensures { λ r. ⌜ r ≡ cond (eqb flag 1 && missing (now (points .entry)) (now (indices .entry)) (now (others .entry)) (now («other_indices» .entry)) k) 1 0 ⌝ }
+    requires { ⌜ k < length (now indices) / 3 ⌝ ∗ ⌜ DistinctAndNumbered (now points) (now indices) ⌝ ∗ ⌜ SideTable (now others) (now «other_indices») (now heads) (now links) ⌝ ∗ ⌜ Partnered (now points) (now others) (now partners) ⌝ }
+    ensures { λ r. ⌜ r ≡ cond (eqb flag 1 && noSameFace (now (points .entry)) (now (indices .entry)) (now (others .entry)) (now («other_indices» .entry)) k) 1 0 ⌝ }
 {
     if flag != 1 {
         return 0;
@@ -82,8 +82,8 @@ pub fn flag_missing(
     links: &[u32],
     flags: &mut [u8],
 )
-    requires { ⌜ Good (now points) (now indices) ⌝ ∗ ⌜ SideTable (now others) (now «other_indices») (now heads) (now links) ⌝ ∗ ⌜ Partnered (now points) (now others) (now partners) ⌝ ∗ ⌜ length (now indices) / 3 ≤ length (now flags) ⌝ }
-    ensures { λ r. ⌜ Narrowed (missing (now (points .entry)) (now (indices .entry)) (now (others .entry)) (now («other_indices» .entry))) (length (now (indices .entry)) / 3) (now (flags .entry)) (now (flags .exit)) ⌝ }
+    requires { ⌜ DistinctAndNumbered (now points) (now indices) ⌝ ∗ ⌜ SideTable (now others) (now «other_indices») (now heads) (now links) ⌝ ∗ ⌜ Partnered (now points) (now others) (now partners) ⌝ ∗ ⌜ length (now indices) / 3 ≤ length (now flags) ⌝ }
+    ensures { λ r. ⌜ Narrowed (noSameFace (now (points .entry)) (now (indices .entry)) (now (others .entry)) (now («other_indices» .entry))) (length (now (indices .entry)) / 3) (now (flags .entry)) (now (flags .exit)) ⌝ }
 {
     let count = indices.len() / 3;
     let mut k = 0;

@@ -3,8 +3,8 @@ ghost use Prim.Native.Nat.{_/_, _≤_, _<_};
 ghost use lib.ListN.{length};
 ghost use Rattle.mesh_geometry.specs.Words.{readPoints};
 ghost use Rattle.point_table.specs.Trees.{PointTable};
-ghost use Rattle.compare_differences.specs.Meshes.{Single};
-ghost use Rattle.compare_differences.specs.Found.{Found};
+ghost use Rattle.compare_differences.specs.Meshes.{NoneRepeated};
+ghost use Rattle.compare_differences.specs.Found.{PointFound};
 ghost use Rattle.compare_table_flags.specs.Flags.{Partnered};
 use check_searches::point::point_at;
 use mesh_geometry::Point;
@@ -13,7 +13,7 @@ use point_table::seek;
 // Returns the number of the point that equals p, or the number of points, by a table of the points.
 fn find(points: &[u32], table: &[u16], slots: usize, p: Point) -> usize
     requires { ⌜ PointTable (readPoints (now points)) slots (length (now points) / 3) (now table) ⌝ ∗ ⌜ 0 < slots ⌝ }
-    ensures { λ r. ⌜ Found (readPoints (now (points .entry))) (length (now (points .entry)) / 3) p r ⌝ }
+    ensures { λ r. ⌜ PointFound (readPoints (now (points .entry))) (length (now (points .entry)) / 3) p r ⌝ }
 {
     let count = points.len() / 3;
     let x = seek(points, count, table, slots, p);
@@ -39,7 +39,7 @@ fn match_by(points: &[u32], others: &[u32], table: &[u16], slots: usize, partner
 
 // The same with a table as large as the other mesh's points need: for up to 64 points, or for up to 8192.
 pub fn match_points(points: &[u32], others: &[u32], partners: &mut [u16])
-    requires { ⌜ Single (now others) ⌝ ∗ ⌜ length (now others) / 3 ≤ 8192 ⌝ ∗ ⌜ length (now points) / 3 ≤ length (now partners) ⌝ }
+    requires { ⌜ NoneRepeated (now others) ⌝ ∗ ⌜ length (now others) / 3 ≤ 8192 ⌝ ∗ ⌜ length (now points) / 3 ≤ length (now partners) ⌝ }
     ensures { λ r. ⌜ Partnered (now (points .entry)) (now (others .entry)) (now (partners .exit)) ⌝ }
 {
     if others.len() <= 192 {

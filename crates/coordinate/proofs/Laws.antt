@@ -17,7 +17,7 @@ use lib.Ieee.Nearest.{closest, closest-same}
 use lib.Ieee.Order.{drop}
 use lib.Ieee.Positive.{num, den, den-pos, value→cross}
 use lib.Ieee.Scale.{grid, round-val}
-use Rattle.coordinate.specs.Coordinate.{coordinate, parts, Exact, Near}
+use Rattle.coordinate.specs.Coordinate.{coordinate, floatUnits, Exact, NearFloat}
 use Rattle.coordinate.proofs.Round.{div-is, closest-near, size-gt}
 
 -- a coordinate is x / one, rounded once
@@ -37,9 +37,9 @@ exact x h =
 pub exact-cross : (x : ℕ) → x ≤ 65536 → num (coordinate 65536 x) * 65536 ≡ x * den (coordinate 65536 x)
 exact-cross x h = value→cross (coordinate 65536 x) x 65536 (exact x h)
 
--- `parts` of a float that is N units of 2 ^ -41 is N
-pub parts-is : (f : Float) (N : ℕ) → HasValue f false N (2 ^ 41) → parts f ≡ N
-unfolding parts
+-- `floatUnits` of a float that is N units of 2 ^ -41 is N
+pub parts-is : (f : Float) (N : ℕ) → HasValue f false N (2 ^ 41) → floatUnits f ≡ N
+unfolding floatUnits
 parts-is f N h = ap (λ (n : ℕ). n / den f) (value→cross f N (2 ^ 41) h) ∙ mul-div-cancel N (den-pos f)
 
 -- N * 2 ^ 108 units of 2 ^ -149 are N units of 2 ^ -41
@@ -51,9 +51,9 @@ coarse (fin s m e) N h = (
   eq-of-mul-eq-mul-right (2 ^ 108) (pow-pos 108) (m * up e * 2 ^ 41) (N * down e) (mul-assoc (m * up e) (2 ^ 41) (2 ^ 108) ∙ h .1 ∙ mul-right-comm N (2 ^ 108) (down e)),
 )
 
-near-of : (x N : ℕ) (f : Float) → HasValue f false N (2 ^ 41) → x * 2 ^ 41 ≤ 196608 * N + 196608 * 65536 → 196608 * N ≤ x * 2 ^ 41 + 196608 * 65536 → Near x f
+near-of : (x N : ℕ) (f : Float) → HasValue f false N (2 ^ 41) → x * 2 ^ 41 ≤ 196608 * N + 196608 * 65536 → 196608 * N ≤ x * 2 ^ 41 + 196608 * 65536 → NearFloat x f
 near-of x N f v l m =
-    let e : parts f ≡ N = parts-is f N v in
+    let e : floatUnits f ≡ N = parts-is f N v in
     record { is = rw e v; least = omega arith; most = omega arith }
 
 -- between 0 and 1 rounding drops 108 to 125 binary digits of the units of 2 ^ -149
@@ -81,7 +81,7 @@ bounds : (x K P : ℕ) → P ≤ 131072 → (x * 2 ^ 41 * 2 ≤ K * (196608 * P)
     → (x * 2 ^ 41 ≤ 196608 * (K * P) + 196608 * 65536) × (196608 * (K * P) ≤ x * 2 ^ 41 + 196608 * 65536)
 bounds x K P h b = omega arith
 
-inner : (x : ℕ) → 0 < x → x < 196608 → Near x (coordinate 196608 x)
+inner : (x : ℕ) → 0 < x → x < 196608 → NearFloat x (coordinate 196608 x)
 inner x p h =
     let k = drop 24 (x * 2 ^ 149) 196608 in
     let j = k - 108 in
@@ -109,7 +109,7 @@ unfolding coordinate ofInt div
 one-is = refl
 
 -- triangles
-pub near : (x : ℕ) → x ≤ 196608 → Near x (coordinate 196608 x)
+pub near : (x : ℕ) → x ≤ 196608 → NearFloat x (coordinate 196608 x)
 near x h = elim (eq-or-lt-of-le h) [
   | inl e ↦ rw e (near-of 196608 (2 ^ 41) (coordinate 196608 196608) (rw one-is (refl, refl)) (omega arith) (omega arith))
   | inr l ↦ elim (eq-zero-or-pos x) [
@@ -119,7 +119,7 @@ near x h = elim (eq-or-lt-of-le h) [
 ]
 
 -- ---- greater coordinates are greater floats
-pub triangle-rising : (x y : ℕ) → x < y → y ≤ 196608 → parts (coordinate 196608 x) < parts (coordinate 196608 y)
+pub triangle-rising : (x y : ℕ) → x < y → y ≤ 196608 → floatUnits (coordinate 196608 x) < floatUnits (coordinate 196608 y)
 triangle-rising x y l h =
     let a = near x (omega arith) in
     let b = near y h in
@@ -134,18 +134,18 @@ finer (fin s m e) x h = (
   sym (mul-assoc (m * up e) 65536 (2 ^ 25)) ∙ ap (λ (n : ℕ). n * 2 ^ 25) (h .1) ∙ mul-right-comm x (down e) (2 ^ 25),
 )
 
-quad-parts : (x : ℕ) → x ≤ 65536 → parts (coordinate 65536 x) ≡ x * 2 ^ 25
+quad-parts : (x : ℕ) → x ≤ 65536 → floatUnits (coordinate 65536 x) ≡ x * 2 ^ 25
 quad-parts x h = parts-is (coordinate 65536 x) (x * 2 ^ 25) (finer (coordinate 65536 x) x (exact x h))
 
-pub quad-rising : (x y : ℕ) → x < y → y ≤ 65536 → parts (coordinate 65536 x) < parts (coordinate 65536 y)
+pub quad-rising : (x y : ℕ) → x < y → y ≤ 65536 → floatUnits (coordinate 65536 x) < floatUnits (coordinate 65536 y)
 quad-rising x y l h = omega (arith, quad-parts x (omega arith), quad-parts y h)
 
 -- so different coordinates of a patch have different floats
-apart : (one : ℕ) → ((x y : ℕ) → x < y → y ≤ one → parts (coordinate one x) < parts (coordinate one y))
+apart : (one : ℕ) → ((x y : ℕ) → x < y → y ≤ one → floatUnits (coordinate one x) < floatUnits (coordinate one y))
     → (x y : ℕ) → x ≤ one → y ≤ one → coordinate one x ≡ coordinate one y → x ≡ y
 apart one rising x y h k e = elim (decLe x y) [
-  | yes l ↦ elim (decLe y x) [ yes m ↦ omega arith | no m ↦ absurd (omega (arith, rising x y (omega arith) k, ap parts e)) ]
-  | no l ↦ absurd (omega (arith, rising y x (omega arith) h, ap parts e))
+  | yes l ↦ elim (decLe y x) [ yes m ↦ omega arith | no m ↦ absurd (omega (arith, rising x y (omega arith) k, ap floatUnits e)) ]
+  | no l ↦ absurd (omega (arith, rising y x (omega arith) h, ap floatUnits e))
 ]
 
 pub triangle-apart : (x y : ℕ) → x ≤ 196608 → y ≤ 196608 → coordinate 196608 x ≡ coordinate 196608 y → x ≡ y

@@ -5,7 +5,7 @@ use native.Mathlib.Nat.{mul-suc, mul-le-mul-left, le-trans}
 use native.Mathlib.Omega.{arith}
 use lib.ListN.{length, getD, length-append}
 use Rattle.buffer.specs.Over.{flat}
-use Rattle.decimal_text.specs.Lines.{row, rows}
+use Rattle.decimal_text.specs.Lines.{rowLine, rows}
 use Rattle.decimal_text.proofs.Lines.{below-all, part-length}
 
 flat-most : (f : ℕ → List ℕ) (c i k : ℕ) → ((j : ℕ) → length (f j) ≤ c) → length (flat f i k) ≤ c * k
@@ -17,7 +17,7 @@ flat-most f c i (suc k) h = rw (length-append, mul-suc) (omega (arith, h i, flat
 pub rows-length : (d c width : ℕ) (words : List ℕ) (from count : ℕ) → ((i : ℕ) → getD words i 0 < 10 ^ suc d) → suc (suc d) * width ≤ c → length (rows width words from count) ≤ c * count
 unfolding rows
 rows-length d c width words from count b h =
-    flat-most (λ i. row width words (from + i)) c 0 count (λ i. le-trans (part-length d (width * (from + i)) width words (below-all (10 ^ suc d) words b)) h)
+    flat-most (λ i. rowLine width words (from + i)) c 0 count (λ i. le-trans (part-length d (width * (from + i)) width words (below-all (10 ^ suc d) words b)) h)
 
 -- a row ends before the next begins
 pub row-within : (width n m : ℕ) → n < m → width * n + width ≤ width * m

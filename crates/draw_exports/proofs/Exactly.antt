@@ -21,10 +21,10 @@ use Rattle.tessellate.specs.declared.answer.PointsAnswer.{PointsAnswer}
 use Rattle.tessellate.specs.declared.answer.PointsAnswer.the-variants as points
 use Rattle.tessellate.specs.declared.answer.IndicesAnswer.{IndicesAnswer}
 use Rattle.tessellate.specs.declared.answer.IndicesAnswer.the-variants as indices
-use Rattle.tessellate.specs.Answers.{toldSize, toldPoints, toldIndices, pointsOf, indicesOf, verdict, pointsVerdict, indicesVerdict}
+use Rattle.tessellate.specs.Answers.{sizeCode, pointsCode, indicesCode, pointsOf, indicesOf, listVerdict, pointsVerdict, indicesVerdict}
 use Rattle.level.proofs.Top.{top-as, is-top, no-top, top-no}
 use Rattle.tessellate.proofs.Measured.{measured, measured-told, sizeIn, size-back}
-use Rattle.answer_codes.specs.Told.{Told}
+use Rattle.answer_codes.specs.AnswerCode.{AnswerCode}
 use Rattle.call_answers.specs.Replies.{unknownSetting, badTop, oneWord, Says}
 use Rattle.call_answers.proofs.Replies.{says-as}
 use Rattle.call_answers.proofs.ClampBytes.{six-numbers}
@@ -76,7 +76,7 @@ pub both : {A : Type 0} (Means : A → Type 0) {right : A} → Means right → (
 both Means m back a = (λ e. subst Means e m, back a)
 
 -- a call answers exactly where its operation does: `right` is the operation's answer, and `t` what the call has to say of it
-call-exactly : {A : Type 0} (bs : List ℕ) (words : List ℕ → List ℕ) (told : A → Told) (Means : A → Type 0) (right bad : A) (back : ℕ → List ℕ → A) {t : Told} {w : List ℕ} {r : ℕ}
+call-exactly : {A : Type 0} (bs : List ℕ) (words : List ℕ → List ℕ) (told : A → AnswerCode) (Means : A → Type 0) (right bad : A) (back : ℕ → List ℕ → A) {t : AnswerCode} {w : List ℕ} {r : ℕ}
     → ((a : A) → right ≡ a ↔ Means a) → told bad ≡ badTop → ((Top (topIn bs) → ⊥) → Means bad) → Readable words told back → told right ≡ t
     → Says words (known bs badTop unknownSetting t) w r → CalledExactly words told bs Means w r
 call-exactly bs words told Means right bad back exactly number no-top read is says =
@@ -105,15 +105,15 @@ module _ (set : Settings) (p : Patch) where
   size-exactly : (s : Size) → measured set p ≡ s ↔ SizeMeans set p s
   size-exactly = rw is-choice (both (SizeMeans set p) size-means means-size)
 
-size-readable : Readable measureWords toldSize sizeIn
+size-readable : Readable measureWords sizeCode sizeIn
 size-readable = record { same = same; no-eight = no-eight; place = λ k. refl }
   where
-    same : (s : Size) → sizeIn (toldSize s .number) (measureWords (toldSize s .values)) ≡ s
+    same : (s : Size) → sizeIn (sizeCode s .number) (measureWords (sizeCode s .values)) ≡ s
     same (size.Counts p i c) = ap (λ (ks : List ℕ). size.Counts p i (clampsIn ks)) (sym (six-numbers p i c)) ∙ size-back (size.Counts p i c)
     same size.Discarded = refl
     same size.BadTop = refl
 
-    no-eight : (s : Size) → eqb (toldSize s .number) 8 ≡ false
+    no-eight : (s : Size) → eqb (sizeCode s .number) 8 ≡ false
     no-eight (size.Counts p i c) = refl
     no-eight size.Discarded = refl
     no-eight size.BadTop = refl
@@ -122,7 +122,7 @@ pub measure-call-exactly : (bs : List ℕ) (xs : List Float) {c′ k′ : List �
 measure-call-exactly bs xs m =
     let set = settingsIn bs in
     let p = patchIn bs xs in
-    call-exactly bs measureWords toldSize (SizeMeans set p) (measured set p) size.BadTop sizeIn (size-exactly set p) refl (λ n. n) size-readable (measured-told set p)
+    call-exactly bs measureWords sizeCode (SizeMeans set p) (measured set p) size.BadTop sizeIn (size-exactly set p) refl (λ n. n) size-readable (measured-told set p)
     (record { number = m .says .number; counts = rw (m .says .counts, m .clamps) })
 
 -- ---- drawing
@@ -161,17 +161,17 @@ pointsIn n c = cond (eqb n 0) (points.Drawn (getD c 0 0)) (cond (eqb n 1) points
 abbrev indicesIn : ℕ → List ℕ → IndicesAnswer
 indicesIn n c = cond (eqb n 0) (indices.Drawn (getD c 0 0)) (cond (eqb n 1) indices.Discarded (cond (eqb n 4) indices.NoRoomForIndices indices.BadTop))
 
-points-readable : Readable oneWord toldPoints pointsIn
+points-readable : Readable oneWord pointsCode pointsIn
 points-readable = record {
-  same = points-cases (λ a. pointsIn (toldPoints a .number) (oneWord (toldPoints a .values)) ≡ a) refl refl refl (λ n. refl);
-  no-eight = points-cases (λ a. eqb (toldPoints a .number) 8 ≡ false) refl refl refl (λ n. refl);
+  same = points-cases (λ a. pointsIn (pointsCode a .number) (oneWord (pointsCode a .values)) ≡ a) refl refl refl (λ n. refl);
+  no-eight = points-cases (λ a. eqb (pointsCode a .number) 8 ≡ false) refl refl refl (λ n. refl);
   place = λ k. refl;
 }
 
-indices-readable : Readable oneWord toldIndices indicesIn
+indices-readable : Readable oneWord indicesCode indicesIn
 indices-readable = record {
-  same = indices-cases (λ a. indicesIn (toldIndices a .number) (oneWord (toldIndices a .values)) ≡ a) refl refl refl (λ n. refl);
-  no-eight = indices-cases (λ a. eqb (toldIndices a .number) 8 ≡ false) refl refl refl (λ n. refl);
+  same = indices-cases (λ a. indicesIn (indicesCode a .number) (oneWord (indicesCode a .values)) ≡ a) refl refl refl (λ n. refl);
+  no-eight = indices-cases (λ a. eqb (indicesCode a .number) 8 ≡ false) refl refl refl (λ n. refl);
   place = λ k. refl;
 }
 
@@ -191,24 +191,24 @@ module _ (set : Settings) (p : Patch) (have : ℕ) where
   indices-exactly : (a : IndicesAnswer) → indicesRight ≡ a ↔ IndicesMeans set p have a
   indices-exactly = draw-exactly set p (indicesOf set p) (indicesOf set p) have _ _ _ _ indices-cases (IndicesMeans set p have) itself itself itself (λ n. itself)
 
-  points-told : toldPoints pointsRight ≡ pointsVerdict set p have
-  unfolding verdict
-  points-told = chosen-map toldPoints (isTop (set .top)) (discards p) (ltb have (3 * pointsOf set p)) _ _ _ _
+  points-told : pointsCode pointsRight ≡ pointsVerdict set p have
+  unfolding listVerdict
+  points-told = chosen-map pointsCode (isTop (set .top)) (discards p) (ltb have (3 * pointsOf set p)) _ _ _ _
 
-  indices-told : toldIndices indicesRight ≡ indicesVerdict set p have
-  unfolding verdict
-  indices-told = chosen-map toldIndices (isTop (set .top)) (discards p) (ltb have (indicesOf set p)) _ _ _ _
+  indices-told : indicesCode indicesRight ≡ indicesVerdict set p have
+  unfolding listVerdict
+  indices-told = chosen-map indicesCode (isTop (set .top)) (discards p) (ltb have (indicesOf set p)) _ _ _ _
 
 pub points-call-exactly : (bs : List ℕ) (xs : List Float) {l l′ c′ : List ℕ} {r : ℕ} → PointsCalled bs xs l l′ c′ r → PointsExactly bs xs (length l) c′ r
 points-call-exactly bs xs {l} d =
     let set = settingsIn bs in
     let p = patchIn bs xs in
-    call-exactly bs oneWord toldPoints (PointsMeans set p (length l)) (pointsRight set p (length l)) points.BadTop pointsIn (points-exactly set p (length l)) refl (λ n. n) points-readable
+    call-exactly bs oneWord pointsCode (PointsMeans set p (length l)) (pointsRight set p (length l)) points.BadTop pointsIn (points-exactly set p (length l)) refl (λ n. n) points-readable
     (points-told set p (length l)) (d .says)
 
 pub indices-call-exactly : (bs : List ℕ) (xs : List Float) {l l′ c′ : List ℕ} {r : ℕ} → IndicesCalled bs xs l l′ c′ r → IndicesExactly bs xs (length l) c′ r
 indices-call-exactly bs xs {l} d =
     let set = settingsIn bs in
     let p = patchIn bs xs in
-    call-exactly bs oneWord toldIndices (IndicesMeans set p (length l)) (indicesRight set p (length l)) indices.BadTop indicesIn (indices-exactly set p (length l)) refl (λ n. n) indices-readable
+    call-exactly bs oneWord indicesCode (IndicesMeans set p (length l)) (indicesRight set p (length l)) indices.BadTop indicesIn (indices-exactly set p (length l)) refl (λ n. n) indices-readable
     (indices-told set p (length l)) (d .says)

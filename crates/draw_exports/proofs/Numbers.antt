@@ -8,28 +8,28 @@ use lib.Dec.{ltb}
 use lib.Ieee.{Float}
 use Rattle.level.specs.Top.{isTop}
 use Rattle.patch.specs.Subdivide.{discards}
-use Rattle.job_fields.specs.Settings.{firstUnknown}
-use Rattle.tessellate.specs.Answers.{pointsOf, indicesOf, verdict, measureVerdict}
-use Rattle.answer_codes.specs.Told.{Told}
+use Rattle.job_fields.specs.Settings.{firstUnknownSetting}
+use Rattle.tessellate.specs.Answers.{pointsOf, indicesOf, listVerdict, measureVerdict}
+use Rattle.answer_codes.specs.AnswerCode.{AnswerCode}
 use Rattle.call_answers.specs.Replies.{unknownSetting, badTop, OneOf}
 use Rattle.call_inputs.specs.Inputs.{topIn, patchIn, settingsIn}
 use Rattle.call_inputs.specs.Asked.{known}
 use Rattle.draw_exports.specs.Calls.{pointsSay, indicesSay, measureSays}
 
 -- one of two answers
-either : (ns : List ℕ) (b : Bool) (s t : Told) → OneOf ns (s .number) → OneOf ns (t .number) → OneOf ns (cond b s t .number)
+either : (ns : List ℕ) (b : Bool) (s t : AnswerCode) → OneOf ns (s .number) → OneOf ns (t .number) → OneOf ns (cond b s t .number)
 either ns true s t h k = h
 either ns false s t h k = k
 
 module _ (bs : List ℕ) (xs : List Float) where
   draw-number : (short need have count : ℕ)
-      → OneOf (0 ∷ 1 ∷ short ∷ 8 ∷ 11 ∷ []) (known bs badTop unknownSetting (verdict (settingsIn bs) (patchIn bs xs) short need have count) .number)
-  unfolding known verdict
+      → OneOf (0 ∷ 1 ∷ short ∷ 8 ∷ 11 ∷ []) (known bs badTop unknownSetting (listVerdict (settingsIn bs) (patchIn bs xs) short need have count) .number)
+  unfolding known listVerdict
   draw-number short need have count =
       let of = either (0 ∷ 1 ∷ short ∷ 8 ∷ 11 ∷ []) in
       let eleven = inr (inr (inr (inr (inl refl)))) in
       of (isTop (topIn bs)) _ _
-      (of (ltb (firstUnknown bs 0) 5) _ _ (inr (inr (inr (inl refl))))
+      (of (ltb (firstUnknownSetting bs 0) 5) _ _ (inr (inr (inr (inl refl))))
       (of (isTop (topIn bs)) _ _ (of (discards (patchIn bs xs)) _ _ (inr (inl refl)) (of (ltb have need) _ _ (inr (inr (inl refl))) (inl refl))) eleven))
       eleven
 
@@ -45,5 +45,5 @@ module _ (bs : List ℕ) (xs : List Float) where
       let of = either (0 ∷ 1 ∷ 8 ∷ 11 ∷ []) in
       let eleven = inr (inr (inr (inl refl))) in
       of (isTop (topIn bs)) _ _
-      (of (ltb (firstUnknown bs 0) 5) _ _ (inr (inr (inl refl))) (of (isTop (topIn bs)) _ _ (of (discards (patchIn bs xs)) _ _ (inr (inl refl)) (inl refl)) eleven))
+      (of (ltb (firstUnknownSetting bs 0) 5) _ _ (inr (inr (inl refl))) (of (isTop (topIn bs)) _ _ (of (discards (patchIn bs xs)) _ _ (inr (inl refl)) (inl refl)) eleven))
       eleven

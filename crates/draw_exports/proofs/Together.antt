@@ -18,8 +18,8 @@ use Rattle.patch_mesh.specs.Inside.{SpotsOnce}
 use Rattle.patch_mesh.specs.Kept.{Alike}
 use Rattle.tessellate.specs.declared.answer.PointsAnswer.the-variants as points
 use Rattle.tessellate.specs.declared.answer.IndicesAnswer.the-variants as indices
-use Rattle.tessellate.specs.Answers.{pointsOf, indicesOf, verdict, pointsVerdict, indicesVerdict}
-use Rattle.answer_codes.specs.Told.{Told, refused, drew}
+use Rattle.tessellate.specs.Answers.{pointsOf, indicesOf, listVerdict, pointsVerdict, indicesVerdict}
+use Rattle.answer_codes.specs.AnswerCode.{AnswerCode, refused, drew}
 use Rattle.tessellate.specs.Draws.{DrewPoints, DrewIndices, pointWords, connectionWords}
 use Rattle.answer_codes.specs.Drew.{Drew}
 use Rattle.tessellate.proofs.Together.{demand-together, once-together, kept}
@@ -27,11 +27,11 @@ use Rattle.call_answers.specs.Replies.{unknownSetting, badTop}
 use Rattle.call_inputs.specs.Inputs.{patchIn, settingsIn}
 use Rattle.call_inputs.specs.Asked.{known}
 use Rattle.call_inputs.proofs.Known.{known-zero}
-use Rattle.draw_exports.specs.Calls.{Called, PointsCalled, IndicesCalled}
+use Rattle.draw_exports.specs.Calls.{ListCalled, PointsCalled, IndicesCalled}
 
 pub verdict-zero : (set : Settings) (p : Patch) (short need have count : ℕ)
-    → verdict set p (short + 1) need have count .number ≡ 0 → verdict set p (short + 1) need have count ≡ drew count
-unfolding verdict
+    → listVerdict set p (short + 1) need have count .number ≡ 0 → listVerdict set p (short + 1) need have count ≡ drew count
+unfolding listVerdict
 verdict-zero set p short need have count = go (isTop (set .top)) (discards p) (ltb have need)
   where
     go : (a b c : Bool) → cond a (cond b (refused 1) (cond c (refused (short + 1)) (drew count))) (refused 11) .number ≡ 0
@@ -42,20 +42,20 @@ verdict-zero set p short need have count = go (isTop (set .top)) (discards p) (l
     go true false false e = refl
 
 -- a call that answered 0 drew, and its count is right
-pub record Drawn (right : Told) (words l l′ c′ : List ℕ) (count : ℕ) : Type 0 where
+pub record Drawn (right : AnswerCode) (words l l′ c′ : List ℕ) (count : ℕ) : Type 0 where
   pub drawn : Drew (drew count) right words l l′
   pub counted : getD c′ 0 0 ≡ count
 
 module _ (bs : List ℕ) (set : Settings) (p : Patch) (short need have count : ℕ) where
-  zero-drew : {words l l′ c′ : List ℕ} → Called (known bs badTop unknownSetting (verdict set p (short + 1) need have count)) words l l′ c′ 0
-      → Drawn (verdict set p (short + 1) need have count) words l l′ c′ count
+  zero-drew : {words l l′ c′ : List ℕ} → ListCalled (known bs badTop unknownSetting (listVerdict set p (short + 1) need have count)) words l l′ c′ 0
+      → Drawn (listVerdict set p (short + 1) need have count) words l l′ c′ count
   zero-drew {c′ = c′} d =
-      let t = verdict set p (short + 1) need have count in
+      let t = listVerdict set p (short + 1) need have count in
       let k = known-zero bs t (sym (d .says .number)) in
-      let z = verdict-zero set p short need have count (ap (λ (x : Told). x .number) (sym k) ∙ sym (d .says .number)) in
+      let z = verdict-zero set p short need have count (ap (λ (x : AnswerCode). x .number) (sym k) ∙ sym (d .says .number)) in
       record {
         drawn = record { answer = sym z; list = d .list };
-        counted = ap (λ (c : List ℕ). getD c 0 0) (d .says .counts) ∙ ap (λ (x : Told). getD (x .values) 0 0) (k ∙ z);
+        counted = ap (λ (c : List ℕ). getD c 0 0) (d .says .counts) ∙ ap (λ (x : AnswerCode). getD (x .values) 0 0) (k ∙ z);
       }
 
 module _ (bs : List ℕ) (xs : List Float) where

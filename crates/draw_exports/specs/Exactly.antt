@@ -15,7 +15,7 @@ use Rattle.tessellate.specs.declared.answer.PointsAnswer.{PointsAnswer}
 use Rattle.tessellate.specs.declared.answer.PointsAnswer.the-variants as points
 use Rattle.tessellate.specs.declared.answer.IndicesAnswer.{IndicesAnswer}
 use Rattle.tessellate.specs.declared.answer.IndicesAnswer.the-variants as indices
-use Rattle.tessellate.specs.Answers.{toldSize, toldPoints, toldIndices, pointsOf, indicesOf}
+use Rattle.tessellate.specs.Answers.{sizeCode, pointsCode, indicesCode, pointsOf, indicesOf}
 use Rattle.call_answers.specs.Clamps.{clampBytes}
 use Rattle.call_answers.specs.Replies.{twoWords, oneWord}
 use Rattle.call_inputs.specs.Inputs.{patchIn, settingsIn}
@@ -54,10 +54,10 @@ measureWords vs = twoWords vs ++ clampBytes vs
 
 -- each answer is given, by number and words, exactly if it is right; c′ are the counts at exit and k′ the clamps
 abbrev pub MeasureExactly : List ℕ → List Float → List ℕ → List ℕ → ℕ → Type 0
-MeasureExactly bs xs c′ k′ r = CalledExactly measureWords toldSize bs (SizeMeans (settingsIn bs) (patchIn bs xs)) (c′ ++ k′) r
+MeasureExactly bs xs c′ k′ r = CalledExactly measureWords sizeCode bs (SizeMeans (settingsIn bs) (patchIn bs xs)) (c′ ++ k′) r
 
 abbrev pub PointsExactly : List ℕ → List Float → ℕ → List ℕ → ℕ → Type 0
-PointsExactly bs xs v c′ r = CalledExactly oneWord toldPoints bs (PointsMeans (settingsIn bs) (patchIn bs xs) v) c′ r
+PointsExactly bs xs v c′ r = CalledExactly oneWord pointsCode bs (PointsMeans (settingsIn bs) (patchIn bs xs) v) c′ r
 
 abbrev pub IndicesExactly : List ℕ → List Float → ℕ → List ℕ → ℕ → Type 0
-IndicesExactly bs xs i c′ r = CalledExactly oneWord toldIndices bs (IndicesMeans (settingsIn bs) (patchIn bs xs) i) c′ r
+IndicesExactly bs xs i c′ r = CalledExactly oneWord indicesCode bs (IndicesMeans (settingsIn bs) (patchIn bs xs) i) c′ r

@@ -2,7 +2,7 @@
 ghost use lib.ListN.{length};
 ghost use Rattle.tessellate.specs.Answers.{pointsVerdict, indicesVerdict};
 ghost use Rattle.tessellate.specs.Draws.{pointWords, connectionWords};
-ghost use Rattle.draw_exports.specs.Calls.{Called, PointsCalled, IndicesCalled};
+ghost use Rattle.draw_exports.specs.Calls.{ListCalled, PointsCalled, IndicesCalled};
 use call_answers::reply::of_indices;
 use call_answers::reply::of_points;
 use call_answers::reply::say_one;
@@ -12,14 +12,14 @@ use patch::kinds::Patch;
 use patch::settings::Settings;
 
 fn points_of(patch: Patch, settings: Settings, vertices: &mut [u32], count: &mut [u32; 1]) -> u32
-    ensures { λ r. ⌜ Called (pointsVerdict settings patch (length (now (vertices .entry)))) (pointWords settings patch) (now (vertices .entry)) (now (vertices .exit)) (now (count .exit)) r ⌝ }
+    ensures { λ r. ⌜ ListCalled (pointsVerdict settings patch (length (now (vertices .entry)))) (pointWords settings patch) (now (vertices .entry)) (now (vertices .exit)) (now (count .exit)) r ⌝ }
 {
     let answer = tessellate::draw::draw_points(patch, settings, vertices);
     say_one(of_points(answer), count)
 }
 
 fn indices_of(patch: Patch, settings: Settings, indices: &mut [u16], count: &mut [u32; 1]) -> u32
-    ensures { λ r. ⌜ Called (indicesVerdict settings patch (length (now (indices .entry)))) (connectionWords settings patch) (now (indices .entry)) (now (indices .exit)) (now (count .exit)) r ⌝ }
+    ensures { λ r. ⌜ ListCalled (indicesVerdict settings patch (length (now (indices .entry)))) (connectionWords settings patch) (now (indices .entry)) (now (indices .exit)) (now (count .exit)) r ⌝ }
 {
     let answer = tessellate::draw::draw_indices(patch, settings, indices);
     say_one(of_indices(answer), count)

@@ -11,7 +11,7 @@ use Rattle.level.proofs.Valid.{segments-valid}
 use Rattle.patch.specs.declared.kinds.Patch.{Patch}
 use Rattle.patch.specs.declared.kinds.Patch.the-variants.{Triangles, Quads, Isolines}
 use Rattle.patch.specs.declared.settings.Settings.{Settings}
-use Rattle.patch.specs.Subdivide.{outers, subdivisionOf}
+use Rattle.patch.specs.Subdivide.{outerLevels, subdivisionOf}
 use Rattle.mesh_geometry.specs.declared.Point.{Point}
 use Rattle.mesh_geometry.specs.Cover.{missing}
 use Rattle.mesh_geometry.specs.Seam.{places, Mirrors}
@@ -29,8 +29,8 @@ use Rattle.level.proofs.Top.{top-as}
 use Rattle.tessellate.proofs.Together.{points-drawn}
 use Rattle.coordinate.specs.Coordinate.{coordinate}
 use Rattle.draw_floats.specs.declared.answer.FloatsAnswer.{FloatsAnswer}
-use Rattle.answer_codes.specs.Told.{drewBoth}
-use Rattle.draw_floats.specs.Answers.{toldFloats}
+use Rattle.answer_codes.specs.AnswerCode.{drewBoth}
+use Rattle.draw_floats.specs.Answers.{floatsCode}
 use Rattle.draw_floats.specs.Draws.{DrewWithFloats}
 use Rattle.draw_floats.specs.Edges.{axis, inRisingOrder, edgeFloat, floatsAlong, SameKind}
 use Rattle.draw_floats.proofs.Together.{fits, as-points}
@@ -63,7 +63,7 @@ word-of ps (suc (suc zero)) j h l =
 word-of ps (suc (suc (suc n))) j h l = absurd (omega arith)
 
 module _ (set : Settings) (p : Patch) (r : FloatsAnswer) {v v′ i i′ : List ℕ} {f f′ : List Float} {P I : ℕ}
-    (d : DrewWithFloats set p v v′ i i′ f f′ r) (e : toldFloats r ≡ drewBoth P I) where
+    (d : DrewWithFloats set p v v′ i i′ f f′ r) (e : floatsCode r ≡ drewBoth P I) where
   abbrev drawn : List Point
   drawn = points (subdivisionOf set p)
 
@@ -119,7 +119,7 @@ by-places (Isolines a b) q s k k′ qs qs′ m e = absurd s
 
 -- two outer edges with the same places, of two patches of one kind or of one patch, have the same floats along them
 pub same-floats : {set : Settings} {p : Patch} {ps : List Point} {ws : List ℕ} → Top (set .top) → Demand set p ps ws → Surface p
-    → (p′ : Patch) (ps′ : List Point) → SameKind p p′ → (k k′ : ℕ) → k < length (outers p) → places (edges p k) ps ≡ places (edges p′ k′) ps′ → floatsAlong p k ps ≡ floatsAlong p′ k′ ps′
+    → (p′ : Patch) (ps′ : List Point) → SameKind p p′ → (k k′ : ℕ) → k < length (outerLevels p) → places (edges p k) ps ≡ places (edges p′ k′) ps′ → floatsAlong p k ps ≡ floatsAlong p′ k′ ps′
 same-floats {set} {p} {ps} top d f p′ ps′ s k k′ h e =
     let g = good-run _ (segments-valid (set .spacing) (set .top) top (outerLevel p k)) in
     by-places p p′ s k k′ (places (edges p k) ps) (places (edges p′ k′) ps′) (rw (seam d f k h) (good-mirrors g)) e

@@ -24,8 +24,8 @@ use Rattle.level.proofs.Top.{top-as}
 use Rattle.coordinate.specs.Coordinate.{coordinate}
 use Rattle.coordinate.proofs.Laws.{exact, near, triangle-apart, quad-apart}
 use Rattle.draw_floats.specs.declared.answer.FloatsAnswer.{FloatsAnswer}
-use Rattle.answer_codes.specs.Told.{drewBoth}
-use Rattle.draw_floats.specs.Answers.{toldFloats}
+use Rattle.answer_codes.specs.AnswerCode.{drewBoth}
+use Rattle.draw_floats.specs.Answers.{floatsCode}
 use Rattle.draw_floats.specs.Draws.{floatWords, DrewWithFloats}
 use Rattle.draw_floats.specs.Said.{FloatOf}
 use Rattle.draw_floats.proofs.Lists.{counted, word-at, word-small}
@@ -51,7 +51,7 @@ point-at (p ∷ ps) zero n h e = let z : n ≡ 0 = omega arith in rw z
 point-at (p ∷ ps) (suc j) n h e = let z : n ≡ suc (suc (suc (3 * j))) = omega arith in rw z (point-at ps j (3 * j) (omega arith) refl)
 
 module _ (set : Settings) (p : Patch) (r : FloatsAnswer) {v v′ i i′ : List ℕ} {f f′ : List Float} {P I : ℕ}
-    (d : DrewWithFloats set p v v′ i i′ f f′ r) (e : toldFloats r ≡ drewBoth P I) where
+    (d : DrewWithFloats set p v v′ i i′ f f′ r) (e : floatsCode r ≡ drewBoth P I) where
   pub many : 3 * P ≡ length (pointWords set p)
   many = counted set p (fits set p r d e)
 

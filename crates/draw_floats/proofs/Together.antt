@@ -12,18 +12,18 @@ use Rattle.patch_mesh.specs.Demand.{Demand}
 use Rattle.patch_mesh.specs.Inside.{SpotsOnce}
 use Rattle.tessellate.specs.declared.answer.PointsAnswer.the-variants as points
 use Rattle.tessellate.specs.declared.answer.IndicesAnswer.the-variants as indices
-use Rattle.answer_codes.specs.Told.{drew, drewBoth}
+use Rattle.answer_codes.specs.AnswerCode.{drew, drewBoth}
 use Rattle.tessellate.specs.Draws.{DrewPoints, DrewIndices}
 use Rattle.tessellate.proofs.Draws.{told-drawn}
 use Rattle.answer_codes.proofs.Drew.{written}
 use Rattle.tessellate.proofs.Together.{demand-together, once-together}
 use Rattle.draw_floats.specs.declared.answer.FloatsAnswer.{FloatsAnswer}
-use Rattle.draw_floats.specs.Answers.{toldFloats}
+use Rattle.draw_floats.specs.Answers.{floatsCode}
 use Rattle.draw_floats.specs.Draws.{DrewWithFloats}
 use Rattle.draw_floats.proofs.Verdicts.{Fits, drawn-fits}
 
 module _ (set : Settings) (p : Patch) (r : FloatsAnswer) {v v′ i i′ : List ℕ} {f f′ : List Float} {P I : ℕ}
-    (d : DrewWithFloats set p v v′ i i′ f f′ r) (e : toldFloats r ≡ drewBoth P I) where
+    (d : DrewWithFloats set p v v′ i i′ f f′ r) (e : floatsCode r ≡ drewBoth P I) where
   pub fits : Fits set p v i f P I
   fits = drawn-fits set p v i f P I (sym e ∙ d .answer)
 

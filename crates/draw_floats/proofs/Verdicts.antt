@@ -14,17 +14,17 @@ use Rattle.patch.specs.declared.settings.Settings.{Settings}
 use Rattle.patch.specs.Subdivide.{discards}
 use Rattle.tessellate.specs.declared.answer.Size.{Size}
 use Rattle.tessellate.specs.declared.answer.Size.the-variants.{Counts, Discarded, BadTop}
-use Rattle.tessellate.specs.Answers.{pointsOf, indicesOf, toldSize, measureVerdict}
-use Rattle.answer_codes.specs.Told.{Told, refused, drewBoth}
+use Rattle.tessellate.specs.Answers.{pointsOf, indicesOf, sizeCode, measureVerdict}
+use Rattle.answer_codes.specs.AnswerCode.{AnswerCode, refused, drewBoth}
 use Rattle.tessellate.proofs.Measured.{measured, is-measured}
 use Rattle.draw_floats.specs.declared.answer.FloatsAnswer.{FloatsAnswer}
 use Rattle.draw_floats.specs.declared.answer.FloatsAnswer.the-variants.{Drawn}
-use Rattle.draw_floats.specs.Answers.{toldFloats, roomVerdict, floatsVerdict}
+use Rattle.draw_floats.specs.Answers.{floatsCode, floatsRoomVerdict, floatsVerdict}
 
 module _ (v i f : ℕ) where
   -- by the result of measuring
-  abbrev pub sizeVerdict : Size → Told
-  sizeVerdict (Counts points indices c) = roomVerdict points indices v i f
+  abbrev pub sizeVerdict : Size → AnswerCode
+  sizeVerdict (Counts points indices c) = floatsRoomVerdict points indices v i f
   sizeVerdict Discarded = refused 1
   sizeVerdict BadTop = refused 11
 
@@ -37,7 +37,7 @@ module _ (v i f : ℕ) where
       go true false s = refl
       go false b s = refl
 
-  pub judged : (set : Settings) (p : Patch) {size s : Size} {t : Told} → toldSize size ≡ measureVerdict set p → size ≡ s → t ≡ sizeVerdict s → t ≡ floatsVerdict set p v i f
+  pub judged : (set : Settings) (p : Patch) {size s : Size} {t : AnswerCode} → sizeCode size ≡ measureVerdict set p → size ≡ s → t ≡ sizeVerdict s → t ≡ floatsVerdict set p v i f
   judged set p e is h = h ∙ ap sizeVerdict (sym is ∙ is-measured set p e) ∙ by-size set p
 
 -- what "drawn" means: the top level is good, the patch is not discarded, each list has room, and the counts are right
@@ -59,7 +59,7 @@ drawn-fits set p vs is fs P I e =
     go (isTop (set .top)) (discards p) (ltb v (3 * pointsOf set p)) (ltb i (indicesOf set p)) (ltb f (3 * pointsOf set p)) refl refl refl refl refl e
   where
     not-refused : (k : ℕ) → drewBoth P I ≡ refused (k + 1) → Fits set p vs is fs P I
-    not-refused k h = let z : _≡_ {A = ℕ} 0 (k + 1) = ap (λ (t : Told). t .number) h in absurd (omega arith)
+    not-refused k h = let z : _≡_ {A = ℕ} 0 (k + 1) = ap (λ (t : AnswerCode). t .number) h in absurd (omega arith)
 
     go : (t a b c d : Bool) → isTop (set .top) ≡ t → discards p ≡ a → ltb (length vs) (3 * pointsOf set p) ≡ b → ltb (length is) (indicesOf set p) ≡ c
         → ltb (length fs) (3 * pointsOf set p) ≡ d
@@ -77,11 +77,11 @@ drawn-fits set p vs is fs P I e =
       vertices = ltb-false (length vs) (3 * pointsOf set p) eb;
       corners = ltb-false (length is) (indicesOf set p) ec;
       floats = ltb-false (length fs) (3 * pointsOf set p) ed;
-      point-count = ap (λ (t : Told). getD (t .values) 0 0) h;
-      index-count = ap (λ (t : Told). getD (t .values) 1 0) h;
+      point-count = ap (λ (t : AnswerCode). getD (t .values) 0 0) h;
+      index-count = ap (λ (t : AnswerCode). getD (t .values) 1 0) h;
     }
 
 -- for an answer by its name
 pub answer-fits : (set : Settings) (p : Patch) (vs is : List ℕ) (fs : List Float) {P I : ℕ} (r : FloatsAnswer) → r ≡ Drawn P I
-    → toldFloats r ≡ floatsVerdict set p (length vs) (length is) (length fs) → Fits set p vs is fs P I
-answer-fits set p vs is fs {P} {I} r e h = drawn-fits set p vs is fs P I (ap toldFloats (sym e) ∙ h)
+    → floatsCode r ≡ floatsVerdict set p (length vs) (length is) (length fs) → Fits set p vs is fs P I
+answer-fits set p vs is fs {P} {I} r e h = drawn-fits set p vs is fs P I (ap floatsCode (sym e) ∙ h)

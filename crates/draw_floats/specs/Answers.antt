@@ -7,26 +7,26 @@ use Rattle.patch.specs.declared.kinds.Patch.{Patch}
 use Rattle.patch.specs.declared.settings.Settings.{Settings}
 use Rattle.patch.specs.Subdivide.{discards}
 use Rattle.tessellate.specs.Answers.{pointsOf, indicesOf}
-use Rattle.answer_codes.specs.Told.{Told, refused, drewBoth}
+use Rattle.answer_codes.specs.AnswerCode.{AnswerCode, refused, drewBoth}
 use Rattle.draw_floats.specs.declared.answer.FloatsAnswer.{FloatsAnswer}
 use Rattle.draw_floats.specs.declared.answer.FloatsAnswer.the-variants.{Drawn, Discarded, NoRoomForVertices, NoRoomForIndices, NoRoomForFloats, BadTop}
 
 -- the numbers are those of the two drawing operations, and 9 if there is no room for the floats
-abbrev pub toldFloats : FloatsAnswer → Told
-toldFloats (Drawn points indices) = drewBoth points indices
-toldFloats Discarded = refused 1
-toldFloats NoRoomForVertices = refused 3
-toldFloats NoRoomForIndices = refused 4
-toldFloats NoRoomForFloats = refused 9
-toldFloats BadTop = refused 11
+abbrev pub floatsCode : FloatsAnswer → AnswerCode
+floatsCode (Drawn points indices) = drewBoth points indices
+floatsCode Discarded = refused 1
+floatsCode NoRoomForVertices = refused 3
+floatsCode NoRoomForIndices = refused 4
+floatsCode NoRoomForFloats = refused 9
+floatsCode BadTop = refused 11
 
 -- the answer for this many points and indices, with lists of v, i and f words: each point takes three words and three floats;
 -- of the refusals that apply the lowest number is given
-unfoldable pub roomVerdict : ℕ → ℕ → ℕ → ℕ → ℕ → Told
-roomVerdict points indices v i f =
+unfoldable pub floatsRoomVerdict : ℕ → ℕ → ℕ → ℕ → ℕ → AnswerCode
+floatsRoomVerdict points indices v i f =
     cond (ltb v (3 * points)) (refused 3) (cond (ltb i indices) (refused 4) (cond (ltb f (3 * points)) (refused 9) (drewBoth points indices)))
 
 -- the answer of drawing with floats: a bad top level first, then the lowest number that applies
-unfoldable pub floatsVerdict : Settings → Patch → ℕ → ℕ → ℕ → Told
-unfolding roomVerdict
-floatsVerdict set p v i f = cond (isTop (set .top)) (cond (discards p) (refused 1) (roomVerdict (pointsOf set p) (indicesOf set p) v i f)) (refused 11)
+unfoldable pub floatsVerdict : Settings → Patch → ℕ → ℕ → ℕ → AnswerCode
+unfolding floatsRoomVerdict
+floatsVerdict set p v i f = cond (isTop (set .top)) (cond (discards p) (refused 1) (floatsRoomVerdict (pointsOf set p) (indicesOf set p) v i f)) (refused 11)

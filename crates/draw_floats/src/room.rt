@@ -1,6 +1,6 @@
 // Why a drawing is refused, found before the first word is written: the lowest number that applies.
 ghost use mathlib.Core.Path.{_≡_};
-ghost use Rattle.draw_floats.specs.Answers.{toldFloats, roomVerdict, floatsVerdict};
+ghost use Rattle.draw_floats.specs.Answers.{floatsCode, floatsRoomVerdict, floatsVerdict};
 use crate::answer::FloatsAnswer;
 use patch::kinds::Patch;
 use patch::settings::Settings;
@@ -14,7 +14,7 @@ fn find_room(
     index_words: usize,
     float_words: usize,
 ) -> FloatsAnswer
-    ensures { λ r. ⌜ toldFloats r ≡ roomVerdict points indices «vertex_words» «index_words» «float_words» ⌝ }
+    ensures { λ r. ⌜ floatsCode r ≡ floatsRoomVerdict points indices «vertex_words» «index_words» «float_words» ⌝ }
 {
     let words = 3 * (points as usize);
     if vertex_words < words {
@@ -36,7 +36,7 @@ pub(crate) fn judge(
     index_words: usize,
     float_words: usize,
 ) -> FloatsAnswer
-    ensures { λ r. ⌜ toldFloats r ≡ floatsVerdict settings patch «vertex_words» «index_words» «float_words» ⌝ }
+    ensures { λ r. ⌜ floatsCode r ≡ floatsVerdict settings patch «vertex_words» «index_words» «float_words» ⌝ }
 {
     let size = tessellate::measure::measure(patch, settings);
     match size {

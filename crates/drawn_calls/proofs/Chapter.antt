@@ -14,14 +14,14 @@ use Rattle.patch.specs.declared.settings.Settings.{Settings}
 use Rattle.patch.specs.Subdivide.{discards}
 use Rattle.mesh_geometry.specs.Words.{readPoints}
 use Rattle.job_fields.specs.Settings.{choices, AllBelow}
-use Rattle.tessellate.specs.Answers.{pointsOf, indicesOf, verdict}
-use Rattle.answer_codes.specs.Told.{Told, refused, drew}
+use Rattle.tessellate.specs.Answers.{pointsOf, indicesOf, listVerdict}
+use Rattle.answer_codes.specs.AnswerCode.{AnswerCode, refused, drew}
 use Rattle.level.proofs.Top.{top-as, is-top}
 use Rattle.call_answers.specs.Replies.{unknownSetting, badTop}
 use Rattle.call_inputs.specs.Inputs.{patchIn, settingsIn}
 use Rattle.call_inputs.specs.Asked.{known}
 use Rattle.call_inputs.proofs.Known.{known-cases, not-all}
-use Rattle.draw_exports.specs.Calls.{Called, PointsCalled, IndicesCalled}
+use Rattle.draw_exports.specs.Calls.{ListCalled, PointsCalled, IndicesCalled}
 use Rattle.vulkan_chapter.specs.Chapter.{Chapter}
 use Rattle.vulkan_chapter.proofs.Spacing.{ourEdges}
 use Rattle.vulkan_chapter.proofs.Discard.{discards-exactly}
@@ -45,11 +45,11 @@ module _ (bs : List ℕ) (xs : List Float) where
 
   -- ---- 23.2
   module _ (short need have count : ℕ) (other : short ≡ 1 → ⊥) where
-    abbrev says : Told
-    says = verdict set p short need have count
+    abbrev says : AnswerCode
+    says = listVerdict set p short need have count
 
     of-verdict : AllBelow choices bs 0 → 1 ≡ says .number → DiscardedIn bs xs
-    unfolding verdict
+    unfolding listVerdict
     of-verdict below h = go (isTop (set .top)) (discards p) (ltb have need) refl refl h
       where
         go : (a b c : Bool) → isTop (set .top) ≡ a → discards p ≡ b → 1 ≡ cond a (cond b (refused 1) (cond c (refused short) (drew count))) (refused 11) .number → DiscardedIn bs xs
@@ -60,16 +60,16 @@ module _ (bs : List ℕ) (xs : List Float) where
 
     only : 1 ≡ known bs badTop unknownSetting says .number → DiscardedIn bs xs
     only =
-        known-cases bs badTop unknownSetting says (λ (x : Told). 1 ≡ x .number → DiscardedIn bs xs)
+        known-cases bs badTop unknownSetting says (λ (x : AnswerCode). 1 ≡ x .number → DiscardedIn bs xs)
         (λ h e. absurd (omega (arith, e))) (λ k h f e. absurd (omega (arith, e))) (λ h below e. of-verdict below e)
 
     where-so : DiscardedIn bs xs → known bs badTop unknownSetting says .number ≡ 1
-    unfolding verdict
+    unfolding listVerdict
     where-so d =
-        known-cases bs badTop unknownSetting says (λ (x : Told). x .number ≡ 1)
+        known-cases bs badTop unknownSetting says (λ (x : AnswerCode). x .number ≡ 1)
         (λ h. absurd (h (d .top))) (λ k h f. absurd (not-all bs k f (d .known))) (λ h below. rw (is-top (set .top) (d .top), discards-exactly p .1 (d .patch)))
 
-    call-discards : {words l l′ c′ : List ℕ} {r : ℕ} → Called (known bs badTop unknownSetting says) words l l′ c′ r → CallDiscards bs xs l l′ r
+    call-discards : {words l l′ c′ : List ℕ} {r : ℕ} → ListCalled (known bs badTop unknownSetting says) words l l′ c′ r → CallDiscards bs xs l l′ r
     call-discards d = record {
       exactly = (λ e. only (sym e ∙ d .says .number), λ h. d .says .number ∙ where-so h);
       untouched = λ e. d .list ∙ rw e;

@@ -8,7 +8,7 @@ use native.Mathlib.Omega.{arith}
 use lib.Ieee.{Float}
 use lib.ListN.{length, getD}
 use Rattle.patch.specs.declared.kinds.Patch.{Patch}
-use Rattle.patch.specs.Subdivide.{outers}
+use Rattle.patch.specs.Subdivide.{outerLevels}
 use Rattle.patch_mesh.specs.Demand.{Surface, outerLevel}
 use Rattle.job.specs.Patches.{patchWith}
 use Rattle.job_fields.specs.Bytes.{byteAt}

@@ -14,7 +14,7 @@ use Rattle.mesh_geometry.proofs.ReadBack.{read-points}
 use Rattle.job_fields.specs.Settings.{choices, AllBelow}
 use Rattle.tessellate.specs.declared.answer.PointsAnswer.the-variants as point-answers
 use Rattle.tessellate.specs.declared.answer.IndicesAnswer.the-variants as index-answers
-use Rattle.answer_codes.specs.Told.{Told}
+use Rattle.answer_codes.specs.AnswerCode.{AnswerCode}
 use Rattle.tessellate.specs.Draws.{DrewPoints, DrewIndices, pointWords, connectionWords}
 use Rattle.tessellate.proofs.Together.{points-drawn, point-words-drawn, indices-drawn}
 use Rattle.draw_floats.specs.declared.answer.FloatsAnswer.the-variants as floats
@@ -31,9 +31,9 @@ use Rattle.drawn_calls.specs.Written.{CallDrew, CallConnected}
 use Rattle.drawn_calls.specs.Written as written
 
 -- a call that answers 0 has settings that are all in range
-zero-known : (bs : List ℕ) (t : Told) → 0 ≡ known bs badTop unknownSetting t .number → AllBelow choices bs 0
+zero-known : (bs : List ℕ) (t : AnswerCode) → 0 ≡ known bs badTop unknownSetting t .number → AllBelow choices bs 0
 zero-known bs t =
-    known-cases bs badTop unknownSetting t (λ (x : Told). 0 ≡ x .number → AllBelow choices bs 0) (λ h e. absurd (omega (arith, e))) (λ k h f e. absurd (omega (arith, e))) (λ h below e. below)
+    known-cases bs badTop unknownSetting t (λ (x : AnswerCode). 0 ≡ x .number → AllBelow choices bs 0) (λ h e. absurd (omega (arith, e))) (λ k h f e. absurd (omega (arith, e))) (λ h below e. below)
 
 -- the settings are known and the patch is drawn; ws are the words that it has
 pub record Words (bs : List ℕ) (xs : List Float) (ws right : List ℕ) : Type 0 where

@@ -9,7 +9,7 @@ use Rattle.mesh_geometry.specs.declared.Point.{Point}
 use Rattle.mesh_geometry.specs.Words.{readPoints}
 use Rattle.call_inputs.specs.Inputs.{patchIn, settingsIn}
 use Rattle.share_state.specs.SharedList.{firstFree}
-use Rattle.share_answers.specs.Answers.{pointsIn}
+use Rattle.share_answers.specs.Answers.{pointsHeld}
 use Rattle.share_words.specs.Words.{stateIn, designerOf}
 use Rattle.draw_exports.specs.Calls.{PointsCalled, IndicesCalled}
 use Rattle.float_exports.specs.Calls.{FloatsCalled}
@@ -28,7 +28,7 @@ pub data CallConnected (bs : List ℕ) (xs : List Float) : List ℕ → Type 0 w
   indices : (i i′ c′ : List ℕ) → IndicesCalled bs xs i i′ c′ 0 → CallConnected bs xs (take (getD c′ 0 0) i′)
   with-floats : (v v′ i i′ : List ℕ) (f f′ : List Float) (c′ : List ℕ) → FloatsCalled bs xs v v′ i i′ f f′ c′ 0 → CallConnected bs xs (take (getD c′ 1 0) i′)
   shared : (d : ℕ) (w w′ v v′ i i′ c′ : List ℕ) → DrawCalled bs xs d w w′ v v′ i i′ c′ 0
-      → CallConnected bs xs (map (λ x. x - pointsIn (designerOf d) (stateIn w)) (take (getD c′ 1 0) (drop (firstFree (designerOf d) (stateIn w .indices)) i′)))
+      → CallConnected bs xs (map (λ x. x - pointsHeld (designerOf d) (stateIn w)) (take (getD c′ 1 0) (drop (firstFree (designerOf d) (stateIn w .indices)) i′)))
 
 -- ps are all points that some call drew for these settings and this patch
 pub data SomeCallDrew : Settings → Patch → List Point → Type 0 where

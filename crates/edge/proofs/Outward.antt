@@ -8,7 +8,7 @@ use native.Mathlib.Omega.{arith}
 use lib.ListN.{length, getD, set, length-set}
 use lib.Seq.{getD-set-same, getD-set-other}
 use Rattle.edge.specs.Positions.{reach, position}
-use Rattle.edge.specs.Rows.{Filled}
+use Rattle.edge.specs.Rows.{RowFilled}
 use Rattle.edge.proofs.Reach.{low, high}
 
 -- ys has the positions of the points from `left` to n - left, and is xs elsewhere
@@ -49,7 +49,7 @@ module _ (xs : List ℕ) (from n L : ℕ) where
       ]
 
   -- after the last turn all points are written
-  pub outward-all : (ys : List ℕ) → from + n < length xs → Outward xs from n L 0 ys → Filled xs from n L ys
+  pub outward-all : (ys : List ℕ) → from + n < length xs → Outward xs from n L 0 ys → RowFilled xs from n L ys
   outward-all ys room o = record {
     row = record { fits = omega (arith, o .size); at = λ i h. o .near i (omega arith) (omega arith) };
     same = o .size;

@@ -9,7 +9,7 @@ use native.Mathlib.Omega.{arith}
 use lib.ListN.{length, getD, take, drop, replicate, length-take, length-drop, length-replicate, getD-replicate}
 use lib.Seq.{getD-take, getD-drop}
 use Rattle.edge.specs.Positions.{position, entry}
-use Rattle.edge.specs.Rows.{edgeRow, RowAt, Filled}
+use Rattle.edge.specs.Rows.{edgeRow, RowAt, RowFilled}
 use Rattle.edge.specs.Table.{table}
 use Rattle.edge.proofs.Table.{is-table}
 use Rattle.edge.proofs.Entries.{entry-point, entry-past}
@@ -22,7 +22,7 @@ row-part xs from n L r =
     (λ i h. getD-take (suc n) (drop from xs) i 0 h ∙ getD-drop from xs i 0 ∙ r .at i (omega arith))
 
 -- a row stays where another is filled in elsewhere
-pub row-kept : {xs ys : List ℕ} {from n L to m K : ℕ} → Filled xs from n L ys → (to + m < from) ⊎ (from + n < to) → RowAt xs to m K → RowAt ys to m K
+pub row-kept : {xs ys : List ℕ} {from n L to m K : ℕ} → RowFilled xs from n L ys → (to + m < from) ⊎ (from + n < to) → RowAt xs to m K → RowAt ys to m K
 row-kept f apart r = record {
   fits = omega (arith, f .same, r .fits);
   at = λ i h. f .other _ (⊎-elim (λ a. inl (omega arith)) (λ a. inr (omega arith)) apart) ∙ r .at i h;
@@ -40,7 +40,7 @@ is-row n L xs size near far = is-table (entry n L) 65 0 xs size at
     ]
 
 -- filled in over 65 zeros
-pub row-filled : (n L : ℕ) (xs : List ℕ) → Filled (replicate 65 0) 0 n L xs → xs ≡ table (entry n L) 65
+pub row-filled : (n L : ℕ) (xs : List ℕ) → RowFilled (replicate 65 0) 0 n L xs → xs ≡ table (entry n L) 65
 row-filled n L xs f =
     is-row n L xs (f .same ∙ length-replicate {A = ℕ} 65 0) (λ i h. rw (zero-add i) at (f .row .at i h))
     (λ i h k. f .other i (inr (omega arith)) ∙ getD-replicate {A = ℕ} 65 i 0 0 h)

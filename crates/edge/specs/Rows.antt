@@ -17,7 +17,7 @@ pub record RowAt (xs : List ℕ) (from n L : ℕ) : Type 0 where
   pub at : (i : ℕ) → i ≤ n → getD xs (from + i) 0 ≡ position n L i
 
 -- ys is xs with the row of an edge written from word `from` on
-pub record Filled (xs : List ℕ) (from n L : ℕ) (ys : List ℕ) : Type 0 where
+pub record RowFilled (xs : List ℕ) (from n L : ℕ) (ys : List ℕ) : Type 0 where
   pub row : RowAt ys from n L
   pub same : length ys ≡ length xs
   pub other : (j : ℕ) → (j < from) ⊎ (from + n < j) → getD ys j 0 ≡ getD xs j 0

@@ -5,7 +5,7 @@ ghost use mathlib.Core.Path.{_≡_};
 ghost use Prim.Native.Nat.{_+_, _≤_, _<_, min};
 ghost use lib.ListN.{length};
 ghost use Rattle.edge.specs.Positions.{entry};
-ghost use Rattle.edge.specs.Rows.{edgeRow, RowAt, Filled};
+ghost use Rattle.edge.specs.Rows.{edgeRow, RowAt, RowFilled};
 ghost use Rattle.edge.specs.Table.{table};
 ghost use Rattle.level.specs.Segments.{Valid};
 use level::Segments;
@@ -21,7 +21,7 @@ fn at_most_half(k: u32) -> u32
 // from the middle grows by one segment, so the dividend grows by the same number, and no turn needs a division.
 pub fn fill_row(rows: &mut [u32], from: usize, s: Segments)
     requires { ⌜ Valid (s .count) (s .scaled) ⌝ ∗ ⌜ from + s .count < length (now rows) ⌝ }
-    ensures { λ r. ⌜ Filled (now (rows .entry)) from (s .count) (s .scaled) (now (rows .exit)) ⌝ }
+    ensures { λ r. ⌜ RowFilled (now (rows .entry)) from (s .count) (s .scaled) (now (rows .exit)) ⌝ }
 {
     let n = s.count;
     let l = s.scaled;

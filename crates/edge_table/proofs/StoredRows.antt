@@ -8,7 +8,7 @@ use lib.ListN.{length, getD, take, drop, replicate, length-append, length-replic
 use lib.Seq.{getD-append-add, take-at}
 use Rattle.edge.specs.Positions.{position, entry}
 use Rattle.edge.specs.Rows.{edgeRow, RowAt}
-use Rattle.edge_table.specs.Stored.{start, rowsFrom, rowsTo}
+use Rattle.edge_table.specs.Stored.{rowStart, rowsFrom, rowsTo}
 use Rattle.edge.specs.Table.{table}
 use Rattle.edge.proofs.Table.{length-table, get-table}
 use Rattle.edge.proofs.Entries.{at-point}
@@ -30,7 +30,7 @@ rows-length n (suc k) =
     omega (arith, rows-length (suc n) k, length-append (edgeRow n (65536 * n)) (rowsFrom (suc n) k), length-table (position n (65536 * n)) (suc n))
 
 -- the rows before that of k + 1 segments end where it begins
-before-length : (k : ℕ) → length (rowsTo k) ≡ start (suc k)
+before-length : (k : ℕ) → length (rowsTo k) ≡ rowStart (suc k)
 before-length k =
     let e : suc k - 1 ≡ k = omega arith in
     rw e (omega (arith, rows-length 1 k))
@@ -63,17 +63,17 @@ row-between xs ys zs from n L e l =
     })
 
 -- each row is at its start in the table
-pub row-stored : (m n : ℕ) → 1 ≤ n → n ≤ m → RowAt (rowsTo m) (start n) n (65536 * n)
+pub row-stored : (m n : ℕ) → 1 ≤ n → n ≤ m → RowAt (rowsTo m) (rowStart n) n (65536 * n)
 row-stored m zero h l = absurd (omega arith)
 row-stored m (suc k) h l =
     let e : m ≡ k + suc (m - suc k) = omega arith in
-    row-between (rowsTo m) (rowsTo k) (rowsFrom (suc (suc k)) (m - suc k)) (start (suc k)) (suc k) (65536 * suc k)
+    row-between (rowsTo m) (rowsTo k) (rowsFrom (suc (suc k)) (m - suc k)) (rowStart (suc k)) (suc k) (65536 * suc k)
     (ap rowsTo e ∙ row-split k (m - suc k)) (before-length k)
 
 -- each entry of the table is the place of its point
-pub stored-position : (n i : ℕ) → 1 ≤ n → n ≤ 64 → i ≤ n → getD (rowsTo 64) (start n + i) 0 ≡ position n (65536 * n) i
+pub stored-position : (n i : ℕ) → 1 ≤ n → n ≤ 64 → i ≤ n → getD (rowsTo 64) (rowStart n + i) 0 ≡ position n (65536 * n) i
 stored-position n i h k = row-stored 64 n h k .at i
 
 -- the places by table and by division agree
-pub stored-divided : (n i : ℕ) → 1 ≤ n → n ≤ 64 → i ≤ n → getD (rowsTo 64) (start n + i) 0 ≡ getD (table (entry n (65536 * n)) 65) i 0
+pub stored-divided : (n i : ℕ) → 1 ≤ n → n ≤ 64 → i ≤ n → getD (rowsTo 64) (rowStart n + i) 0 ≡ getD (table (entry n (65536 * n)) 65) i 0
 stored-divided n i h k l = stored-position n i h k l ∙ sym (at-point n (65536 * n) i k l)

@@ -6,8 +6,8 @@ use Rattle.edge.specs.Rows.{edgeRow}
 use Rattle.level.specs.declared.Segments.{Segments}
 
 -- where the row of n segments begins in the table
-abbrev pub start : ℕ → ℕ
-start n = (n - 1) * (n + 2) / 2
+abbrev pub rowStart : ℕ → ℕ
+rowStart n = (n - 1) * (n + 2) / 2
 
 -- k rows: those of n, n + 1, .. segments
 unfoldable pub rowsFrom : ℕ → ℕ → List ℕ

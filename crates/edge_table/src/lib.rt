@@ -6,7 +6,7 @@ ghost use Prim.Native.Nat.{_*_, _≤_};
 ghost use lib.ListN.{length, drop};
 ghost use Rattle.edge.specs.Positions.{entry};
 ghost use Rattle.edge.specs.Rows.{edgeRow, RowAt};
-ghost use Rattle.edge_table.specs.Stored.{start, rowsTo, Widest};
+ghost use Rattle.edge_table.specs.Stored.{rowStart, rowsTo, Widest};
 ghost use Rattle.edge.specs.Table.{table};
 ghost use Rattle.level.specs.Segments.{Valid};
 use level::Segments;
@@ -194,7 +194,7 @@ pub fn rows_to_32() -> [u32; 560]
 
 // Returns the row of an edge of equal spacing from `rows`, the first rows of the table.
 pub fn row_of(rows: &[u32], s: Segments) -> &[u32]
-    requires { ⌜ (1 ≤ s .count) × (s .count ≤ 64) ⌝ ∗ ⌜ RowAt (now rows) (start (s .count)) (s .count) (s .scaled) ⌝ }
+    requires { ⌜ (1 ≤ s .count) × (s .count ≤ 64) ⌝ ∗ ⌜ RowAt (now rows) (rowStart (s .count)) (s .count) (s .scaled) ⌝ }
     ensures { λ r. ⌜ now r ≡ edgeRow (s .count) (s .scaled) ⌝ }
 {
     let n = s.count as usize;

@@ -13,11 +13,11 @@ use Rattle.mesh_geometry.specs.Faces.{at}
 use Rattle.check_searches.specs.Points.{samePoint, repeats}
 use Rattle.check_searches.proofs.First.{some-none}
 use Rattle.point_table.specs.Trees.{slotOf}
-use Rattle.equal_points.specs.Marks.{Names, Marks, Clear, Marked}
+use Rattle.equal_points.specs.Marks.{Names, Marks, NamesNoEqual, NewMark}
 use Rattle.check_searches.proofs.Equal.{same-is}
 
 -- if the mark is clear, no earlier point equals p
-named-no : (ps : List Point) (mark i : ℕ) (p : Point) → Clear ps mark p → (mark ≡ i + 1) ⊎ (mark ≡ 65535) → samePoint (at ps i) p ≡ true → ⊥
+named-no : (ps : List Point) (mark i : ℕ) (p : Point) → NamesNoEqual ps mark p → (mark ≡ i + 1) ⊎ (mark ≡ 65535) → samePoint (at ps i) p ≡ true → ⊥
 named-no ps mark i p (inl z) (inl e) h = omega arith
 named-no ps mark i p (inl z) (inr e) h = omega arith
 named-no ps mark i p (inr c) (inl e) h =
@@ -29,7 +29,7 @@ test-false : (b : Bool) → (b ≡ true → ⊥) → b ≡ false
 test-false true h = absurd (h refl)
 test-false false h = refl
 
-pub clear-new : (ps : List Point) (n j mark : ℕ) (p : Point) → p ≡ at ps j → Names ps n j (slotOf n p) mark → Clear ps mark p → repeats ps j ≡ false
+pub clear-new : (ps : List Point) (n j mark : ℕ) (p : Point) → p ≡ at ps j → Names ps n j (slotOf n p) mark → NamesNoEqual ps mark p → repeats ps j ≡ false
 clear-new ps n j mark p e h c = rw (← e) (some-none (λ i. samePoint (at ps i) p) j
     (λ i l. test-false (samePoint (at ps i) p) (λ t. named-no ps mark i p c (h .each i l (ap (slotOf n) (same-is (at ps i) p t))) t)))
 
@@ -53,7 +53,7 @@ equal-or x y = elim (decLe x y) [
 ]
 
 -- the table after one more point
-module _ (ps : List Point) (n j s r : ℕ) (ms : List ℕ) (h : Marks ps n j ms) (m : Marked (getD ms s 0) j r) (e : s ≡ slotOf n (at ps j)) (l : s < length ms) where
+module _ (ps : List Point) (n j s r : ℕ) (ms : List ℕ) (h : Marks ps n j ms) (m : NewMark (getD ms s 0) j r) (e : s ≡ slotOf n (at ps j)) (l : s < length ms) where
   last : (r ≡ 65535) ⊎ ((getD ms s 0 ≡ 0) × (r ≡ j + 1)) → (r ≡ j + 1) ⊎ (r ≡ 65535)
   last (inl k) = inr k
   last (inr k) = inl (k .1)

@@ -19,9 +19,9 @@ pub record Marks (ps : List Point) (n j : ℕ) (ms : List ℕ) : Type 0 where
   pub each : (i : ℕ) → i < j → (getD ms (slotOf n (at ps i)) 0 ≡ i + 1) ⊎ (getD ms (slotOf n (at ps i)) 0 ≡ 65535)
 
 -- the mark names no point, or one that does not equal p
-abbrev pub Clear : List Point → ℕ → Point → Type 0
-Clear ps mark p = (mark ≡ 0) ⊎ ((mark < 65535) × (samePoint (at ps (mark - 1)) p ≡ false))
+abbrev pub NamesNoEqual : List Point → ℕ → Point → Type 0
+NamesNoEqual ps mark p = (mark ≡ 0) ⊎ ((mark < 65535) × (samePoint (at ps (mark - 1)) p ≡ false))
 
 -- r is the slot's new mark after point j, where `mark` was the old one
-abbrev pub Marked : ℕ → ℕ → ℕ → Type 0
-Marked mark j r = (r ≡ 65535) ⊎ ((mark ≡ 0) × (r ≡ j + 1))
+abbrev pub NewMark : ℕ → ℕ → ℕ → Type 0
+NewMark mark j r = (r ≡ 65535) ⊎ ((mark ≡ 0) × (r ≡ j + 1))

@@ -3,14 +3,14 @@
 ghost use mathlib.Core.Path.{_≡_};
 ghost use mathlib.Core.Bool.{true};
 ghost use Rattle.mesh_geometry.specs.Words.{readPoints};
-ghost use Rattle.equal_points.specs.Marks.{Clear, Marked};
+ghost use Rattle.equal_points.specs.Marks.{NamesNoEqual, NewMark};
 use check_searches::point::point_at;
 use check_searches::point::same_point;
 use mesh_geometry::Point;
 
 // Whether the mark shows that no earlier point equals p. False if the mark does not decide.
 pub(crate) fn is_clear(points: &[u32], mark: u16, p: Point) -> bool
-    ensures { λ r. ⌜ (r ≡ true → Clear (readPoints (now (points .entry))) mark p) ⌝ }
+    ensures { λ r. ⌜ (r ≡ true → NamesNoEqual (readPoints (now (points .entry))) mark p) ⌝ }
 {
     if mark == 0 {
         return true;
@@ -27,7 +27,7 @@ pub(crate) fn is_clear(points: &[u32], mark: u16, p: Point) -> bool
 
 // Returns the mark of a slot after point j.
 pub(crate) fn mark_after(mark: u16, j: usize) -> u16
-    ensures { λ r. ⌜ Marked mark j r ⌝ }
+    ensures { λ r. ⌜ NewMark mark j r ⌝ }
 {
     if mark != 0 {
         return 65535;

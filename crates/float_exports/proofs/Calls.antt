@@ -6,10 +6,10 @@ use lib.Ieee.{Float}
 use Rattle.patch.specs.declared.kinds.Patch.{Patch}
 use Rattle.patch.specs.declared.settings.Settings.{Settings}
 use Rattle.draw_floats.specs.declared.answer.FloatsAnswer.{FloatsAnswer}
-use Rattle.draw_floats.specs.Answers.{toldFloats}
+use Rattle.draw_floats.specs.Answers.{floatsCode}
 use Rattle.draw_floats.specs.Draws.{DrewWithFloats}
 use Rattle.call_answers.specs.declared.reply.Reply.{Reply}
-use Rattle.call_answers.specs.Replies.{Tells, unknownSetting, badTop}
+use Rattle.call_answers.specs.Replies.{IsReply, unknownSetting, badTop}
 use Rattle.call_answers.proofs.Replies.{said-two, says-as}
 use Rattle.call_inputs.specs.declared.asked.Asked.{Asked}
 use Rattle.call_inputs.specs.declared.asked.Asked.the-variants.{Refused, Known}
@@ -28,7 +28,7 @@ module _ (bs : List ℕ) (xs : List Float) {a : Asked} (is : a ≡ askedIn bs xs
       record { says = says-as (instead .answer _) said; vertices = rw z; indices = rw z; floats = rw z }
 
   pub floats-known : {set : Settings} {p : Patch} (o : FloatsAnswer) {v′ i′ : List ℕ} {f′ : List Float} → a ≡ Known set p → DrewWithFloats set p v v′ i i′ f f′ o
-      → Tells (toldFloats o) reply → FloatsCalled bs xs v v′ i i′ f f′ c′ r
+      → IsReply (floatsCode o) reply → FloatsCalled bs xs v v′ i i′ f f′ c′ r
   floats-known o e d t =
       let g = known-granted bs xs is e in
       let drew = rw (g .settings, g .patch) at d in

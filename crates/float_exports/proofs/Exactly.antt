@@ -13,11 +13,11 @@ use Rattle.patch.specs.declared.kinds.Patch.{Patch}
 use Rattle.patch.specs.declared.settings.Settings.{Settings}
 use Rattle.patch.specs.Subdivide.{discards}
 use Rattle.tessellate.specs.Answers.{pointsOf, indicesOf}
-use Rattle.answer_codes.specs.Told.{refused, drewBoth}
+use Rattle.answer_codes.specs.AnswerCode.{refused, drewBoth}
 use Rattle.level.proofs.Top.{top-as, is-top, no-top, top-no}
 use Rattle.draw_floats.specs.declared.answer.FloatsAnswer.{FloatsAnswer}
 use Rattle.draw_floats.specs.declared.answer.FloatsAnswer.the-variants as floats
-use Rattle.draw_floats.specs.Answers.{toldFloats, floatsVerdict}
+use Rattle.draw_floats.specs.Answers.{floatsCode, floatsVerdict}
 use Rattle.call_answers.specs.Replies.{unknownSetting, badTop, twoWords}
 use Rattle.call_answers.proofs.Replies.{says-as}
 use Rattle.call_inputs.specs.Inputs.{patchIn, settingsIn}
@@ -42,11 +42,11 @@ module _ (set : Settings) (p : Patch) (v i f : ℕ) where
   abbrev right : FloatsAnswer
   right = named (isTop (set .top)) (discards p) (ltb v (3 * P)) (ltb i I) (ltb f (3 * P))
 
-  right-told : toldFloats right ≡ floatsVerdict set p v i f
+  right-told : floatsCode right ≡ floatsVerdict set p v i f
   unfolding floatsVerdict
   right-told = go (isTop (set .top)) (discards p) (ltb v (3 * P)) (ltb i I) (ltb f (3 * P))
     where
-      go : (t g a b c : Bool) → toldFloats (named t g a b c)
+      go : (t g a b c : Bool) → floatsCode (named t g a b c)
           ≡ cond t (cond g (refused 1) (cond a (refused 3) (cond b (refused 4) (cond c (refused 9) (drewBoth P I))))) (refused 11)
       go false g a b c = refl
       go true true a b c = refl
@@ -84,10 +84,10 @@ floatsIn n c =
     (cond (eqb n 3) floats.NoRoomForVertices
     (cond (eqb n 4) floats.NoRoomForIndices (cond (eqb n 9) floats.NoRoomForFloats floats.BadTop))))
 
-floats-readable : Readable twoWords toldFloats floatsIn
+floats-readable : Readable twoWords floatsCode floatsIn
 floats-readable = record { same = same; no-eight = no-eight; place = λ k. refl }
   where
-    same : (a : FloatsAnswer) → floatsIn (toldFloats a .number) (twoWords (toldFloats a .values)) ≡ a
+    same : (a : FloatsAnswer) → floatsIn (floatsCode a .number) (twoWords (floatsCode a .values)) ≡ a
     same (floats.Drawn m k) = refl
     same floats.Discarded = refl
     same floats.NoRoomForVertices = refl
@@ -95,7 +95,7 @@ floats-readable = record { same = same; no-eight = no-eight; place = λ k. refl 
     same floats.NoRoomForFloats = refl
     same floats.BadTop = refl
 
-    no-eight : (a : FloatsAnswer) → eqb (toldFloats a .number) 8 ≡ false
+    no-eight : (a : FloatsAnswer) → eqb (floatsCode a .number) 8 ≡ false
     no-eight (floats.Drawn m k) = refl
     no-eight floats.Discarded = refl
     no-eight floats.NoRoomForVertices = refl
@@ -111,10 +111,10 @@ floats-call-exactly bs xs {v} {i = i} {f = f} d =
     let a = length v in
     let b = length i in
     let c = length f in
-    let op : Answers bs toldFloats (FloatsMeans set p a b c) (right set p a b c) floats.BadTop = record {
+    let op : Answers bs floatsCode (FloatsMeans set p a b c) (right set p a b c) floats.BadTop = record {
       exactly = exactly set p a b c;
       bad-number = refl;
       bad-top = λ n. means-right set p a b c floats.BadTop n;
     } in
-    called-exactly bs toldFloats (FloatsMeans set p a b c) (right set p a b c) floats.BadTop op twoWords floatsIn floats-readable
+    called-exactly bs floatsCode (FloatsMeans set p a b c) (right set p a b c) floats.BadTop op twoWords floatsIn floats-readable
     (says-as (ap (known bs badTop unknownSetting) (right-told set p a b c)) (d .says))

@@ -8,9 +8,9 @@ use lib.Dec.{ltb}
 use lib.Ieee.{Float}
 use Rattle.level.specs.Top.{isTop}
 use Rattle.patch.specs.Subdivide.{discards}
-use Rattle.job_fields.specs.Settings.{firstUnknown}
+use Rattle.job_fields.specs.Settings.{firstUnknownSetting}
 use Rattle.tessellate.specs.Answers.{pointsOf, indicesOf}
-use Rattle.answer_codes.specs.Told.{refused, drewBoth}
+use Rattle.answer_codes.specs.AnswerCode.{refused, drewBoth}
 use Rattle.call_answers.specs.Replies.{unknownSetting, badTop, OneOf}
 use Rattle.call_inputs.specs.Inputs.{topIn, patchIn, settingsIn}
 use Rattle.call_inputs.specs.Asked.{known}
@@ -20,11 +20,11 @@ use Rattle.float_exports.specs.Calls.{floatsSay}
 module _ (bs : List ℕ) (xs : List Float) where
   pub floats-number : (v i f : ℕ) → OneOf (0 ∷ 1 ∷ 3 ∷ 4 ∷ 8 ∷ 9 ∷ 11 ∷ []) (floatsSay bs xs v i f .number)
   unfolding known floatsVerdict
-  floats-number v i f = go (isTop (topIn bs)) (ltb (firstUnknown bs 0) 5) (isTop (settingsIn bs .top)) (discards (patchIn bs xs)) (ltb v _) (ltb i _) (ltb f _)
+  floats-number v i f = go (isTop (topIn bs)) (ltb (firstUnknownSetting bs 0) 5) (isTop (settingsIn bs .top)) (discards (patchIn bs xs)) (ltb v _) (ltb i _) (ltb f _)
     where
       go : (t u s a b c d : Bool)
           → OneOf (0 ∷ 1 ∷ 3 ∷ 4 ∷ 8 ∷ 9 ∷ 11 ∷ [])
-          (cond t (cond u (unknownSetting (firstUnknown bs 0))
+          (cond t (cond u (unknownSetting (firstUnknownSetting bs 0))
           (cond s (cond a (refused 1) (cond b (refused 3) (cond c (refused 4) (cond d (refused 9) (drewBoth (pointsOf (settingsIn bs) (patchIn bs xs)) (indicesOf (settingsIn bs) (patchIn bs xs)))))))
           (refused 11))) badTop .number)
       go false u s a b c d = inr (inr (inr (inr (inr (inr (inl refl))))))

@@ -12,7 +12,7 @@ use Rattle.patch.specs.Subdivide.{discards}
 use Rattle.mesh_geometry.specs.Words.{readPoints}
 use Rattle.patch_mesh.specs.Demand.{Demand}
 use Rattle.tessellate.specs.Answers.{pointsOf, indicesOf}
-use Rattle.answer_codes.specs.Told.{Told, refused, drewBoth}
+use Rattle.answer_codes.specs.AnswerCode.{AnswerCode, refused, drewBoth}
 use Rattle.call_answers.specs.Replies.{twoWords}
 use Rattle.call_inputs.specs.Inputs.{patchIn, settingsIn}
 use Rattle.call_inputs.proofs.Known.{known-zero}
@@ -48,8 +48,8 @@ module _ (bs : List ℕ) (xs : List Float) where
     called-drew =
         let t = floatsVerdict (settingsIn bs) (patchIn bs xs) (length v) (length i) (length f) in
         let k = known-zero bs t (sym (d .says .number)) in
-        let z = verdict-zero (length v) (length i) (length f) (ap (λ (x : Told). x .number) (sym k) ∙ sym (d .says .number)) in
-        let w : c′ ≡ points ∷ corners ∷ [] = d .says .counts ∙ ap (λ (x : Told). twoWords (x .values)) (k ∙ z) in
+        let z = verdict-zero (length v) (length i) (length f) (ap (λ (x : AnswerCode). x .number) (sym k) ∙ sym (d .says .number)) in
+        let w : c′ ≡ points ∷ corners ∷ [] = d .says .counts ∙ ap (λ (x : AnswerCode). twoWords (x .values)) (k ∙ z) in
         let first : getD c′ 0 0 ≡ points = ap (λ (l : List ℕ). getD l 0 0) w in
         let second : getD c′ 1 0 ≡ corners = ap (λ (l : List ℕ). getD l 1 0) w in
         record { answer = rw (first, second) (sym z); vertices = d .vertices; indices = d .indices; floats = d .floats }

@@ -5,9 +5,9 @@ use mathlib.Core.Path.{_≡_}
 use mathlib.Core.List.{List}
 use lib.Ieee.{Float}
 use lib.ListN.{length}
-use Rattle.answer_codes.specs.Told.{Told}
+use Rattle.answer_codes.specs.AnswerCode.{AnswerCode}
 use Rattle.tessellate.specs.Draws.{pointWords, connectionWords}
-use Rattle.answer_codes.specs.Drew.{after}
+use Rattle.answer_codes.specs.Drew.{listAfter}
 use Rattle.call_answers.specs.Replies.{unknownSetting, badTop, twoWords, Says}
 use Rattle.call_inputs.specs.Inputs.{patchIn, settingsIn}
 use Rattle.call_inputs.specs.Asked.{known}
@@ -15,13 +15,13 @@ use Rattle.draw_floats.specs.Answers.{floatsVerdict}
 use Rattle.draw_floats.specs.Draws.{floatWords}
 
 -- the answer to drawing with floats into lists of v, i and f words
-abbrev pub floatsSay : List ℕ → List Float → ℕ → ℕ → ℕ → Told
+abbrev pub floatsSay : List ℕ → List Float → ℕ → ℕ → ℕ → AnswerCode
 floatsSay bs xs v i f = known bs badTop unknownSetting (floatsVerdict (settingsIn bs) (patchIn bs xs) v i f)
 
 pub record FloatsCalled (bs : List ℕ) (xs : List Float) (v v′ i i′ : List ℕ) (f f′ : List Float) (c′ : List ℕ) (r : ℕ) : Type 0 where
   -- the answer: 11, 8, or the operation's
   pub says : Says twoWords (floatsSay bs xs (length v) (length i) (length f)) c′ r
   -- if drawn, each list begins with the words of the patch and is unchanged after them; otherwise all three are unchanged
-  pub vertices : v′ ≡ after r v (pointWords (settingsIn bs) (patchIn bs xs))
-  pub indices : i′ ≡ after r i (connectionWords (settingsIn bs) (patchIn bs xs))
-  pub floats : f′ ≡ after r f (floatWords (settingsIn bs) (patchIn bs xs))
+  pub vertices : v′ ≡ listAfter r v (pointWords (settingsIn bs) (patchIn bs xs))
+  pub indices : i′ ≡ listAfter r i (connectionWords (settingsIn bs) (patchIn bs xs))
+  pub floats : f′ ≡ listAfter r f (floatWords (settingsIn bs) (patchIn bs xs))

@@ -9,7 +9,7 @@ use Rattle.patch.specs.declared.settings.Settings.{Settings}
 use Rattle.tessellate.specs.Answers.{pointsOf, indicesOf}
 use Rattle.draw_floats.specs.declared.answer.FloatsAnswer.{FloatsAnswer}
 use Rattle.draw_floats.specs.declared.answer.FloatsAnswer.the-variants as floats
-use Rattle.draw_floats.specs.Answers.{toldFloats}
+use Rattle.draw_floats.specs.Answers.{floatsCode}
 use Rattle.call_answers.specs.Replies.{twoWords}
 use Rattle.call_inputs.specs.Inputs.{patchIn, settingsIn}
 use Rattle.call_inputs.specs.Exactly.{CalledExactly}
@@ -27,4 +27,4 @@ FloatsMeans set p v i f (floats.Drawn m k) =
 
 -- each answer is given, by number and counts, exactly if it is right
 abbrev pub FloatsExactly : List ℕ → List Float → ℕ → ℕ → ℕ → List ℕ → ℕ → Type 0
-FloatsExactly bs xs v i f c′ r = CalledExactly twoWords toldFloats bs (FloatsMeans (settingsIn bs) (patchIn bs xs) v i f) c′ r
+FloatsExactly bs xs v i f c′ r = CalledExactly twoWords floatsCode bs (FloatsMeans (settingsIn bs) (patchIn bs xs) v i f) c′ r

@@ -2,8 +2,8 @@
 // levels and lists are passed as in `draw_exports`. Counts are two words, always written: points and indices for answer 0, the place
 // of the setting and 0 for answer 8, else 0 and 0. The answers are 0 drawn, 1 discarded, 3 no room for vertices, 4 no room for
 // indices, 8 unknown setting, 9 no room for floats, 11 bad top; every answer but 0 leaves all three lists unchanged.
-ghost use Rattle.draw_floats.specs.Answers.{toldFloats};
-ghost use Rattle.call_answers.specs.Replies.{Tells};
+ghost use Rattle.draw_floats.specs.Answers.{floatsCode};
+ghost use Rattle.call_answers.specs.Replies.{IsReply};
 ghost use Rattle.float_exports.specs.Calls.{FloatsCalled};
 use call_answers::reply::Reply;
 use call_answers::reply::bad_top;
@@ -16,7 +16,7 @@ use draw_floats::answer::FloatsAnswer;
 use draw_floats::draw::draw_with_floats;
 
 fn of_floats(answer: FloatsAnswer) -> Reply
-    ensures { λ r. ⌜ Tells (toldFloats answer) r ⌝ }
+    ensures { λ r. ⌜ IsReply (floatsCode answer) r ⌝ }
 {
     match answer {
         FloatsAnswer::Drawn { points, indices } => success(points, indices),

@@ -13,7 +13,7 @@ use Rattle.strip.specs.Lines.{Follows}
 use Rattle.strip.specs.Triangles.{indices}
 use Rattle.strip.proofs.Lines.{follows-line}
 use Rattle.strip.proofs.Strips.{indices-length, indices-append}
-use Rattle.mesh_topology.specs.Quad.{gridAt, cell, joined, cells}
+use Rattle.mesh_topology.specs.Quad.{gridAt, cell, joinedLists, cells}
 use Rattle.grid_indices.specs.declared.grid.Grid.{Grid}
 use Rattle.grid_indices.specs.Grids.{GridFits, cellWords, rowWords}
 use Rattle.shifted_copies.specs.Copies.{shifted}
@@ -61,11 +61,11 @@ row-length positive first width b =
     flat-length (λ c. cellWords positive (first + c) (first + c + width)) 6 0 b (λ c. cell-length positive (first + c) (first + c + width))
 
 -- joined lists of triangles
-joined-words : (positive : Bool) (L : ℕ → List Triangle) (n : ℕ) → indices positive (joined L n) ≡ flat (λ i. indices positive (L i)) 0 n
-unfolding joined indices flat
+joined-words : (positive : Bool) (L : ℕ → List Triangle) (n : ℕ) → indices positive (joinedLists L n) ≡ flat (λ i. indices positive (L i)) 0 n
+unfolding joinedLists indices flat
 joined-words positive L zero = refl
 joined-words positive L (suc n) =
-    indices-append positive (joined L n) (L n) ∙ ap (λ (l : List ℕ). l ++ indices positive (L n)) (joined-words positive L n)
+    indices-append positive (joinedLists L n) (L n) ∙ ap (λ (l : List ℕ). l ++ indices positive (L n)) (joined-words positive L n)
     ∙ ap (λ (k : ℕ). flat (λ i. indices positive (L i)) 0 n ++ indices positive (L k)) (sym (zero-add n)) ∙ sym (flat-last (λ i. indices positive (L i)) 0 n)
 
 module _ (positive : Bool) (start width b : ℕ) where
@@ -88,8 +88,8 @@ module _ (positive : Bool) (start width b : ℕ) where
   pub cells-words : (a : ℕ) → indices positive (cells (gridAt start width) a b) ≡ flat gridRow 0 a
   unfolding rowWords
   cells-words a =
-      joined-words positive (λ r. joined (cell (gridAt start width) r) b) a
-      ∙ flat-same (λ r. indices positive (joined (cell (gridAt start width) r) b)) gridRow 0 a
+      joined-words positive (λ r. joinedLists (cell (gridAt start width) r) b) a
+      ∙ flat-same (λ r. indices positive (joinedLists (cell (gridAt start width) r) b)) gridRow 0 a
       (λ r. joined-words positive (cell (gridAt start width) r) b
       ∙ flat-same (λ c. indices positive (cell (gridAt start width) r c)) (λ c. cellWords positive (start + r * width + c) (start + r * width + c + width)) 0 b (cell-numbers r))
 

@@ -3,7 +3,7 @@ ghost use mathlib.Core.Path.{_≡_};
 ghost use Prim.Native.Nat.{_+_, _^_, _<_};
 ghost use lib.Bits.{bitOr};
 ghost use Rattle.mesh_geometry.specs.Words.{readTriangles};
-ghost use Rattle.check_searches.specs.First.{some};
+ghost use Rattle.check_searches.specs.First.{someBelow};
 ghost use Rattle.half_edge_chains.specs.Sides.{sideStart, sideEnd, isSide};
 ghost use Rattle.half_edge_bits.specs.Rows.{bit, Rowed};
 
@@ -26,7 +26,7 @@ fn with_bit(row: u64, k: u16) -> u64
 // Whether one of the first `sides` sides, which the table holds, is x→y.
 pub fn has_side(indices: &[u16], sides: usize, rows: &[u64], x: u16, y: u16) -> bool
     requires { ⌜ Rowed (readTriangles (now indices)) sides (now rows) ⌝ ∗ ⌜ x < 64 ⌝ ∗ ⌜ y < 64 ⌝ }
-    ensures { λ r. ⌜ r ≡ some (isSide (readTriangles (now (indices .entry))) x y) sides ⌝ }
+    ensures { λ r. ⌜ r ≡ someBelow (isSide (readTriangles (now (indices .entry))) x y) sides ⌝ }
 {
     has_bit(rows[x as usize], y)
 }

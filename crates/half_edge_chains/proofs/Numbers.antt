@@ -12,21 +12,21 @@ use Rattle.strip.specs.declared.triangle.Triangle.{Triangle}
 use Rattle.mesh_geometry.specs.Words.{readTriangles}
 use Rattle.check_searches.specs.Triangles.{triangleAt, hasSide, shareSide}
 use Rattle.check_searches.proofs.Read.{triangle-read}
-use Rattle.check_faults.specs.Outline.{startOf, endOf}
+use Rattle.check_faults.specs.Outline.{startCorner, endOf}
 use Rattle.check_faults.specs.Turns.{AllNumbered}
 use Rattle.check_faults.proofs.Turns.{numbered}
 use Rattle.check_faults.proofs.Corners.{start-known as corner-known, end-known as corner-end-known}
 use Rattle.half_edge_chains.specs.Sides.{sideStart, sideEnd}
 
 -- a corner of triangle k in the index words
-corner-word : (ws : List ℕ) (k e m : ℕ) → k < length ws / 3 → m ≡ k * 3 + e → e < 3 → getD ws m 0 ≡ startOf (triangleAt (readTriangles ws) k) e
+corner-word : (ws : List ℕ) (k e m : ℕ) → k < length ws / 3 → m ≡ k * 3 + e → e < 3 → getD ws m 0 ≡ startCorner (triangleAt (readTriangles ws) k) e
 corner-word ws k zero m l h b = rw (← triangle-read ws k l) (ap (λ n. getD ws n 0) (omega arith))
 corner-word ws k (suc zero) m l h b = rw (← triangle-read ws k l) (ap (λ n. getD ws n 0) (omega arith))
 corner-word ws k (suc (suc zero)) m l h b = rw (← triangle-read ws k l) (ap (λ n. getD ws n 0) (omega arith))
 corner-word ws k (suc (suc (suc e))) m l h b = absurd (omega arith)
 
 -- a side ends where the next side of its triangle starts
-next-corner : (t : Triangle) (e : ℕ) → e < 2 → startOf t (e + 1) ≡ endOf t e
+next-corner : (t : Triangle) (e : ℕ) → e < 2 → startCorner t (e + 1) ≡ endOf t e
 next-corner t zero l = refl
 next-corner t (suc zero) l = refl
 next-corner t (suc (suc e)) l = absurd (omega arith)
@@ -58,7 +58,7 @@ pub numbered-wider : {n m : ℕ} {ws : List ℕ} → AllNumbered n ws → n ≤ 
 numbered-wider h l = record { at = λ k b. omega (arith, h .at k b) }
 
 -- side e of triangle k by its number among all sides
-pub numbered-start : (ts : List Triangle) (k e m : ℕ) → m ≡ k * 3 + e → e < 3 → sideStart ts m ≡ startOf (triangleAt ts k) e
+pub numbered-start : (ts : List Triangle) (k e m : ℕ) → m ≡ k * 3 + e → e < 3 → sideStart ts m ≡ startCorner (triangleAt ts k) e
 unfolding sideStart
 numbered-start ts k e m h l =
     let q : m / 3 ≡ k = omega arith in
@@ -101,7 +101,7 @@ pub ends-same : (x y p q : ℕ) → (eqb x p && eqb y q) ≡ true → (x ≡ p) 
 ends-same x y p q h = let w = both-which (eqb x p) (eqb y q) h in (eqb-true x p (w .0), eqb-true y q (w .1))
 
 -- every side of a triangle is one of its three
-own-side : (t : Triangle) (e : ℕ) → hasSide t (startOf t e) (endOf t e) ≡ true
+own-side : (t : Triangle) (e : ℕ) → hasSide t (startCorner t e) (endOf t e) ≡ true
 own-side t zero = one-of (eqb (t .a) (t .a) && eqb (t .b) (t .b)) (eqb (t .a) (t .b) && eqb (t .b) (t .c)) (eqb (t .a) (t .c) && eqb (t .b) (t .a))
     (inl (same-ends (t .a) (t .b) (t .a) (t .b) refl refl))
 own-side t (suc zero) = one-of (eqb (t .b) (t .a) && eqb (t .c) (t .b)) (eqb (t .b) (t .b) && eqb (t .c) (t .c)) (eqb (t .b) (t .c) && eqb (t .c) (t .a))
@@ -109,14 +109,14 @@ own-side t (suc zero) = one-of (eqb (t .b) (t .a) && eqb (t .c) (t .b)) (eqb (t 
 own-side t (suc (suc e)) = one-of (eqb (t .c) (t .a) && eqb (t .a) (t .b)) (eqb (t .c) (t .b) && eqb (t .a) (t .c)) (eqb (t .c) (t .c) && eqb (t .a) (t .a))
     (inr (inr (same-ends (t .c) (t .a) (t .c) (t .a) refl refl)))
 
-pub side-there : {x y : ℕ} (t : Triangle) (e : ℕ) → startOf t e ≡ x → endOf t e ≡ y → hasSide t x y ≡ true
+pub side-there : {x y : ℕ} (t : Triangle) (e : ℕ) → startCorner t e ≡ x → endOf t e ≡ y → hasSide t x y ≡ true
 side-there t e h k = rw (← h, ← k) (own-side t e)
 
 -- a side of a triangle, by its number in the triangle
 pub record SideOf (t : Triangle) (x y : ℕ) : Type 0 where
   pub number : ℕ
   pub least : number < 3
-  pub start : x ≡ startOf t number
+  pub start : x ≡ startCorner t number
   pub end : y ≡ endOf t number
 
 pub side-which : (t : Triangle) (x y : ℕ) → hasSide t x y ≡ true → SideOf t x y
@@ -131,7 +131,7 @@ side-which t x y h = pick (which-of (eqb x (t .a) && eqb y (t .b)) (eqb x (t .b)
 pub record Shared (s t : Triangle) : Type 0 where
   pub first : ℕ
   pub least : first < 3
-  pub side : SideOf t (startOf s first) (endOf s first)
+  pub side : SideOf t (startCorner s first) (endOf s first)
 
 pub share-which : (s t : Triangle) → shareSide s t ≡ true → Shared s t
 unfolding shareSide

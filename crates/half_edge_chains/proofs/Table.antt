@@ -11,7 +11,7 @@ use lib.ListN.{length, getD, set, replicate, length-set}
 use lib.Seq.{getD-set-same, getD-set-other}
 use borrow.Author.Tests.{eq-eqb, ne-eqb, eqb-true, eqb-false}
 use Rattle.strip.specs.declared.triangle.Triangle.{Triangle}
-use Rattle.check_searches.specs.First.{some}
+use Rattle.check_searches.specs.First.{someBelow}
 use Rattle.check_searches.proofs.First.{some-here, some-none}
 use Rattle.half_edge_chains.specs.Sides.{sideStart, sideEnd, isSide}
 use Rattle.half_edge_chains.specs.Links.{lastFrom, linkOf, Linked, Walked, Zeros}
@@ -103,11 +103,11 @@ module _ {ts : List Triangle} {n : ℕ} {heads links : List ℕ} (t : Linked ts 
   walk-less x y k l w = omega (arith, link-before (k - 1) (omega (arith, w .most)), last-most ts (k - 1) (sideStart ts (k - 1)))
 
   -- the search met x→y, or reached the end of the chain
-  pub walk-meets : (x y k : ℕ) → 0 < k → Walked ts n x y k → getD links (k - 1) 0 % 65536 ≡ y → true ≡ some (isSide ts x y) n
+  pub walk-meets : (x y k : ℕ) → 0 < k → Walked ts n x y k → getD links (k - 1) 0 % 65536 ≡ y → true ≡ someBelow (isSide ts x y) n
   walk-meets x y k l w h =
       sym (some-here (isSide ts x y) n (k - 1) (omega (arith, w .most)) (meets x y (k - 1) (at-side x y k l w) h))
 
-  pub walk-ends : (x y : ℕ) → Walked ts n x y 0 → false ≡ some (isSide ts x y) n
+  pub walk-ends : (x y : ℕ) → Walked ts n x y 0 → false ≡ someBelow (isSide ts x y) n
   walk-ends x y w = sym (some-none (isSide ts x y) n (λ m l. w .passed m (omega arith) l))
 
 -- lists of zeros

@@ -6,11 +6,11 @@ use mathlib.Core.List.{List}
 use lib.Dec.{eqb}
 use Rattle.strip.specs.declared.triangle.Triangle.{Triangle}
 use Rattle.check_searches.specs.Triangles.{triangleAt}
-use Rattle.check_faults.specs.Outline.{startOf, endOf}
+use Rattle.check_faults.specs.Outline.{startCorner, endOf}
 
 -- the vertex where side m starts
 unfoldable pub sideStart : List Triangle → ℕ → ℕ
-sideStart ts m = startOf (triangleAt ts (m / 3)) (m % 3)
+sideStart ts m = startCorner (triangleAt ts (m / 3)) (m % 3)
 
 -- the vertex where side m ends
 unfoldable pub sideEnd : List Triangle → ℕ → ℕ

@@ -4,7 +4,7 @@ ghost use mathlib.Core.Path.{_≡_};
 ghost use Prim.Native.Nat.{_+_, _/_, _%_, _<_};
 ghost use lib.ListN.{length};
 ghost use Rattle.mesh_geometry.specs.Words.{readTriangles};
-ghost use Rattle.check_searches.specs.First.{some};
+ghost use Rattle.check_searches.specs.First.{someBelow};
 ghost use Rattle.half_edge_chains.specs.Sides.{sideStart, sideEnd, isSide};
 ghost use Rattle.half_edge_chains.specs.Links.{Linked};
 
@@ -25,7 +25,7 @@ pub fn before_in(link: u32) -> usize
 // Whether one of the first `sides` sides, which the table holds, is x→y.
 pub fn has_side(indices: &[u16], sides: usize, heads: &[u16], links: &[u32], x: u16, y: u16) -> bool
     requires { ⌜ Linked (readTriangles (now indices)) sides (now heads) (now links) ⌝ ∗ ⌜ x < length (now heads) ⌝ }
-    ensures { λ r. ⌜ r ≡ some (isSide (readTriangles (now (indices .entry))) x y) sides ⌝ }
+    ensures { λ r. ⌜ r ≡ someBelow (isSide (readTriangles (now (indices .entry))) x y) sides ⌝ }
 {
     let mut k = heads[x as usize] as usize;
     while 0 < k {

@@ -7,18 +7,18 @@ use native.Mathlib.Omega.{arith}
 use native.Mathlib.Numerals.{add-one}
 use lib.ListN.{length}
 use Rattle.strip.specs.declared.triangle.Triangle.{Triangle}
-use Rattle.check_searches.specs.First.{some}
+use Rattle.check_searches.specs.First.{someBelow}
 use Rattle.half_edge_chains.specs.Sides.{sideStart, sideEnd, isSide, Once}
 use Rattle.half_edge_chains.specs.Links.{Linked, Zeros}
 use Rattle.half_edge_chains.proofs.Table.{linked-none}
 use Rattle.half_edge_chains.proofs.Numbers.{numbered-start, numbered-end, start-known, end-known}
 use Rattle.mesh_geometry.specs.Words.{readTriangles}
 use Rattle.check_searches.specs.Triangles.{triangleAt}
-use Rattle.check_faults.specs.Outline.{startOf, endOf}
+use Rattle.check_faults.specs.Outline.{startCorner, endOf}
 use Rattle.check_faults.specs.Turns.{AllNumbered}
 use Rattle.half_edge_bits.specs.Rows.{Rowed}
 use Rattle.half_edge_bits.proofs.Rows.{rowed-none}
-use Rattle.half_edges.specs.Tables.{vertices, SideAt, Room, Cleared, Tabled, Filled}
+use Rattle.half_edges.specs.Tables.{vertices, SideAt, Room, EmptyTable, Tabled, FilledTable}
 use Rattle.half_edges.proofs.Repeats.{once-none, once-more}
 
 -- a vertex fits into the table, in each form
@@ -45,10 +45,10 @@ numbered-as small hs heads ws e h = rw (vertices-as small hs heads e) h
 
 -- side e of triangle k
 pub side-at : (small : Bool) (heads ws : List ℕ) (k e m : ℕ) (t : Triangle) → AllNumbered (vertices small heads) ws → k < length ws / 3 → t ≡ triangleAt (readTriangles ws) k
-    → m ≡ k * 3 + e → e < 3 → SideAt small (readTriangles ws) heads m (startOf t e) (endOf t e)
+    → m ≡ k * 3 + e → e < 3 → SideAt small (readTriangles ws) heads m (startCorner t e) (endOf t e)
 side-at small heads ws k e m t h l d i b =
     let n = vertices small heads in
-    let s : startOf t e ≡ sideStart (readTriangles ws) m = ap (λ u. startOf u e) d ∙ sym (numbered-start (readTriangles ws) k e m i b) in
+    let s : startCorner t e ≡ sideStart (readTriangles ws) m = ap (λ u. startCorner u e) d ∙ sym (numbered-start (readTriangles ws) k e m i b) in
     let f : endOf t e ≡ sideEnd (readTriangles ws) m = ap (λ u. endOf u e) d ∙ sym (numbered-end (readTriangles ws) k e m i b) in
     record { start = s; end = f; start-fits = rw s (start-known n ws m h (omega arith)); end-fits = rw f (end-known n ws m h (omega arith)) }
 
@@ -60,7 +60,7 @@ pub of-chains : {small : Bool} {ts : List Triangle} {n : ℕ} {rows heads links 
 of-chains h t = record { bits = λ k. absurd (true≢false (sym k ∙ h)); chains = λ k. t }
 
 -- no sides so far
-pub filled-none : (small : Bool) (ts : List Triangle) (rows heads links : List ℕ) → Cleared small rows heads → Filled small ts 0 rows heads links
+pub filled-none : (small : Bool) (ts : List Triangle) (rows heads links : List ℕ) → EmptyTable small rows heads → FilledTable small ts 0 rows heads links
 filled-none small ts rows heads links z = record {
   table = record { bits = λ k. rowed-none ts rows (z .bits k .0) (z .bits k .1); chains = λ k. linked-none ts heads links (z .chains k) };
   once = once-none ts;
@@ -75,18 +75,18 @@ room-as r l e = record { chains = λ k. (omega (arith, r .chains k .0), omega (a
 
 -- a new side
 pub new-side : {small : Bool} {ts : List Triangle} {m : ℕ} {rows heads links : List ℕ} → Tabled small ts (m + 1) rows heads links → Once ts m
-    → some (isSide ts (sideStart ts m) (sideEnd ts m)) m ≡ false → Filled small ts (m + 1) rows heads links
+    → someBelow (isSide ts (sideStart ts m) (sideEnd ts m)) m ≡ false → FilledTable small ts (m + 1) rows heads links
 new-side {ts = ts} {m = m} t o h = record { table = t; once = rw (add-one m) (once-more ts m o h) }
 
 -- equally many sides
-pub filled-as : {small : Bool} {ts : List Triangle} {n m : ℕ} {rows heads links : List ℕ} → n ≡ m → Filled small ts n rows heads links → Filled small ts m rows heads links
+pub filled-as : {small : Bool} {ts : List Triangle} {n m : ℕ} {rows heads links : List ℕ} → n ≡ m → FilledTable small ts n rows heads links → FilledTable small ts m rows heads links
 filled-as e f = rw (sym e) f
 
 -- the lists lent for each form
-pub bits-cleared : (rows heads : List ℕ) → Zeros rows → length rows ≡ 64 → Cleared true rows heads
+pub bits-cleared : (rows heads : List ℕ) → Zeros rows → length rows ≡ 64 → EmptyTable true rows heads
 bits-cleared rows heads z h = record { bits = λ k. (z, h); chains = λ k. absurd (true≢false k) }
 
-pub chains-cleared : (rows heads : List ℕ) → Zeros heads → Cleared false rows heads
+pub chains-cleared : (rows heads : List ℕ) → Zeros heads → EmptyTable false rows heads
 chains-cleared rows heads z = record { bits = λ k. absurd (true≢false (sym k)); chains = λ k. z }
 
 pub bits-room : (n : ℕ) (links : List ℕ) → Room true n links

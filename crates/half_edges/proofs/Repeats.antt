@@ -6,7 +6,7 @@ use mathlib.Core.List.{List}
 use native.Mathlib.Omega.{arith}
 use native.Mathlib.Decide.{decLe}
 use Rattle.strip.specs.declared.triangle.Triangle.{Triangle}
-use Rattle.check_searches.specs.First.{some}
+use Rattle.check_searches.specs.First.{someBelow}
 use Rattle.check_searches.specs.Triangles.{triangleAt, shareSide}
 use Rattle.check_side_searches.specs.Skips.{NewTo}
 use Rattle.check_searches.proofs.First.{some-none, some-all}
@@ -16,7 +16,7 @@ use Rattle.half_edge_chains.proofs.Numbers.{numbered-start, numbered-end, same-
 pub once-none : (ts : List Triangle) → Once ts 0
 once-none ts = record { each = λ m l. absurd (omega arith) }
 
-pub once-more : (ts : List Triangle) (n : ℕ) → Once ts n → some (isSide ts (sideStart ts n) (sideEnd ts n)) n ≡ false → Once ts (suc n)
+pub once-more : (ts : List Triangle) (n : ℕ) → Once ts n → someBelow (isSide ts (sideStart ts n) (sideEnd ts n)) n ≡ false → Once ts (suc n)
 once-more ts n o h = record {
   each = λ m l i k. elim (decLe n m) [
     | yes p ↦ (let d : m ≡ n = omega arith in rw d (some-all (isSide ts (sideStart ts n) (sideEnd ts n)) n h i (omega arith)))

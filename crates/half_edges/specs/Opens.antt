@@ -6,12 +6,12 @@ use mathlib.Core.List.{List}
 use mathlib.Core.Logic.{_⊎_}
 use lib.ListN.{length, getD}
 use Rattle.strip.specs.declared.triangle.Triangle.{Triangle}
-use Rattle.check_searches.specs.First.{some}
+use Rattle.check_searches.specs.First.{someBelow}
 use Rattle.half_edge_chains.specs.Sides.{sideStart, sideEnd, isSide}
 
 -- whether the reverse of side m is a side
 abbrev pub meets : List Triangle → ℕ → Bool
-meets ts m = some (isSide ts (sideEnd ts m) (sideStart ts m)) (length ts * 3)
+meets ts m = someBelow (isSide ts (sideEnd ts m) (sideStart ts m)) (length ts * 3)
 
 -- m is one of the first `count` numbers of the list
 pub record Among (opens : List ℕ) (count m : ℕ) : Type 0 where
@@ -20,7 +20,7 @@ pub record Among (opens : List ℕ) (count m : ℕ) : Type 0 where
   pub is : getD opens place 0 ≡ m
 
 -- the first `count` numbers of the list are sides, and each of the first n sides has its reverse or is among them
-pub record Listed (ts : List Triangle) (n : ℕ) (opens : List ℕ) (count : ℕ) : Type 0 where
+pub record OpensListed (ts : List Triangle) (n : ℕ) (opens : List ℕ) (count : ℕ) : Type 0 where
   pub sides : (k : ℕ) → k < count → getD opens k 0 < length ts * 3
   pub each : (m : ℕ) → m < n → (meets ts m ≡ true) ⊎ Among opens count m
   -- the list is in order: each side before its entry k has its reverse or is among the first k entries
@@ -28,4 +28,4 @@ pub record Listed (ts : List Triangle) (n : ℕ) (opens : List ℕ) (count : ℕ
 
 -- the same, unless more sides were found than the list has room for
 pub record Opens (ts : List Triangle) (n : ℕ) (opens : List ℕ) (count : ℕ) : Type 0 where
-  pub listed : count ≤ length opens → Listed ts n opens count
+  pub listed : count ≤ length opens → OpensListed ts n opens count

@@ -26,7 +26,7 @@ pub record Room (small : Bool) (n : ℕ) (links : List ℕ) : Type 0 where
   pub chains : small ≡ false → (n ≤ length links) × (length links < 65536)
 
 -- the table is empty
-pub record Cleared (small : Bool) (rows heads : List ℕ) : Type 0 where
+pub record EmptyTable (small : Bool) (rows heads : List ℕ) : Type 0 where
   pub bits : small ≡ true → Zeros rows × (length rows ≡ 64)
   pub chains : small ≡ false → Zeros heads
 
@@ -36,7 +36,7 @@ pub record Tabled (small : Bool) (ts : List Triangle) (n : ℕ) (rows heads link
   pub chains : small ≡ false → Linked ts n heads links
 
 -- the same, and no two of these sides are equal
-pub record Filled (small : Bool) (ts : List Triangle) (n : ℕ) (rows heads links : List ℕ) : Type 0 where
+pub record FilledTable (small : Bool) (ts : List Triangle) (n : ℕ) (rows heads links : List ℕ) : Type 0 where
   pub table : Tabled small ts n rows heads links
   pub once : Once ts n
 
@@ -44,4 +44,4 @@ pub record Filled (small : Bool) (ts : List Triangle) (n : ℕ) (rows heads link
 pub record FilledTo (small : Bool) (ts : List Triangle) (n : ℕ) (rows heads links : List ℕ) : Type 0 where
   pub most : n ≤ length ts
   pub once : Once ts (n * 3)
-  pub all : n ≡ length ts → Filled small ts (length ts * 3) rows heads links
+  pub all : n ≡ length ts → FilledTable small ts (length ts * 3) rows heads links

@@ -5,7 +5,7 @@ ghost use Prim.Native.Nat.{_+_, _*_, _/_, _<_};
 ghost use lib.ListN.{length};
 ghost use Rattle.mesh_geometry.specs.Words.{readTriangles};
 ghost use Rattle.check_faults.specs.Turns.{AllNumbered};
-ghost use Rattle.half_edges.specs.Tables.{vertices, SideAt, Room, Cleared, Filled, FilledTo};
+ghost use Rattle.half_edges.specs.Tables.{vertices, SideAt, Room, EmptyTable, FilledTable, FilledTo};
 use crate::table::add_side;
 use crate::table::has_side;
 use check_searches::triangle::triangle_at;
@@ -21,8 +21,8 @@ fn add_new(
     x: u16,
     y: u16,
 ) -> bool
-    requires { ⌜ Filled small (readTriangles (now indices)) m (now rows) (now heads) (now links) ⌝ ∗ ⌜ SideAt small (readTriangles (now indices)) (now heads) m x y ⌝ ∗ ⌜ Room small (m + 1) (now links) ⌝ }
-    ensures { λ r. ⌜ (r ≡ true → Filled small (readTriangles (now (indices .entry))) (m + 1) (now (rows .exit)) (now (heads .exit)) (now (links .exit))) ⌝ }
+    requires { ⌜ FilledTable small (readTriangles (now indices)) m (now rows) (now heads) (now links) ⌝ ∗ ⌜ SideAt small (readTriangles (now indices)) (now heads) m x y ⌝ ∗ ⌜ Room small (m + 1) (now links) ⌝ }
+    ensures { λ r. ⌜ (r ≡ true → FilledTable small (readTriangles (now (indices .entry))) (m + 1) (now (rows .exit)) (now (heads .exit)) (now (links .exit))) ⌝ }
 {
     if has_side(indices, m, small, rows, heads, links, x, y) {
         return false;
@@ -40,8 +40,8 @@ fn add_triangle(
     heads: &mut [u16],
     links: &mut [u32],
 ) -> bool
-    requires { ⌜ Filled small (readTriangles (now indices)) (k * 3) (now rows) (now heads) (now links) ⌝ ∗ ⌜ AllNumbered (vertices small (now heads)) (now indices) ⌝ ∗ ⌜ Room small (length (now indices)) (now links) ⌝ ∗ ⌜ (k < length (now indices) / 3) × (length (now indices) < 65536) ⌝ }
-    ensures { λ r. ⌜ (r ≡ true → Filled small (readTriangles (now (indices .entry))) (k * 3 + 3) (now (rows .exit)) (now (heads .exit)) (now (links .exit))) ⌝ }
+    requires { ⌜ FilledTable small (readTriangles (now indices)) (k * 3) (now rows) (now heads) (now links) ⌝ ∗ ⌜ AllNumbered (vertices small (now heads)) (now indices) ⌝ ∗ ⌜ Room small (length (now indices)) (now links) ⌝ ∗ ⌜ (k < length (now indices) / 3) × (length (now indices) < 65536) ⌝ }
+    ensures { λ r. ⌜ (r ≡ true → FilledTable small (readTriangles (now (indices .entry))) (k * 3 + 3) (now (rows .exit)) (now (heads .exit)) (now (links .exit))) ⌝ }
 {
     let t = triangle_at(indices, k);
     let m = k * 3;
@@ -62,7 +62,7 @@ pub fn fill(
     heads: &mut [u16],
     links: &mut [u32],
 ) -> usize
-    requires { ⌜ Cleared small (now rows) (now heads) ⌝ ∗ ⌜ AllNumbered (vertices small (now heads)) (now indices) ⌝ ∗ ⌜ Room small (length (now indices)) (now links) ⌝ ∗ ⌜ length (now indices) < 65536 ⌝ }
+    requires { ⌜ EmptyTable small (now rows) (now heads) ⌝ ∗ ⌜ AllNumbered (vertices small (now heads)) (now indices) ⌝ ∗ ⌜ Room small (length (now indices)) (now links) ⌝ ∗ ⌜ length (now indices) < 65536 ⌝ }
     ensures { λ r. ⌜ FilledTo small (readTriangles (now (indices .entry))) r (now (rows .exit)) (now (heads .exit)) (now (links .exit)) ⌝ }
 {
     let count = indices.len() / 3;

@@ -2,7 +2,7 @@
 ghost use mathlib.Core.Path.{_≡_};
 ghost use Prim.Native.Nat.{_+_, _<_};
 ghost use Rattle.mesh_geometry.specs.Words.{readTriangles};
-ghost use Rattle.check_searches.specs.First.{some};
+ghost use Rattle.check_searches.specs.First.{someBelow};
 ghost use Rattle.half_edge_chains.specs.Sides.{isSide};
 ghost use Rattle.half_edges.specs.Tables.{vertices, SideAt, Room, Tabled};
 
@@ -18,7 +18,7 @@ pub(crate) fn has_side(
     y: u16,
 ) -> bool
     requires { ⌜ Tabled small (readTriangles (now indices)) sides (now rows) (now heads) (now links) ⌝ ∗ ⌜ x < vertices small (now heads) ⌝ ∗ ⌜ y < vertices small (now heads) ⌝ }
-    ensures { λ r. ⌜ r ≡ some (isSide (readTriangles (now (indices .entry))) x y) sides ⌝ }
+    ensures { λ r. ⌜ r ≡ someBelow (isSide (readTriangles (now (indices .entry))) x y) sides ⌝ }
 {
     if small {
         return half_edge_bits::has_side(indices, sides, rows, x, y);

@@ -14,7 +14,7 @@ use Rattle.mesh_geometry.specs.Edge.{Run, along}
 use Rattle.mesh_geometry.specs.Segmented.{run, isolinePoints}
 use Rattle.mesh_geometry.specs.Words.{vertexWords}
 use Rattle.mesh_geometry.proofs.Shape.{same-point}
-use Rattle.vertices.specs.Rows.{places, whole, GoodRow, AllValid}
+use Rattle.vertices.specs.Rows.{placeIn, wholeEdge, GoodRow, AllValid}
 use Rattle.vertices.specs.Grids.{crossing, gridPoints}
 use Rattle.vertices.proofs.Parts.{wrote-same}
 use Rattle.vertices.proofs.Rows.{grid-same, along-at, along-same, good-row}
@@ -22,32 +22,32 @@ use Rattle.isoline_points.specs.Equal.{IsEqual, StoredIfEqual, MostEqual
 
 -- all rows but the last
 pub lines-are : (lines columns : List ℕ) (n : ℕ) → n ≡ length lines - 1 → 1 ≤ length columns
-    → gridPoints (take n lines) columns ≡ isolinePoints (whole lines) (whole columns)
+    → gridPoints (take n lines) columns ≡ isolinePoints (wholeEdge lines) (wholeEdge columns)
 lines-are lines columns n e h =
     let m : length (take n lines) ≡ n = length-take n lines ∙ omega arith in
     let w : suc (length columns - 1) ≡ length columns = omega arith in
     rw (m, ← e, w)
-    (grid-same (crossing (take n lines) columns) (λ r c. record { u = places columns c; v = places lines r; w = 0 }) n (length columns)
+    (grid-same (crossing (take n lines) columns) (λ r c. record { u = placeIn columns c; v = placeIn lines r; w = 0 }) n (length columns)
     (λ r c l k. same-point _ _ refl (getD-take n lines r 0 l) refl))
 
 -- rows that are the rows of edges
 isolines-are : (lines columns : Run) {xs ys : List ℕ} → xs ≡ along lines → ys ≡ along columns
-    → isolinePoints (whole xs) (whole ys) ≡ isolinePoints lines columns
+    → isolinePoints (wholeEdge xs) (wholeEdge ys) ≡ isolinePoints lines columns
 isolines-are lines columns h k =
     rw (h, k, along-same lines .count, along-same columns .count)
-    (grid-same (λ r c. record { u = places (along columns) c; v = places (along lines) r; w = 0 }) (λ r c. record { u = columns .q c; v = lines .q r; w = 0 })
+    (grid-same (λ r c. record { u = placeIn (along columns) c; v = placeIn (along lines) r; w = 0 }) (λ r c. record { u = columns .q c; v = lines .q r; w = 0 })
     (lines .c) (suc (columns .c)) (λ r c l m. same-point _ _ (along-at columns c (omega arith)) (along-at lines r (omega arith)) refl))
 
 module _ (lines columns : Segments) {xs ys : List ℕ} (h : xs ≡ along (run lines)) (k : ys ≡ along (run columns)) where
-  same : isolinePoints (whole xs) (whole ys) ≡ isolinePoints (run lines) (run columns)
+  same : isolinePoints (wholeEdge xs) (wholeEdge ys) ≡ isolinePoints (run lines) (run columns)
   same = isolines-are (run lines) (run columns) h k
 
   -- they are good rows, and there is room for what they give
   pub rows-ready : AllValid (lines ∷ columns ∷ []) → (out : List ℕ) (at : ℕ) → at + 3 * length (isolinePoints (run lines) (run columns)) ≤ length out
-      → (GoodRow xs × GoodRow ys) × (at + 3 * length (isolinePoints (whole xs) (whole ys)) ≤ length out)
+      → (GoodRow xs × GoodRow ys) × (at + 3 * length (isolinePoints (wholeEdge xs) (wholeEdge ys)) ≤ length out)
   rows-ready v out at room = ((good-row lines (v .0) h, good-row columns (v .1) k), omega (arith, ap length same))
 
-  pub rows-written : {out out′ : List ℕ} {at w : ℕ} → Wrote out at (vertexWords (isolinePoints (whole xs) (whole ys))) out′ w
+  pub rows-written : {out out′ : List ℕ} {at w : ℕ} → Wrote out at (vertexWords (isolinePoints (wholeEdge xs) (wholeEdge ys))) out′ w
       → Wrote out at (vertexWords (isolinePoints (run lines) (run columns))) out′ w
   rows-written = wrote-same same
 

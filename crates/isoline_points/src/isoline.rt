@@ -8,15 +8,15 @@ ghost use Rattle.edge.specs.Rows.{edgeRow};
 ghost use Rattle.level.specs.Segments.{Valid};
 ghost use Rattle.mesh_geometry.specs.Segmented.{run, isolinePoints};
 ghost use Rattle.mesh_geometry.specs.Words.{vertexWords};
-ghost use Rattle.vertices.specs.Rows.{whole, GoodRow, AllValid};
+ghost use Rattle.vertices.specs.Rows.{wholeEdge, GoodRow, AllValid};
 ghost use Rattle.isoline_points.specs.Equal.{MostEqual, StoredIfEqual};
 use edge_table::row_of;
 use level::Segments;
 
 // Writes isolines from two rows of places, each with the place of the edge's end.
 fn write_rows(out: &mut [u32], at: usize, lines: &[u32], along: &[u32]) -> usize
-    requires { ⌜ GoodRow (now lines) × GoodRow (now along) ⌝ ∗ ⌜ at + 3 * length (isolinePoints (whole (now lines)) (whole (now along))) ≤ length (now out) ⌝ }
-    ensures { λ w. ⌜ Wrote (now (out .entry)) at (vertexWords (isolinePoints (whole (now (lines .entry))) (whole (now (along .entry))))) (now (out .exit)) w ⌝ }
+    requires { ⌜ GoodRow (now lines) × GoodRow (now along) ⌝ ∗ ⌜ at + 3 * length (isolinePoints (wholeEdge (now lines)) (wholeEdge (now along))) ≤ length (now out) ⌝ }
+    ensures { λ w. ⌜ Wrote (now (out .entry)) at (vertexWords (isolinePoints (wholeEdge (now (lines .entry))) (wholeEdge (now (along .entry))))) (now (out .exit)) w ⌝ }
 {
     let n = lines.len() - 1;
     vertices::grid::write_grid(out, at, &lines[0..n], along)

@@ -14,55 +14,55 @@ use Rattle.job.specs.declared.header.Header.{Header}
 use Rattle.job.specs.declared.header.Header.the-variants.{Read, NotAJob, UnknownVersion}
 use Rattle.job_fields.specs.Bytes.{word}
 use Rattle.job_fields.specs.Version.{versionNumber}
-use Rattle.job.specs.Header.{mark, startsWith, lacksMark, start, headerOf, headerNumber, HeaderRead, HeaderMeans}
+use Rattle.job.specs.Header.{jobMark, startsWith, lacksMark, firstRecord, headerOf, headerNumber, HeaderRead, HeaderMeans}
 use Rattle.job.proofs.Numbers.{apart}
 use Rattle.job.proofs.Marks.{starts-take, take-starts}
 
 module _ (bs : List ℕ) where
-  pub header-lacks : lacksMark mark bs ≡ true → headerOf bs ≡ NotAJob
+  pub header-lacks : lacksMark jobMark bs ≡ true → headerOf bs ≡ NotAJob
   unfolding headerOf
   header-lacks h = rw h
 
   pub header-short : length bs < 5 → headerOf bs ≡ NotAJob
   header-short h = header-lacks (rw (lt-ltb _ _ h))
 
-  pub header-other : startsWith mark bs ≡ false → headerOf bs ≡ NotAJob
+  pub header-other : startsWith jobMark bs ≡ false → headerOf bs ≡ NotAJob
   header-other h = header-lacks (rw (h, or-true))
 
-  pub header-version : 5 ≤ length bs → startsWith mark bs ≡ true → (word 2 bs 3 ≡ 1 → ⊥) → (word 2 bs 3 ≡ 2 → ⊥) → headerOf bs ≡ UnknownVersion
+  pub header-version : 5 ≤ length bs → startsWith jobMark bs ≡ true → (word 2 bs 3 ≡ 1 → ⊥) → (word 2 bs 3 ≡ 2 → ⊥) → headerOf bs ≡ UnknownVersion
   unfolding headerOf
   header-version h m p q = rw (le-ltb _ _ h, m, ne-eqb _ _ p, ne-eqb _ _ q)
 
-  pub header-right : 5 ≤ length bs → startsWith mark bs ≡ true → (v : Version) → word 2 bs 3 ≡ versionNumber v → headerOf bs ≡ Read v start
+  pub header-right : 5 ≤ length bs → startsWith jobMark bs ≡ true → (v : Version) → word 2 bs 3 ≡ versionNumber v → headerOf bs ≡ Read v firstRecord
   unfolding headerOf
   header-right h m One e = rw (le-ltb _ _ h, m, e)
   header-right h m Two e = rw (le-ltb _ _ h, m, e)
 
-  by-mark : 5 ≤ length bs → (t : Bool) → startsWith mark bs ≡ t → HeaderMeans bs (headerOf bs)
-  by-mark h false m = rw (header-other m) (inr (λ e. false≢true (sym m ∙ take-starts mark bs e)))
+  by-mark : 5 ≤ length bs → (t : Bool) → startsWith jobMark bs ≡ t → HeaderMeans bs (headerOf bs)
+  by-mark h false m = rw (header-other m) (inr (λ e. false≢true (sym m ∙ take-starts jobMark bs e)))
   by-mark h true m = elim (ℕ-discrete (word 2 bs 3) 1) [
-    | yes e ↦ rw (header-right h m One e) (h, starts-take mark bs m, e, refl)
+    | yes e ↦ rw (header-right h m One e) (h, starts-take jobMark bs m, e, refl)
     | no p ↦ elim (ℕ-discrete (word 2 bs 3) 2) [
-      | yes e ↦ rw (header-right h m Two e) (h, starts-take mark bs m, e, refl)
-      | no q ↦ rw (header-version h m p q) (h, starts-take mark bs m, p, q)
+      | yes e ↦ rw (header-right h m Two e) (h, starts-take jobMark bs m, e, refl)
+      | no q ↦ rw (header-version h m p q) (h, starts-take jobMark bs m, p, q)
     ]
   ]
 
   header-means : HeaderMeans bs (headerOf bs)
   header-means = elim (decLe 5 (length bs)) [
-    | yes h ↦ by-mark h (startsWith mark bs) refl
+    | yes h ↦ by-mark h (startsWith jobMark bs) refl
     | no h ↦ let k : length bs < 5 = omega arith in rw (header-short k) (inl k)
   ]
 
-  other : (take 3 bs ≡ mark → ⊥) → (t : Bool) → startsWith mark bs ≡ t → headerOf bs ≡ NotAJob
-  other d true m = absurd (d (starts-take mark bs m))
+  other : (take 3 bs ≡ jobMark → ⊥) → (t : Bool) → startsWith jobMark bs ≡ t → headerOf bs ≡ NotAJob
+  other d true m = absurd (d (starts-take jobMark bs m))
   other d false m = header-other m
 
   means-header : (r : Header) → HeaderMeans bs r → headerOf bs ≡ r
   means-header NotAJob (inl h) = header-short h
-  means-header NotAJob (inr d) = other d (startsWith mark bs) refl
-  means-header UnknownVersion (h, m, p, q) = header-version h (take-starts mark bs m) p q
-  means-header (Read v next) (h, m, n, e) = header-right h (take-starts mark bs m) v n ∙ rw e
+  means-header NotAJob (inr d) = other d (startsWith jobMark bs) refl
+  means-header UnknownVersion (h, m, p, q) = header-version h (take-starts jobMark bs m) p q
+  means-header (Read v next) (h, m, n, e) = header-right h (take-starts jobMark bs m) v n ∙ rw e
 
   -- each answer is given exactly if it is right
   pub header-exactly : (r : Header) → headerOf bs ≡ r ↔ HeaderMeans bs r

@@ -17,7 +17,7 @@ use Rattle.job.specs.declared.next.NextRecord.the-variants.{Read, End, C
 use Rattle.job_fields.specs.Levels.{levelsOf}
 use Rattle.job_fields.specs.Version.{settingBytes, recordSize}
 use Rattle.job_fields.specs.Tops.{unknownPlace}
-use Rattle.job.specs.Records.{recordOf, recordAt, recordNumber, RecordRead, RecordMeans, after, atEnd, cut}
+use Rattle.job.specs.Records.{recordOf, recordAt, recordNumber, RecordRead, RecordMeans, cursorAfter, atEnd, incomplete}
 use Rattle.job.proofs.Numbers.{apart}
 use Rattle.job_fields.proofs.Tops.{place-means, first-place, all-place, all-top}
 
@@ -30,15 +30,15 @@ module _ (v : Version) (bs : List ℕ) (at : ℕ) where
   unfolding recordAt
   record-cut h k = rw (lt-leb _ _ h, lt-ltb (length bs - at) (recordSize v) (omega arith))
 
-  not-cut : at + recordSize v ≤ length bs → (atEnd bs at ≡ false) × (cut v bs at ≡ false)
+  not-cut : at + recordSize v ≤ length bs → (atEnd bs at ≡ false) × (incomplete v bs at ≡ false)
   not-cut h = (lt-leb (length bs) at (omega arith), le-ltb (length bs - at) (recordSize v) (omega arith))
 
   pub record-unknown : at + recordSize v ≤ length bs → unknownPlace v bs at < settingBytes v
-      → recordAt v bs at ≡ UnknownSetting (unknownPlace v bs at) (after v at)
+      → recordAt v bs at ≡ UnknownSetting (unknownPlace v bs at) (cursorAfter v at)
   unfolding recordAt
   record-unknown h k = rw (not-cut h .0, not-cut h .1, lt-ltb _ _ k)
 
-  pub record-whole : at + recordSize v ≤ length bs → settingBytes v ≤ unknownPlace v bs at → recordAt v bs at ≡ Read (recordOf v bs at) (after v at)
+  pub record-whole : at + recordSize v ≤ length bs → settingBytes v ≤ unknownPlace v bs at → recordAt v bs at ≡ Read (recordOf v bs at) (cursorAfter v at)
   unfolding recordAt
   record-whole h k = rw (not-cut h .0, not-cut h .1, le-ltb _ _ k)
 
@@ -72,7 +72,7 @@ module _ (v : Version) (bs : List ℕ) (at : ℕ) where
   is-7 (UnknownSetting place next) m e = absurd (apart e refl)
   is-7 (Read r next) m e = absurd (apart e refl)
 
-  is-8 : (place : ℕ) (r : NextRecord) → RecordMeans v bs at r → recordNumber r ≡ 8 ∷ place ∷ [] → RecordMeans v bs at (UnknownSetting place (after v at))
+  is-8 : (place : ℕ) (r : NextRecord) → RecordMeans v bs at r → recordNumber r ≡ 8 ∷ place ∷ [] → RecordMeans v bs at (UnknownSetting place (cursorAfter v at))
   is-8 place End m e = absurd (apart e refl)
   is-8 place CutRecord m e = absurd (apart e refl)
   is-8 place (UnknownSetting found next) (h, f, p) e = (h, let q : found ≡ place = cc in rw q at f, refl)
@@ -83,7 +83,7 @@ module _ (v : Version) (bs : List ℕ) (at : ℕ) where
   record-read {r} e = record {
     is = sym e;
     refused-7 = (is-7 r (rw e at record-means), λ m. ap recordNumber (sym e ∙ means-record CutRecord m));
-    refused-8 = λ place. (is-8 place r (rw e at record-means), λ m. ap recordNumber (sym e ∙ means-record (UnknownSetting place (after v at)) m));
+    refused-8 = λ place. (is-8 place r (rw e at record-means), λ m. ap recordNumber (sym e ∙ means-record (UnknownSetting place (cursorAfter v at)) m));
   }
 
   -- the levels of a record are those of its bit patterns

@@ -11,8 +11,8 @@ use Rattle.job.specs.declared.cursor.Cursor.{Cursor}
 use Rattle.job.specs.declared.header.Header.the-variants as header
 use Rattle.job.specs.declared.next.NextRecord.the-variants.{Read, End, CutRecord, UnknownSetting}
 use Rattle.job_fields.specs.Bytes.{byteAt, word}
-use Rattle.job.specs.Header.{mark, headerOf}
-use Rattle.job_fields.specs.Settings.{firstUnknown, kindOf, settingsAt}
+use Rattle.job.specs.Header.{jobMark, headerOf}
+use Rattle.job_fields.specs.Settings.{firstUnknownSetting, kindOf, settingsAt}
 use Rattle.job_fields.specs.Tops.{unknownPlace}
 use Rattle.job_fields.specs.Levels.{bitsAt, levelsOf}
 use Rattle.job.specs.Records.{recordOf, recordAt}
@@ -20,7 +20,7 @@ use Rattle.job.proofs.Headers.{header-exactly}
 
 -- headers of version 1
 pub header-one : (bs : List ℕ) (next : Cursor)
-    → headerOf bs ≡ header.Read One next ↔ (5 ≤ length bs) × (take 3 bs ≡ mark) × (word 2 bs 3 ≡ 1) × (next ≡ record { at = 5 })
+    → headerOf bs ≡ header.Read One next ↔ (5 ≤ length bs) × (take 3 bs ≡ jobMark) × (word 2 bs 3 ≡ 1) × (next ≡ record { at = 5 })
 header-one bs next = header-exactly bs (header.Read One next)
 
 -- records of version 1: 29 bytes, five limits, and the top level 64
@@ -28,7 +28,7 @@ pub version-one : (bs : List ℕ) (at : ℕ)
     → recordAt One bs at
     ≡ cond (leb (length bs) at) End
     (cond (ltb (length bs - at) 29) CutRecord
-    (cond (ltb (firstUnknown bs at) 5) (UnknownSetting (firstUnknown bs at) (record { at = at + 29 }))
+    (cond (ltb (firstUnknownSetting bs at) 5) (UnknownSetting (firstUnknownSetting bs at) (record { at = at + 29 }))
     (Read
     (record { kind = kindOf (byteAt bs at); settings = settingsAt bs at 64; levels = levelsOf (bitsAt bs (at + 5)); bits = bitsAt bs (at + 5) })
     (record { at = at + 29 }))))

@@ -14,8 +14,8 @@ use Rattle.job.specs.declared.header.Header.{Header}
 use Rattle.job.specs.declared.header.Header.the-variants.{Read, NotAJob, UnknownVersion}
 
 -- the mark: the bytes of "TSJ"
-abbrev pub mark : List ℕ
-mark = 0x54 ∷ 0x53 ∷ 0x4A ∷ []
+abbrev pub jobMark : List ℕ
+jobMark = 0x54 ∷ 0x53 ∷ 0x4A ∷ []
 
 -- the list bs begins with the list ms
 unfoldable pub startsWith : List ℕ → List ℕ → Bool
@@ -28,30 +28,30 @@ abbrev pub lacksMark : List ℕ → List ℕ → Bool
 lacksMark ms bs = ltb (length bs) 5 || not (startsWith ms bs)
 
 -- the number of the version: the 16 bits after the mark
-abbrev pub versionIn : List ℕ → ℕ
-versionIn bs = word 2 bs 3
+abbrev pub versionNumberIn : List ℕ → ℕ
+versionNumberIn bs = word 2 bs 3
 
 -- answer 5: not a job
 abbrev pub notAJob : List ℕ → Bool
-notAJob bs = lacksMark mark bs
+notAJob bs = lacksMark jobMark bs
 
 -- the first record is at byte 5
-abbrev pub start : Cursor
-start = record { at = 5 }
+abbrev pub firstRecord : Cursor
+firstRecord = record { at = 5 }
 
 -- the answer for a version's number: 6 unless it is 1 or 2
 abbrev pub byVersion : ℕ → Header
-byVersion n = cond (eqb n 1) (Read One start) (cond (eqb n 2) (Read Two start) UnknownVersion)
+byVersion n = cond (eqb n 1) (Read One firstRecord) (cond (eqb n 2) (Read Two firstRecord) UnknownVersion)
 
 -- what reading a header answers
 unfoldable pub headerOf : List ℕ → Header
-headerOf bs = cond (notAJob bs) NotAJob (byVersion (versionIn bs))
+headerOf bs = cond (notAJob bs) NotAJob (byVersion (versionNumberIn bs))
 
 -- when each answer is right
 abbrev pub HeaderMeans : List ℕ → Header → Type 0
-HeaderMeans bs NotAJob = (length bs < 5) ⊎ (take 3 bs ≡ mark → ⊥)
-HeaderMeans bs UnknownVersion = (5 ≤ length bs) × (take 3 bs ≡ mark) × (versionIn bs ≡ 1 → ⊥) × (versionIn bs ≡ 2 → ⊥)
-HeaderMeans bs (Read v next) = (5 ≤ length bs) × (take 3 bs ≡ mark) × (versionIn bs ≡ versionNumber v) × (next ≡ start)
+HeaderMeans bs NotAJob = (length bs < 5) ⊎ (take 3 bs ≡ jobMark → ⊥)
+HeaderMeans bs UnknownVersion = (5 ≤ length bs) × (take 3 bs ≡ jobMark) × (versionNumberIn bs ≡ 1 → ⊥) × (versionNumberIn bs ≡ 2 → ⊥)
+HeaderMeans bs (Read v next) = (5 ≤ length bs) × (take 3 bs ≡ jobMark) × (versionNumberIn bs ≡ versionNumber v) × (next ≡ firstRecord)
 
 -- the number of a refusal as a list of one element; [] if the header was read
 abbrev pub headerNumber : Header → List ℕ

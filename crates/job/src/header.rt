@@ -2,7 +2,7 @@
 ghost use mathlib.Core.Path.{_≡_};
 ghost use Prim.Native.Nat.{_≤_};
 ghost use lib.ListN.{length};
-ghost use Rattle.job.specs.Header.{startsWith, lacksMark, versionIn, HeaderRead};
+ghost use Rattle.job.specs.Header.{startsWith, lacksMark, versionNumberIn, HeaderRead};
 use crate::cursor::Cursor;
 use job_fields::version::Version;
 use job_fields::word::read_u16;
@@ -44,7 +44,7 @@ pub fn lacks_mark(bytes: &[u8], mark: &[u8; 3]) -> bool
 // Returns the number of the version, which follows the mark.
 pub fn read_version(bytes: &[u8]) -> u16
     requires { ⌜ 5 ≤ length (now bytes) ⌝ }
-    ensures { λ r. ⌜ r ≡ versionIn (now (bytes .entry)) ⌝ }
+    ensures { λ r. ⌜ r ≡ versionNumberIn (now (bytes .entry)) ⌝ }
 {
     read_u16(bytes, 3)
 }

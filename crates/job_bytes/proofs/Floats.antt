@@ -5,10 +5,10 @@ use lib.Dec.{T}
 use lib.Ieee.{Float, nan, inf, fin, binary32, ne, isNan, fits, ofBits}
 use lib.Ieee.Bits.{ofBits-toBits}
 use lib.Ieee.Compare.{differs-from-itself, nan-differs}
-use Rattle.job_bytes.specs.Patterns.{patternOf}
+use Rattle.job_bytes.specs.Patterns.{levelPattern}
 
 -- only a NaN differs from itself
-pub pattern-nan : (x : Float) → ne x x ≡ true → patternOf x ≡ 0x7fc0_0000
+pub pattern-nan : (x : Float) → ne x x ≡ true → levelPattern x ≡ 0x7fc0_0000
 unfolding isNan
 pattern-nan x h = let t : T (ne x x) = rw h tt in rw (differs-from-itself x t)
 
@@ -23,7 +23,7 @@ unfolding ofBits
 nan-back = refl
 
 -- the f32 of a level's bit pattern is the level
-pub pattern-back : (x : Float) → fits binary32 x ≡ true → ofBits binary32 (patternOf x) ≡ x
+pub pattern-back : (x : Float) → fits binary32 x ≡ true → ofBits binary32 (levelPattern x) ≡ x
 unfolding isNan
 pattern-back nan h = nan-back
 pattern-back (inf s) h = ofBits-toBits binary32 (inf s) (rw h tt)

@@ -11,18 +11,18 @@ use Rattle.job.specs.declared.record.Record.{Record}
 use Rattle.job_fields.specs.Levels.{levelsOf}
 
 -- the bit pattern of a level; 0x7fc00000 for a NaN
-abbrev pub patternOf : Float → ℕ
-patternOf x = cond (isNan x) 0x7fc0_0000 (toBits binary32 x)
+abbrev pub levelPattern : Float → ℕ
+levelPattern x = cond (isNan x) 0x7fc0_0000 (toBits binary32 x)
 
 -- the pattern of each level
 abbrev pub bitsOf : Levels → LevelBits
 bitsOf x = record {
-  outer0 = patternOf (x .outer0);
-  outer1 = patternOf (x .outer1);
-  outer2 = patternOf (x .outer2);
-  outer3 = patternOf (x .outer3);
-  inner0 = patternOf (x .inner0);
-  inner1 = patternOf (x .inner1);
+  outer0 = levelPattern (x .outer0);
+  outer1 = levelPattern (x .outer1);
+  outer2 = levelPattern (x .outer2);
+  outer3 = levelPattern (x .outer3);
+  inner0 = levelPattern (x .inner0);
+  inner1 = levelPattern (x .inner1);
 }
 
 -- the six patterns have at most 32 bits

@@ -1,6 +1,6 @@
 // Records made of bit patterns or of f32 levels.
 ghost use mathlib.Core.Path.{_≡_};
-ghost use Rattle.job_bytes.specs.Patterns.{patternOf, bitsOf, MadeRecord, recordOfBits};
+ghost use Rattle.job_bytes.specs.Patterns.{levelPattern, bitsOf, MadeRecord, recordOfBits};
 use job::record::Record;
 use job_fields::levels::LevelBits;
 use job_fields::levels::Levels;
@@ -10,7 +10,7 @@ use patch::settings::Settings;
 
 // Returns the bit pattern of a level. `f32::to_bits` accepts no NaN; a NaN gets the pattern 0x7fc00000.
 fn bits_of_level(level: f32) -> u32
-    ensures { λ r. ⌜ r ≡ patternOf level ⌝ }
+    ensures { λ r. ⌜ r ≡ levelPattern level ⌝ }
 {
     if level != level {
         0x7fc0_0000

@@ -8,7 +8,7 @@ use borrow.Author.Tests.{ltb-false, le-ltb, eqb-true}
 use lib.Dec.{ltb, eqb}
 use lib.ListN.{length, take, drop, getD, length-take, length-drop}
 use Rattle.buffer.proofs.Laws.{over-front}
-use Rattle.answer_codes.specs.Told.{Told, refused, drew}
+use Rattle.answer_codes.specs.AnswerCode.{AnswerCode, refused, drew}
 use Rattle.call_answers.specs.Replies.{unknownSetting, badTop, oneWord}
 use Rattle.call_inputs.specs.Inputs.{topIn}
 use Rattle.job.specs.declared.header.Header.{Header}
@@ -16,31 +16,31 @@ use Rattle.job.specs.declared.header.Header.the-variants.{Read, NotAJob, Unknow
 use Rattle.job.specs.declared.next.NextRecord.the-variants as next-record
 use Rattle.job_fields.specs.declared.version.Version.{Version}
 use Rattle.job_fields.specs.declared.version.Version.the-variants.{One, Two}
-use Rattle.job_fields.specs.Settings.{choices, AllBelow, firstUnknown}
+use Rattle.job_fields.specs.Settings.{choices, AllBelow, firstUnknownSetting}
 use Rattle.job_fields.specs.Version.{versionNumber, recordSize}
 use Rattle.job_fields.proofs.Limits.{first-none}
 use Rattle.job.specs.Header.{headerOf}
-use Rattle.job.specs.Records.{recordAt, after}
+use Rattle.job.specs.Records.{recordAt, cursorAfter}
 use Rattle.job_bytes.specs.Written.{headerBytes, takesTop, recordBytes}
 use Rattle.job_bytes.specs.Patterns.{Patterns}
 use Rattle.job_bytes.proofs.Lengths.{header-length, record-length}
 use Rattle.job_writer.specs.Whole.{Bytes}
-use Rattle.job_writer.specs.Answers.{roomVerdict, wrote}
+use Rattle.job_writer.specs.Answers.{bytesVerdict, wrote}
 use Rattle.job_writer.proofs.Has.{has-byte}
 use Rattle.job_writer.proofs.SettingBytes.{five-again}
 use Rattle.job_writer.proofs.Headers.{header-back, header-again}
 use Rattle.job_writer.proofs.RoundTrip.{record-back}
 use Rattle.job_words.specs.declared.found.Found.{Found}
-use Rattle.job_words.specs.Inputs.{isVersion, versionIn, bitsIn, recordIn}
+use Rattle.job_words.specs.Inputs.{isVersion, versionOfNumber, bitsIn, recordIn}
 use Rattle.job_words.specs.Found.{settingsOut, patternsOut, foundOf, foundAt}
 use Rattle.job_words.proofs.Places.{found-here}
 use Rattle.job_exports.specs.Back.{SixPatterns, ReadBack}
-use Rattle.job_exports.specs.Calls.{headerSays, recordSays, HeaderCalled, RecordCalled, toldRead, HeaderAsked, RecordAsked}
+use Rattle.job_exports.specs.Calls.{headerSays, recordSays, HeaderCalled, RecordCalled, readCode, HeaderAsked, RecordAsked}
 use Rattle.job_exports.proofs.Calls.{header-known}
 
 -- ---- a version and its number
-number-version : (n : ℕ) → isVersion n ≡ true → versionNumber (versionIn n) ≡ n
-unfolding isVersion versionIn
+number-version : (n : ℕ) → isVersion n ≡ true → versionNumber (versionOfNumber n) ≡ n
+unfolding isVersion versionOfNumber
 number-version n e = go (eqb n 1) (eqb n 2) refl refl e
   where
     go : (a b : Bool) → eqb n 1 ≡ a → eqb n 2 ≡ b → (a || b) ≡ true → versionNumber (cond a One Two) ≡ n
@@ -48,8 +48,8 @@ number-version n e = go (eqb n 1) (eqb n 2) refl refl e
     go false true f g h = sym (eqb-true n 2 g)
     go false false f g h = let z : _≡_ {A = ℕ} 0 1 = cc in absurd (omega arith)
 
-pub version-number : (v : Version) → (isVersion (versionNumber v) ≡ true) × (versionIn (versionNumber v) ≡ v)
-unfolding isVersion versionIn
+pub version-number : (v : Version) → (isVersion (versionNumber v) ≡ true) × (versionOfNumber (versionNumber v) ≡ v)
+unfolding isVersion versionOfNumber
 version-number One = (refl, refl)
 version-number Two = (refl, refl)
 
@@ -57,9 +57,9 @@ version-number Two = (refl, refl)
 -- there was room, and the answer is that many bytes
 record Roomy (size have : ℕ) : Type 0 where
   room : size ≤ have
-  is : roomVerdict size have ≡ wrote size
+  is : bytesVerdict size have ≡ wrote size
 
-roomy : (size have : ℕ) → roomVerdict size have .number ≡ 0 → Roomy size have
+roomy : (size have : ℕ) → bytesVerdict size have .number ≡ 0 → Roomy size have
 roomy size have = go (ltb have size) refl
   where
     go : (b : Bool) → ltb have size ≡ b → cond b (refused 10) (wrote size) .number ≡ 0 → Roomy size have
@@ -74,23 +74,23 @@ header-went : (n have : ℕ) → headerSays n have .number ≡ 0 → HeaderWent 
 unfolding headerSays
 header-went n have e = go (isVersion n) refl e
   where
-    go : (b : Bool) → isVersion n ≡ b → cond b (roomVerdict 5 have) (refused 6) .number ≡ 0 → HeaderWent n have
+    go : (b : Bool) → isVersion n ≡ b → cond b (bytesVerdict 5 have) (refused 6) .number ≡ 0 → HeaderWent n have
     go true f e = record { known = f; is = rw f (roomy 5 have e .is) }
     go false f e = absurd (omega arith)
 
 record RecordWent (n : ℕ) (bs : List ℕ) (have : ℕ) : Type 0 where
   known : isVersion n ≡ true
-  top : takesTop (versionIn n) (topIn bs) ≡ true
-  settings : 5 ≤ firstUnknown bs 0
-  is : recordSays n bs have ≡ wrote (recordSize (versionIn n))
+  top : takesTop (versionOfNumber n) (topIn bs) ≡ true
+  settings : 5 ≤ firstUnknownSetting bs 0
+  is : recordSays n bs have ≡ wrote (recordSize (versionOfNumber n))
 
 record-went : (n : ℕ) (bs : List ℕ) (have : ℕ) → recordSays n bs have .number ≡ 0 → RecordWent n bs have
 unfolding recordSays
-record-went n bs have e = go (isVersion n) (takesTop (versionIn n) (topIn bs)) (ltb (firstUnknown bs 0) 5) refl refl refl e
+record-went n bs have e = go (isVersion n) (takesTop (versionOfNumber n) (topIn bs)) (ltb (firstUnknownSetting bs 0) 5) refl refl refl e
   where
-    go : (a b c : Bool) → isVersion n ≡ a → takesTop (versionIn n) (topIn bs) ≡ b → ltb (firstUnknown bs 0) 5 ≡ c
-        → cond a (cond b (cond c (unknownSetting (firstUnknown bs 0)) (roomVerdict (recordSize (versionIn n)) have)) badTop) (refused 6) .number ≡ 0 → RecordWent n bs have
-    go true true false f g h e = record { known = f; top = g; settings = ltb-false (firstUnknown bs 0) 5 h; is = rw (f, g, h) (roomy (recordSize (versionIn n)) have e .is) }
+    go : (a b c : Bool) → isVersion n ≡ a → takesTop (versionOfNumber n) (topIn bs) ≡ b → ltb (firstUnknownSetting bs 0) 5 ≡ c
+        → cond a (cond b (cond c (unknownSetting (firstUnknownSetting bs 0)) (bytesVerdict (recordSize (versionOfNumber n)) have)) badTop) (refused 6) .number ≡ 0 → RecordWent n bs have
+    go true true false f g h e = record { known = f; top = g; settings = ltb-false (firstUnknownSetting bs 0) 5 h; is = rw (f, g, h) (roomy (recordSize (versionOfNumber n)) have e .is) }
     go true true true f g h e = absurd (omega arith)
     go true false c f g h e = absurd (omega arith)
     go false b c f g h e = absurd (omega arith)
@@ -100,12 +100,12 @@ record-went n bs have e = go (isVersion n) (takesTop (versionIn n) (topIn bs)) (
 pub header-read-back : (n : ℕ) {l l′ c′ : List ℕ} → HeaderCalled n l l′ c′ 0 → (file : List ℕ) → take 5 file ≡ take (getD c′ 0 0) l′
     → {k′ : List ℕ} {r : ℕ} → HeaderAsked file k′ r → (r ≡ 0) × (k′ ≡ n ∷ [])
 header-read-back n {l} {l′} {c′} c file e a =
-    let v = versionIn n in
+    let v = versionOfNumber n in
     let w = header-went n (length l) (sym (c .says .number)) in
-    let count : getD c′ 0 0 ≡ 5 = ap (λ (x : List ℕ). getD x 0 0) (c .says .counts) ∙ ap (λ (t : Told). getD (t .values) 0 0) (w .is) in
+    let count : getD c′ 0 0 ≡ 5 = ap (λ (x : List ℕ). getD x 0 0) (c .says .counts) ∙ ap (λ (t : AnswerCode). getD (t .values) 0 0) (w .is) in
     let front : take 5 file ≡ headerBytes v = e ∙ ap (λ (k : ℕ). take k l′) count ∙ ap (take 5) (c .list) ∙ over-front l (headerBytes v) 5 (sym (header-length v)) in
-    let read : toldRead (headerOf file) ≡ drew n = ap toldRead (header-back v file front) ∙ ap drew (number-version n (w .known)) in
-    (a .number ∙ ap (λ (t : Told). t .number) read, a .counts ∙ ap (λ (t : Told). oneWord (t .values)) read)
+    let read : readCode (headerOf file) ≡ drew n = ap readCode (header-back v file front) ∙ ap drew (number-version n (w .known)) in
+    (a .number ∙ ap (λ (t : AnswerCode). t .number) read, a .counts ∙ ap (λ (t : AnswerCode). oneWord (t .values)) read)
 
 -- a header that was read, written in the version that was returned into a list with room: the answer 0, and the same bytes
 pub header-copied : (l : List ℕ) {c′ : List ℕ} → Bytes l → HeaderAsked l c′ 0 → {k k′ d′ : List ℕ} {r : ℕ} → 5 ≤ length k
@@ -115,15 +115,15 @@ header-copied l {c′} b a {k} {k′} {d′} {r} room c = go (headerOf l) refl (
     written : (v : Version) → take 5 l ≡ headerBytes v → getD c′ 0 0 ≡ versionNumber v → (r ≡ 0) × (take 5 k′ ≡ take 5 l)
     written v again e =
         let known : isVersion (getD c′ 0 0) ≡ true = rw e (version-number v .0) in
-        let is : versionIn (getD c′ 0 0) ≡ v = rw e (version-number v .1) in
+        let is : versionOfNumber (getD c′ 0 0) ≡ v = rw e (version-number v .1) in
         let right : headerSays (getD c′ 0 0) (length k) ≡ wrote 5 = header-known (getD c′ 0 0) (length k) known ∙ rw (le-ltb (length k) 5 room) in
-        let z : r ≡ 0 = c .says .number ∙ ap (λ (t : Told). t .number) right in
+        let z : r ≡ 0 = c .says .number ∙ ap (λ (t : AnswerCode). t .number) right in
         (z, rw (rw (z, is) at (c .list)) (over-front k (headerBytes v) 5 (sym (header-length v))) ∙ sym again)
 
-    go : (h : Header) → headerOf l ≡ h → toldRead (headerOf l) .number ≡ 0 → c′ ≡ oneWord (toldRead (headerOf l) .values) → (r ≡ 0) × (take 5 k′ ≡ take 5 l)
-    go (Read v next) e z w = written v (header-again v l next b e) (ap (λ (x : List ℕ). getD x 0 0) (w ∙ ap (λ (h : Header). oneWord (toldRead h .values)) e))
-    go NotAJob e z w = let f = ap (λ (h : Header). toldRead h .number) e in absurd (omega arith)
-    go UnknownVersion e z w = let f = ap (λ (h : Header). toldRead h .number) e in absurd (omega arith)
+    go : (h : Header) → headerOf l ≡ h → readCode (headerOf l) .number ≡ 0 → c′ ≡ oneWord (readCode (headerOf l) .values) → (r ≡ 0) × (take 5 k′ ≡ take 5 l)
+    go (Read v next) e z w = written v (header-again v l next b e) (ap (λ (x : List ℕ). getD x 0 0) (w ∙ ap (λ (h : Header). oneWord (readCode h .values)) e))
+    go NotAJob e z w = let f = ap (λ (h : Header). readCode h .number) e in absurd (omega arith)
+    go UnknownVersion e z w = let f = ap (λ (h : Header). readCode h .number) e in absurd (omega arith)
 
 -- ---- records
 -- six bytes or six words, as a C caller passes them
@@ -160,16 +160,16 @@ pub record-read-back : (n : ℕ) (bs ps : List ℕ) → length bs ≡ 6 → SixP
     → (file : List ℕ) (at : ℕ) → take (getD c′ 0 0) (drop at file) ≡ take (getD c′ 0 0) l′ → {bs′ ps′ next′ place′ : List ℕ} {r : ℕ}
     → RecordAsked n file at bs′ ps′ next′ place′ r → ReadBack n bs ps at bs′ ps′ next′ place′ r
 record-read-back n bs ps n6 h {l} {l′} {c′} c file at e a =
-    let v = versionIn n in
+    let v = versionOfNumber n in
     let x = recordIn bs ps in
     let w = record-went n bs (length l) (sym (c .says .number)) in
     let known = first-none choices bs 0 .0 (w .settings) in
-    let count : getD c′ 0 0 ≡ recordSize v = ap (λ (y : List ℕ). getD y 0 0) (c .says .counts) ∙ ap (λ (t : Told). getD (t .values) 0 0) (w .is) in
+    let count : getD c′ 0 0 ≡ recordSize v = ap (λ (y : List ℕ). getD y 0 0) (c .says .counts) ∙ ap (λ (t : AnswerCode). getD (t .values) 0 0) (w .is) in
     let there : take (recordSize v) (drop at file) ≡ recordBytes v x =
     ap (λ (k : ℕ). take k (drop at file)) (sym count) ∙ e ∙ ap (λ (k : ℕ). take k l′) count ∙ ap (take (recordSize v)) (c .list)
     ∙ over-front l (recordBytes v x) (recordSize v) (sym (record-length v x)) in
-    let read : recordAt v file at ≡ next-record.Read x (after v at) = record-back v file at x (record { top = w .top; patterns = patterns-small ps h }) there in
-    let found : foundAt n file at ≡ foundOf (length file) (next-record.Read x (after v at)) =
+    let read : recordAt v file at ≡ next-record.Read x (cursorAfter v at) = record-back v file at x (record { top = w .top; patterns = patterns-small ps h }) there in
+    let found : foundAt n file at ≡ foundOf (length file) (next-record.Read x (cursorAfter v at)) =
     found-here n file at (left-there file at (recordSize v) (recordBytes v x) (omega arith) (record-length v x) there) (w .known) ∙ ap (foundOf (length file)) read in
     record {
       number = a .number ∙ ap (λ (f : Found). f .number) found;

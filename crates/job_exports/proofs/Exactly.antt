@@ -8,7 +8,7 @@ use native.Mathlib.Decide.{decLe}
 use native.Mathlib.Omega.{arith}
 use lib.Dec.{eqb}
 use lib.ListN.{length, getD}
-use Rattle.answer_codes.specs.Told.{Told}
+use Rattle.answer_codes.specs.AnswerCode.{AnswerCode}
 use Rattle.call_answers.specs.Replies.{oneWord}
 use Rattle.job.specs.declared.header.Header.{Header}
 use Rattle.job.specs.declared.header.Header.the-variants.{Read, NotAJob, UnknownVersion}
@@ -17,33 +17,33 @@ use Rattle.job.specs.declared.next.NextRecord.{NextRecord}
 use Rattle.job.specs.declared.next.NextRecord.the-variants as next-record
 use Rattle.job_fields.specs.declared.version.Version.{Version}
 use Rattle.job_fields.specs.Version.{versionNumber}
-use Rattle.job.specs.Header.{start, headerOf}
-use Rattle.job.specs.Records.{recordAt, recordOf, after, RecordMeans}
+use Rattle.job.specs.Header.{firstRecord, headerOf}
+use Rattle.job.specs.Records.{recordAt, recordOf, cursorAfter, RecordMeans}
 use Rattle.job.proofs.Headers.{header-exactly}
 use Rattle.job.proofs.Records.{record-exactly}
 use Rattle.job_words.specs.declared.found.Found.{Found}
-use Rattle.job_words.specs.Inputs.{isVersion, versionIn}
+use Rattle.job_words.specs.Inputs.{isVersion, versionOfNumber}
 use Rattle.job_words.specs.Found.{foundOf, foundAt}
 use Rattle.job_words.proofs.Places.{found-end, found-other, found-here}
 use Rattle.answer_codes.specs.Reports.{Reports}
 use Rattle.answer_codes.proofs.Exactly.{number-exactly, reported-exactly}
-use Rattle.job_exports.specs.Calls.{toldRead, HeaderAsked, RecordAsked}
+use Rattle.job_exports.specs.Calls.{readCode, HeaderAsked, RecordAsked}
 use Rattle.job_exports.specs.Exactly.{HeaderExactly, ReadThere, RecordExactly}
 use Rattle.job_exports.proofs.Back.{version-number}
 
 -- ---- headers
 abbrev headerNumber : Header → ℕ
-headerNumber h = toldRead h .number
+headerNumber h = readCode h .number
 
 abbrev headerWords : Header → List ℕ
-headerWords h = oneWord (toldRead h .values)
+headerWords h = oneWord (readCode h .values)
 
 abbrev headerIn : ℕ → List ℕ → Header
-headerIn n c = cond (eqb n 0) (Read (versionIn (getD c 0 0)) start) (cond (eqb n 5) NotAJob UnknownVersion)
+headerIn n c = cond (eqb n 0) (Read (versionOfNumber (getD c 0 0)) firstRecord) (cond (eqb n 5) NotAJob UnknownVersion)
 
 header-same : (l : List ℕ) (h : Header) → headerOf l ≡ h → headerIn (headerNumber h) (headerWords h) ≡ h
 header-same l (Read v next) e =
-    let first : next ≡ start = header-exactly l (Read v next) .0 e .3 in
+    let first : next ≡ firstRecord = header-exactly l (Read v next) .0 e .3 in
     rw (version-number v .1, first)
 header-same l NotAJob e = refl
 header-same l UnknownVersion e = refl
@@ -54,7 +54,7 @@ header-call-exactly l a =
     let same = header-same l (headerOf l) refl in
     record {
       read = λ v.
-          let e = reported-exactly headerIn same told (header-exactly l) (Read v start) (rw (version-number v .1)) in
+          let e = reported-exactly headerIn same told (header-exactly l) (Read v firstRecord) (rw (version-number v .1)) in
           ((λ h. e .0 (record { number = h .0; words = h .1 })), λ m. (e .1 m .number, e .1 m .words));
       not-a-job = number-exactly headerIn same told (header-exactly l) 5 refl;
       unknown-version = number-exactly headerIn same told (header-exactly l) 6 refl;
@@ -69,7 +69,7 @@ data Stands : Type 0 where
 
 module _ (n : ℕ) (l : List ℕ) (at : ℕ) where
   abbrev v : Version
-  v = versionIn n
+  v = versionOfNumber n
 
   abbrev foundFor : Stands → ℕ
   foundFor ended = 255
@@ -85,8 +85,8 @@ module _ (n : ℕ) (l : List ℕ) (at : ℕ) where
   standsIn k p =
       cond (eqb k 255) ended
       (cond (eqb k 6) other
-      (cond (eqb k 0) (here (next-record.Read (recordOf v l at) (after v at)))
-      (cond (eqb k 7) (here next-record.CutRecord) (here (next-record.UnknownSetting (getD p 0 0) (after v at))))))
+      (cond (eqb k 0) (here (next-record.Read (recordOf v l at) (cursorAfter v at)))
+      (cond (eqb k 7) (here next-record.CutRecord) (here (next-record.UnknownSetting (getD p 0 0) (cursorAfter v at))))))
 
   abbrev Means : Stands → Type 0
   Means ended = length l ≤ at
@@ -160,7 +160,7 @@ module _ (n : ℕ) (l : List ℕ) (at : ℕ) where
         unknown-version = number-exactly standsIn (t .same) told (t .exactly) 6 refl;
         cut-record = number-exactly standsIn (t .same) told (t .exactly) 7 refl;
         unknown-setting = λ place.
-            let e = reported-exactly standsIn (t .same) told (t .exactly) (here (next-record.UnknownSetting place (after v at))) refl in
+            let e = reported-exactly standsIn (t .same) told (t .exactly) (here (next-record.UnknownSetting place (cursorAfter v at))) refl in
             ((λ h. e .0 (record { number = h .0; words = h .1 })), λ m. (e .1 m .number, e .1 m .words));
         end = number-exactly standsIn (t .same) told (t .exactly) 255 refl;
       }

@@ -4,7 +4,7 @@ use mathlib.Core.Path.{_≡_}
 use mathlib.Core.List.{List, [], _∷_}
 use lib.ListN.{length, getD}
 use Rattle.job_fields.specs.Version.{recordSize}
-use Rattle.job_words.specs.Inputs.{versionIn}
+use Rattle.job_words.specs.Inputs.{versionOfNumber}
 
 -- six patterns of at most 32 bits
 pub record SixPatterns (ps : List ℕ) : Type 0 where
@@ -18,5 +18,5 @@ pub record ReadBack (n : ℕ) (bs ps : List ℕ) (at : ℕ) (bs′ ps′ next′
   pub settings : bs′ ≡ bs
   pub patterns : ps′ ≡ ps
   -- reading continues after the record
-  pub next : next′ ≡ (at + recordSize (versionIn n)) ∷ []
+  pub next : next′ ≡ (at + recordSize (versionOfNumber n)) ∷ []
   pub place : place′ ≡ 0 ∷ []

@@ -6,51 +6,51 @@ use mathlib.Core.Bool.{cond}
 use mathlib.Core.List.{List, [], _∷_}
 use lib.Dec.{ltb}
 use lib.ListN.{length}
-use Rattle.answer_codes.specs.Told.{Told, refused, drew}
-use Rattle.draw_exports.specs.Calls.{Called}
+use Rattle.answer_codes.specs.AnswerCode.{AnswerCode, refused, drew}
+use Rattle.draw_exports.specs.Calls.{ListCalled}
 use Rattle.call_answers.specs.Replies.{unknownSetting, badTop, oneWord, Says}
 use Rattle.call_inputs.specs.Inputs.{topIn}
 use Rattle.job.specs.declared.header.Header.{Header}
 use Rattle.job.specs.declared.header.Header.the-variants.{Read, NotAJob, UnknownVersion}
-use Rattle.job_fields.specs.Settings.{firstUnknown}
+use Rattle.job_fields.specs.Settings.{firstUnknownSetting}
 use Rattle.job_fields.specs.Version.{versionNumber, recordSize}
 use Rattle.job.specs.Header.{headerOf}
 use Rattle.job_bytes.specs.Written.{headerBytes, takesTop, recordBytes}
-use Rattle.job_writer.specs.Answers.{roomVerdict}
-use Rattle.job_words.specs.Inputs.{isVersion, versionIn, recordIn}
+use Rattle.job_writer.specs.Answers.{bytesVerdict}
+use Rattle.job_words.specs.Inputs.{isVersion, versionOfNumber, recordIn}
 use Rattle.job_words.specs.Found.{foundAt}
 
 -- the answer t if n is the number of a version, else 6
-abbrev pub inVersion : ℕ → Told → Told
+abbrev pub inVersion : ℕ → AnswerCode → AnswerCode
 inVersion n t = cond (isVersion n) t (refused 6)
 
 -- the answer to writing a header into a list of `have` bytes: 6 or 10 if refused
-unfoldable pub headerSays : ℕ → ℕ → Told
-headerSays n have = inVersion n (roomVerdict 5 have)
+unfoldable pub headerSays : ℕ → ℕ → AnswerCode
+headerSays n have = inVersion n (bytesVerdict 5 have)
 
 -- the answer to writing a record; refusals in the order 6, 11, 8 with its place, 10
-unfoldable pub recordSays : ℕ → List ℕ → ℕ → Told
+unfoldable pub recordSays : ℕ → List ℕ → ℕ → AnswerCode
 recordSays n bs have =
     inVersion n
-    (cond (takesTop (versionIn n) (topIn bs))
-    (cond (ltb (firstUnknown bs 0) 5) (unknownSetting (firstUnknown bs 0)) (roomVerdict (recordSize (versionIn n)) have)) badTop)
+    (cond (takesTop (versionOfNumber n) (topIn bs))
+    (cond (ltb (firstUnknownSetting bs 0) 5) (unknownSetting (firstUnknownSetting bs 0)) (bytesVerdict (recordSize (versionOfNumber n)) have)) badTop)
 
 -- the contracts of the calls that write
 abbrev pub HeaderCalled : ℕ → List ℕ → List ℕ → List ℕ → ℕ → Type 0
-HeaderCalled n l l′ c′ r = Called (headerSays n (length l)) (headerBytes (versionIn n)) l l′ c′ r
+HeaderCalled n l l′ c′ r = ListCalled (headerSays n (length l)) (headerBytes (versionOfNumber n)) l l′ c′ r
 
 abbrev pub RecordCalled : ℕ → List ℕ → List ℕ → List ℕ → List ℕ → List ℕ → ℕ → Type 0
-RecordCalled n bs ps l l′ c′ r = Called (recordSays n bs (length l)) (recordBytes (versionIn n) (recordIn bs ps)) l l′ c′ r
+RecordCalled n bs ps l l′ c′ r = ListCalled (recordSays n bs (length l)) (recordBytes (versionOfNumber n) (recordIn bs ps)) l l′ c′ r
 
 -- the answer to reading a header: 0 with the version's number, 5 or 6
-abbrev pub toldRead : Header → Told
-toldRead (Read v next) = drew (versionNumber v)
-toldRead NotAJob = refused 5
-toldRead UnknownVersion = refused 6
+abbrev pub readCode : Header → AnswerCode
+readCode (Read v next) = drew (versionNumber v)
+readCode NotAJob = refused 5
+readCode UnknownVersion = refused 6
 
 -- the contract of reading a header from the bytes l
 abbrev pub HeaderAsked : List ℕ → List ℕ → ℕ → Type 0
-HeaderAsked l c′ r = Says oneWord (toldRead (headerOf l)) c′ r
+HeaderAsked l c′ r = Says oneWord (readCode (headerOf l)) c′ r
 
 -- the contract of reading a record at a place of the bytes l; the call leaves bs′, ps′, next′ and place′ in memory
 pub record RecordAsked (n : ℕ) (l : List ℕ) (at : ℕ) (bs′ ps′ next′ place′ : List ℕ) (r : ℕ) : Type 0 where

@@ -1,7 +1,7 @@
 // The answers to writing, and to reading a header, as numbers with a value.
-ghost use Rattle.job_writer.specs.Answers.{toldHeader, toldRecord};
-ghost use Rattle.call_answers.specs.Replies.{Tells};
-ghost use Rattle.job_exports.specs.Calls.{toldRead};
+ghost use Rattle.job_writer.specs.Answers.{headerCode, recordCode};
+ghost use Rattle.call_answers.specs.Replies.{IsReply};
+ghost use Rattle.job_exports.specs.Calls.{readCode};
 use call_answers::reply::Reply;
 use call_answers::reply::bad_top;
 use call_answers::reply::refusal;
@@ -12,7 +12,7 @@ use job_writer::answer::HeaderWritten;
 use job_writer::answer::RecordWritten;
 
 pub fn of_written_header(answer: HeaderWritten) -> Reply
-    ensures { λ r. ⌜ Tells (toldHeader answer) r ⌝ }
+    ensures { λ r. ⌜ IsReply (headerCode answer) r ⌝ }
 {
     match answer {
         HeaderWritten::Written { count } => success(count, 0),
@@ -21,7 +21,7 @@ pub fn of_written_header(answer: HeaderWritten) -> Reply
 }
 
 pub fn of_written_record(answer: RecordWritten) -> Reply
-    ensures { λ r. ⌜ Tells (toldRecord answer) r ⌝ }
+    ensures { λ r. ⌜ IsReply (recordCode answer) r ⌝ }
 {
     match answer {
         RecordWritten::Written { count } => success(count, 0),
@@ -32,7 +32,7 @@ pub fn of_written_record(answer: RecordWritten) -> Reply
 
 // The value for 0 is the version's number.
 pub fn of_header(header: Header) -> Reply
-    ensures { λ r. ⌜ Tells (toldRead header) r ⌝ }
+    ensures { λ r. ⌜ IsReply (readCode header) r ⌝ }
 {
     match header {
         Header::Read { version, next: _ } => success(version_number(version), 0),

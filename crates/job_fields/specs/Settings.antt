@@ -35,8 +35,8 @@ abbrev pub AllBelow : List ℕ → List ℕ → ℕ → Type 0
 AllBelow limits bs at = (k : ℕ) → k < length limits → byteAt bs (at + k) < getD limits k 0
 
 -- the place of the first of the five setting bytes that is out of range, or 5
-abbrev pub firstUnknown : List ℕ → ℕ → ℕ
-firstUnknown bs at = firstOver choices bs at
+abbrev pub firstUnknownSetting : List ℕ → ℕ → ℕ
+firstUnknownSetting bs at = firstOver choices bs at
 
 -- kind: 0 triangles, 1 quads, 2 isolines
 abbrev pub kindOf : ℕ → Kind

@@ -2,7 +2,7 @@
 ghost use mathlib.Core.Path.{_≡_};
 ghost use Prim.Native.Nat.{_+_, _≤_};
 ghost use lib.ListN.{length};
-ghost use Rattle.job_fields.specs.Settings.{firstUnknown, kindOf, spacingOf, orderOf, originOf, settingsAt};
+ghost use Rattle.job_fields.specs.Settings.{firstUnknownSetting, kindOf, spacingOf, orderOf, originOf, settingsAt};
 use level::Spacing;
 use patch::settings::DomainOrigin;
 use patch::settings::Settings;
@@ -20,7 +20,7 @@ const CHOICES: [u8; 5] = [3, 3, 2, 2, 2];
 // Returns the place, from 0, of the first of the five bytes that is out of range, or 5.
 pub fn first_unknown(bytes: &[u8], at: usize) -> usize
     requires { ⌜ at + 5 ≤ length (now bytes) ⌝ }
-    ensures { λ r. ⌜ r ≡ firstUnknown (now (bytes .entry)) at ⌝ }
+    ensures { λ r. ⌜ r ≡ firstUnknownSetting (now (bytes .entry)) at ⌝ }
 {
     let mut place = 0;
     while place < 5 {

@@ -13,9 +13,9 @@ use Rattle.job.proofs.Records.{top-allowed}
 use Rattle.patch.specs.Subdivide.{discards}
 use Rattle.decimal_text.specs.Heads.{discardedLine}
 use Rattle.patch_text.specs.Answers.{drawnText}
-use Rattle.job_record_text.specs.Replies.{reply}
+use Rattle.job_record_text.specs.Replies.{recordReply}
 
 -- a record that was read is discarded or drawn
 pub never-eleven : (v : Version) (bs : List ℕ) (at : ℕ) (r : Record) (next : Cursor) → recordAt v bs at ≡ Read r next
-    → reply (recordAt v bs at) ≡ cond (discards (patchOf r)) discardedLine (drawnText (r .settings) (patchOf r))
+    → recordReply (recordAt v bs at) ≡ cond (discards (patchOf r)) discardedLine (drawnText (r .settings) (patchOf r))
 never-eleven v bs at r next e = rw (e, top-allowed v bs at refl r next e)

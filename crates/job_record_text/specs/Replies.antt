@@ -8,11 +8,11 @@ use Rattle.decimal_text.specs.Heads.{refusedLine}
 use Rattle.patch_text.specs.Answers.{recordText}
 
 -- the text: empty at the end of the job; for answer 8 it omits the place
-abbrev pub reply : NextRecord → List ℕ
-reply (Read r next) = recordText (r .settings) (patchOf r)
-reply End = []
-reply CutRecord = refusedLine 7
-reply (UnknownSetting place next) = refusedLine 8
+abbrev pub recordReply : NextRecord → List ℕ
+recordReply (Read r next) = recordText (r .settings) (patchOf r)
+recordReply End = []
+recordReply CutRecord = refusedLine 7
+recordReply (UnknownSetting place next) = refusedLine 8
 
 -- where reading continues, in bytes that end at `end`: after the record, also for answer 8; a cut record is the last
 abbrev pub goesOn : ℕ → NextRecord → ℕ

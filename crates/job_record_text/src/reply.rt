@@ -5,7 +5,7 @@ ghost use lib.ListN.{length};
 ghost use Rattle.buffer.specs.Over.{Wrote};
 ghost use Rattle.job.specs.Patches.{patchOf};
 ghost use Rattle.patch_text.specs.Answers.{recordText};
-ghost use Rattle.job_record_text.specs.Replies.{reply, goesOn};
+ghost use Rattle.job_record_text.specs.Replies.{recordReply, goesOn};
 ghost use Rattle.patch_text.specs.Room.{room, FullSize};
 use job::next::NextRecord;
 use job::record::Record;
@@ -36,7 +36,7 @@ pub fn put_reply(
     indices: &mut [u16],
 ) -> usize
     requires { ⌜ FullSize (length (now vertices)) (length (now indices)) ⌝ ∗ ⌜ at + room ≤ length (now out) ⌝ }
-    ensures { λ r. ⌜ Wrote (now (out .entry)) at (reply found) (now (out .exit)) r ⌝ }
+    ensures { λ r. ⌜ Wrote (now (out .entry)) at (recordReply found) (now (out .exit)) r ⌝ }
 {
     match found {
         NextRecord::Read { record, next: _ } => put_record(out, at, record, vertices, indices),

@@ -8,7 +8,7 @@ use Rattle.buffer.specs.Over.{Wrote}
 use Rattle.job_fields.specs.declared.version.Version.{Version}
 use Rattle.job.specs.declared.next.NextRecord.{NextRecord}
 use Rattle.job.specs.Records.{recordAt}
-use Rattle.job_record_text.specs.Replies.{reply, goesOn}
+use Rattle.job_record_text.specs.Replies.{recordReply, goesOn}
 use Rattle.job_text.specs.Jobs.{answersFrom}
 use Rattle.job_text.proofs.Steps.{goes-on, answers-step}
 use Rattle.buffer.proofs.Laws.{wrote-within, wrote-front}
@@ -29,13 +29,13 @@ module _ (v : Version) (bs : List ℕ) where
     pub answering-next : at < next
     answering-next = omega (arith, ap (goesOn (length bs)) e, goes-on v bs at h)
 
-    pub answering-step : {from : ℕ} {out out′ : List ℕ} {w w′ : ℕ} → Wrote out w (reply found) out′ w′ → Answering v bs from out w at → Answering v bs from out′ w′ next
+    pub answering-step : {from : ℕ} {out out′ : List ℕ} {w w′ : ℕ} → Wrote out w (recordReply found) out′ w′ → Answering v bs from out w at → Answering v bs from out′ w′ next
     answering-step {out = out} {w = w} p a =
         let later = answering-next in
         record {
           text =
               a .text ∙ ap (λ (l : List ℕ). take w out ++ l) (answers-step v bs at ∙ rw (n, e))
-              ∙ sym (append-assoc (take w out) (reply found) (answersFrom v bs next)) ∙ rw (wrote-front (a .fits) p);
+              ∙ sym (append-assoc (take w out) (recordReply found) (answersFrom v bs next)) ∙ rw (wrote-front (a .fits) p);
           fits = wrote-within (a .fits) p;
           past = omega arith;
           on = λ _. omega arith;

@@ -14,12 +14,12 @@ use Rattle.job.specs.declared.cursor.Cursor.{Cursor}
 use Rattle.job.specs.declared.header.Header.{Header}
 use Rattle.job.specs.declared.header.Header.the-variants.{Read, NotAJob, UnknownVersion}
 use Rattle.job_fields.specs.Version.{recordSize}
-use Rattle.job.specs.Header.{mark, startsWith, headerOf, HeaderMeans}
+use Rattle.job.specs.Header.{jobMark, startsWith, headerOf, HeaderMeans}
 use Rattle.job.specs.Records.{recordAt}
 use Rattle.job.proofs.Headers.{header-exactly}
-use Rattle.job_record_text.specs.Replies.{reply, goesOn}
-use Rattle.job_text.specs.Jobs.{answers, answersFrom, startText, restText, jobText, restOf}
-use Rattle.job_text.specs.Pieces.{joined, Whole, none, last, more, said, WholeAfter, saidAfter, saidOf}
+use Rattle.job_record_text.specs.Replies.{recordReply, goesOn}
+use Rattle.job_text.specs.Jobs.{recordTexts, answersFrom, startText, restText, jobText, restOf}
+use Rattle.job_text.specs.Pieces.{joinedPieces, RecordPieces, none, last, more, pieceTexts, WholeAfter, saidAfter, saidOf}
 use Rattle.job_text.proofs.Steps.{goes-on, answers-end, answers-same, answers-step}
 use Rattle.job_text.proofs.Same.{agree-after, agree-before, word-agrees, reply-agrees}
 
@@ -29,15 +29,15 @@ module _ (v : Version) (hs bs : List ℕ) where
   length-both : length (hs ++ bs) ≡ length hs + length bs
   length-both = length-append hs bs
 
-  after-reply : (at : ℕ) → at < length bs → reply (recordAt v (hs ++ bs) (length hs + at)) ≡ reply (recordAt v bs at)
+  after-reply : (at : ℕ) → at < length bs → recordReply (recordAt v (hs ++ bs) (length hs + at)) ≡ recordReply (recordAt v bs at)
   after-reply at h =
       let left : length (hs ++ bs) - (length hs + at) ≡ length bs - at = omega (arith, length-both) in
       reply-agrees (hs ++ bs) bs v (length hs + at) at (agree-after (recordSize v) hs bs at)
       (lt-leb (length (hs ++ bs)) (length hs + at) (omega (arith, length-both)) ∙ sym (lt-leb (length bs) at h))
       (rw left)
 
-  answers-after : (k at : ℕ) → answers v k (hs ++ bs) (length hs + at) ≡ answers v k bs at
-  unfolding answers
+  answers-after : (k at : ℕ) → recordTexts v k (hs ++ bs) (length hs + at) ≡ recordTexts v k bs at
+  unfolding recordTexts
   answers-after zero at = refl
   answers-after (suc k) at =
       elim (decLe (length bs) at) [
@@ -51,12 +51,12 @@ module _ (v : Version) (hs bs : List ℕ) where
   pub answers-past : answersFrom v (hs ++ bs) (length hs) ≡ answersFrom v bs 0
   answers-past =
       let k = length (hs ++ bs) in
-      ap (answers v k (hs ++ bs)) (sym (add-zero (length hs))) ∙ answers-after k 0 ∙ answers-same v bs k (length bs) 0 (omega (arith, length-both)) (omega arith)
+      ap (recordTexts v k (hs ++ bs)) (sym (add-zero (length hs))) ∙ answers-after k 0 ∙ answers-same v bs k (length bs) 0 (omega (arith, length-both)) (omega arith)
 
 -- ---- whole records, then others
 
 module _ (v : Version) (bs cs : List ℕ) where
-  before-reply : (at : ℕ) → at + recordSize v ≤ length bs → reply (recordAt v (bs ++ cs) at) ≡ reply (recordAt v bs at)
+  before-reply : (at : ℕ) → at + recordSize v ≤ length bs → recordReply (recordAt v (bs ++ cs) at) ≡ recordReply (recordAt v bs at)
   before-reply at h =
       reply-agrees (bs ++ cs) bs v at at (agree-before (recordSize v) bs cs at h)
       (lt-leb (length (bs ++ cs)) at (omega (arith, length-append bs cs)) ∙ sym (lt-leb (length bs) at (omega arith)))
@@ -71,17 +71,17 @@ module _ (v : Version) (bs cs : List ℕ) where
       let part : goesOn (length bs) (recordAt v bs at) ≡ at + recordSize v = omega (arith, goes-on v bs at (omega arith)) in
       answers-step v (bs ++ cs) at
       ∙ rw (before-reply at (omega arith), whole, answers-before n (at + recordSize v) (omega arith), answers-step v bs at, part)
-      (sym (append-assoc (reply (recordAt v bs at)) (answersFrom v bs (at + recordSize v)) (answersFrom v (bs ++ cs) (length bs))))
+      (sym (append-assoc (recordReply (recordAt v bs at)) (answersFrom v bs (at + recordSize v)) (answersFrom v (bs ++ cs) (length bs))))
 
   pub answers-both : (n : ℕ) → length bs ≡ recordSize v * n → answersFrom v (bs ++ cs) 0 ≡ answersFrom v bs 0 ++ answersFrom v cs 0
   answers-both n h = answers-before n 0 (omega arith) ∙ rw (answers-past v bs cs)
 
 -- pieces of whole records
-pub in-pieces : {v : Version} {cs : List (List ℕ)} → Whole v cs → answersFrom v (joined cs) 0 ≡ said v cs
-unfolding joined said answers
+pub in-pieces : {v : Version} {cs : List (List ℕ)} → RecordPieces v cs → answersFrom v (joinedPieces cs) 0 ≡ pieceTexts v cs
+unfolding joinedPieces pieceTexts recordTexts
 in-pieces none = refl
 in-pieces {v} (last c) = rw (append-nil c, append-nil (answersFrom v c 0))
-in-pieces {v} (more {c} {cs} n h w) = answers-both v c (joined cs) n h ∙ ap (λ (l : List ℕ). answersFrom v c 0 ++ l) (in-pieces w)
+in-pieces {v} (more {c} {cs} n h w) = answers-both v c (joinedPieces cs) n h ∙ ap (λ (l : List ℕ). answersFrom v c 0 ++ l) (in-pieces w)
 
 -- ---- the header
 
@@ -97,24 +97,24 @@ header-same hs bs h =
     rw (
       le-ltb (length (hs ++ bs)) 5 (omega (arith, length-append hs bs)),
       le-ltb (length hs) 5 (omega arith),
-      starts-same mark hs bs (omega arith),
+      starts-same jobMark hs bs (omega arith),
       word-agrees (hs ++ bs) hs 2 3 3 (agree-before 2 hs bs 3 (omega arith)),
     )
 
 -- the text after a header of five bytes, in pieces
 rest-in-pieces : (hs : List ℕ) (cs : List (List ℕ)) → length hs ≡ 5 → (r : Header) → HeaderMeans hs r → WholeAfter (restOf r) cs
-    → restText (hs ++ joined cs) r ≡ saidAfter (restOf r) cs
+    → restText (hs ++ joinedPieces cs) r ≡ saidAfter (restOf r) cs
 rest-in-pieces hs cs h NotAJob m w = refl
 rest-in-pieces hs cs h UnknownVersion m w = refl
 rest-in-pieces hs cs h (Read v next) m w =
     let first : next .at ≡ length hs = ap (λ (x : Cursor). x .at) (m .3) ∙ sym h in
-    rw first (answers-past v hs (joined cs) ∙ in-pieces w)
+    rw first (answers-past v hs (joinedPieces cs) ∙ in-pieces w)
 
 -- a header of five bytes, then pieces
-pub job-in-pieces : (hs : List ℕ) (cs : List (List ℕ)) → length hs ≡ 5 → WholeAfter (restOf (headerOf hs)) cs → jobText (hs ++ joined cs) ≡ saidOf hs cs
+pub job-in-pieces : (hs : List ℕ) (cs : List (List ℕ)) → length hs ≡ 5 → WholeAfter (restOf (headerOf hs)) cs → jobText (hs ++ joinedPieces cs) ≡ saidOf hs cs
 unfolding jobText
 job-in-pieces hs cs h w =
-    rw (header-same hs (joined cs) h)
+    rw (header-same hs (joinedPieces cs) h)
     (ap (λ (l : List ℕ). startText (headerOf hs) ++ l) (rest-in-pieces hs cs h (headerOf hs) (header-exactly hs (headerOf hs) .0 refl) w))
 
 -- fewer than five bytes in all

@@ -17,9 +17,9 @@ use Rattle.job_fields.specs.Bytes.{byteAt, word}
 use Rattle.job_fields.specs.Settings.{choices, firstOver, kindOf, settingsAt}
 use Rattle.job_fields.specs.Tops.{topAt, unknownPlace}
 use Rattle.job_fields.specs.Levels.{bitsAt, levelsOf}
-use Rattle.job.specs.Records.{recordOf, after, atEnd, cut, unknown, recordAt}
+use Rattle.job.specs.Records.{recordOf, cursorAfter, atEnd, incomplete, unknown, recordAt}
 use Rattle.patch.specs.declared.settings.Settings.{Settings}
-use Rattle.job_record_text.specs.Replies.{reply}
+use Rattle.job_record_text.specs.Replies.{recordReply}
 use Rattle.job_text.proofs.Sizes.{settings-least}
 
 -- k bytes from a on and k bytes from b on are equal
@@ -96,16 +96,16 @@ module _ (bs cs : List ℕ) where
       ∙ ap (ofParts (byteAt cs b) (settingsAt cs b (topAt v cs b))) (bits-agree (a + s) (b + s) (later s 24 a b h))
 
   -- the text is the same
-  pub reply-agrees : (v : Version) (a b : ℕ) → Agree (recordSize v) bs a cs b → atEnd bs a ≡ atEnd cs b → cut v bs a ≡ cut v cs b → reply (recordAt v bs a) ≡ reply (recordAt v cs b)
+  pub reply-agrees : (v : Version) (a b : ℕ) → Agree (recordSize v) bs a cs b → atEnd bs a ≡ atEnd cs b → incomplete v bs a ≡ incomplete v cs b → recordReply (recordAt v bs a) ≡ recordReply (recordAt v cs b)
   unfolding recordAt
   reply-agrees v a b h e c =
       let r = record-agrees v a b h in
       let u = place-agrees v a b (fewer (settingBytes v) (recordSize v) a b (omega arith) h) in
-      rw (e, c, u, r) (go (atEnd cs b) (cut v cs b) (unknown v cs b))
+      rw (e, c, u, r) (go (atEnd cs b) (incomplete v cs b) (unknown v cs b))
     where
       go : (e c u : Bool)
-          → reply (cond e End (cond c CutRecord (cond u (UnknownSetting (unknownPlace v cs b) (after v a)) (Read (recordOf v cs b) (after v a)))))
-          ≡ reply (cond e End (cond c CutRecord (cond u (UnknownSetting (unknownPlace v cs b) (after v b)) (Read (recordOf v cs b) (after v b)))))
+          → recordReply (cond e End (cond c CutRecord (cond u (UnknownSetting (unknownPlace v cs b) (cursorAfter v a)) (Read (recordOf v cs b) (cursorAfter v a)))))
+          ≡ recordReply (cond e End (cond c CutRecord (cond u (UnknownSetting (unknownPlace v cs b) (cursorAfter v b)) (Read (recordOf v cs b) (cursorAfter v b)))))
       go true c u = refl
       go false true u = refl
       go false false true = refl

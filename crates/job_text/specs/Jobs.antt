@@ -11,16 +11,16 @@ use Rattle.job.specs.Records.{recordAt}
 use Rattle.decimal_text.specs.Heads.{titleLine, refusedLine}
 use Rattle.job_text.specs.declared.header.Rest.{Rest}
 use Rattle.job_text.specs.declared.header.Rest.the-variants.{Records, Nothing}
-use Rattle.job_record_text.specs.Replies.{reply, goesOn}
+use Rattle.job_record_text.specs.Replies.{recordReply, goesOn}
 
 -- the text for the first k records from place `at` on
-unfoldable pub answers : Version → ℕ → List ℕ → ℕ → List ℕ
-answers v zero bs at = []
-answers v (suc k) bs at = reply (recordAt v bs at) ++ answers v k bs (goesOn (length bs) (recordAt v bs at))
+unfoldable pub recordTexts : Version → ℕ → List ℕ → ℕ → List ℕ
+recordTexts v zero bs at = []
+recordTexts v (suc k) bs at = recordReply (recordAt v bs at) ++ recordTexts v k bs (goesOn (length bs) (recordAt v bs at))
 
 -- the text for all records from place `at` on; a file has no more records than bytes
 abbrev pub answersFrom : Version → List ℕ → ℕ → List ℕ
-answersFrom v bs at = answers v (length bs) bs at
+answersFrom v bs at = recordTexts v (length bs) bs at
 
 -- the text for a header
 abbrev pub startText : Header → List ℕ

@@ -11,29 +11,29 @@ use Rattle.job_text.specs.declared.header.Rest.the-variants.{Records, No
 use Rattle.job_text.specs.Jobs.{answersFrom, startText, restOf}
 
 -- the pieces, joined
-unfoldable pub joined : List (List ℕ) → List ℕ
-joined [] = []
-joined (c ∷ cs) = c ++ joined cs
+unfoldable pub joinedPieces : List (List ℕ) → List ℕ
+joinedPieces [] = []
+joinedPieces (c ∷ cs) = c ++ joinedPieces cs
 
 -- every piece but the last consists of whole records of the version
-pub data Whole (v : Version) : List (List ℕ) → Type 0 where
-  none : Whole v []
-  last : (c : List ℕ) → Whole v (c ∷ [])
-  more : {c : List ℕ} {cs : List (List ℕ)} (n : ℕ) → length c ≡ recordSize v * n → Whole v cs → Whole v (c ∷ cs)
+pub data RecordPieces (v : Version) : List (List ℕ) → Type 0 where
+  none : RecordPieces v []
+  last : (c : List ℕ) → RecordPieces v (c ∷ [])
+  more : {c : List ℕ} {cs : List (List ℕ)} (n : ℕ) → length c ≡ recordSize v * n → RecordPieces v cs → RecordPieces v (c ∷ cs)
 
 -- the text for the records of each piece, joined
-unfoldable pub said : Version → List (List ℕ) → List ℕ
-said v [] = []
-said v (c ∷ cs) = answersFrom v c 0 ++ said v cs
+unfoldable pub pieceTexts : Version → List (List ℕ) → List ℕ
+pieceTexts v [] = []
+pieceTexts v (c ∷ cs) = answersFrom v c 0 ++ pieceTexts v cs
 
 -- every piece but the last consists of whole records, if records follow
 abbrev pub WholeAfter : Rest → List (List ℕ) → Type 0
-WholeAfter (Records v) cs = Whole v cs
+WholeAfter (Records v) cs = RecordPieces v cs
 WholeAfter Nothing cs = Unit {0}
 
 -- the text for the pieces, if records follow
 abbrev pub saidAfter : Rest → List (List ℕ) → List ℕ
-saidAfter (Records v) cs = said v cs
+saidAfter (Records v) cs = pieceTexts v cs
 saidAfter Nothing cs = []
 
 -- the text for a header and for the pieces after it

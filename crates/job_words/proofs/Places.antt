@@ -19,7 +19,7 @@ use Rattle.job_fields.proofs.Tops.{first-place}
 use Rattle.job.proofs.Records.{record-exactly, top-allowed}
 use Rattle.job_bytes.proofs.Lengths.{top-small}
 use Rattle.job_words.specs.declared.found.Found.{Found}
-use Rattle.job_words.specs.Inputs.{isVersion, versionIn}
+use Rattle.job_words.specs.Inputs.{isVersion, versionOfNumber}
 use Rattle.job_words.specs.Found.{endNumber, nothing, foundOf, foundAt, numberIn}
 
 settings-few : (v : Version) → settingBytes v ≤ 6
@@ -44,7 +44,7 @@ module _ (n : ℕ) (bs : List ℕ) (at : ℕ) where
     unfolding foundAt
     found-other e = rw (lt-leb (length bs) at h, e)
 
-    pub found-here : isVersion n ≡ true → foundAt n bs at ≡ foundOf (length bs) (recordAt (versionIn n) bs at)
+    pub found-here : isVersion n ≡ true → foundAt n bs at ≡ foundOf (length bs) (recordAt (versionOfNumber n) bs at)
     unfolding foundAt
     found-here e = rw (lt-leb (length bs) at h, e)
 
@@ -62,7 +62,7 @@ module _ (n : ℕ) (bs : List ℕ) (at : ℕ) where
       where
         go : (b : Bool) → isVersion n ≡ b → (foundAt n bs at .number ≡ endNumber → ⊥) × (at < foundAt n bs at .next)
         go false e = rw (found-other e) (λ i. absurd (omega arith), h)
-        go true e = rw (found-here e) (on (versionIn n) (recordAt (versionIn n) bs at) refl)
+        go true e = rw (found-here e) (on (versionOfNumber n) (recordAt (versionOfNumber n) bs at) refl)
 
   -- the end is answered exactly if no byte is left
   pub end-exactly : foundAt n bs at .number ≡ endNumber ↔ length bs ≤ at

@@ -10,7 +10,7 @@ use Rattle.job.specs.declared.next.NextRecord.the-variants.{Read, End, CutRecor
 use Rattle.job.specs.Records.{recordAt, atEnd}
 use Rattle.job_bytes.specs.Written.{kindByte, spacingByte, orderByte, originByte, switchByte}
 use Rattle.job_words.specs.declared.found.Found.{Found}
-use Rattle.job_words.specs.Inputs.{isVersion, versionIn}
+use Rattle.job_words.specs.Inputs.{isVersion, versionOfNumber}
 
 -- the number of the end; it is not a refusal, and no other answer has it
 abbrev pub endNumber : ℕ
@@ -45,7 +45,7 @@ foundOf end (UnknownSetting place next) = nothing 8 place (next .at)
 unfoldable pub foundAt : ℕ → List ℕ → ℕ → Found
 foundAt n bs at =
     cond (atEnd bs at) (nothing endNumber 0 (length bs))
-    (cond (isVersion n) (foundOf (length bs) (recordAt (versionIn n) bs at)) (nothing 6 0 (length bs)))
+    (cond (isVersion n) (foundOf (length bs) (recordAt (versionOfNumber n) bs at)) (nothing 6 0 (length bs)))
 
 -- the number that is to fit into fewer bits: the top level of a record, or the place of a setting
 abbrev pub numberIn : NextRecord → ℕ

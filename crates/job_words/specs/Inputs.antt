@@ -18,8 +18,8 @@ unfoldable pub isVersion : ℕ → Bool
 isVersion n = eqb n 1 || eqb n 2
 
 -- the version with the number n; version 2 for every number but 1
-unfoldable pub versionIn : ℕ → Version
-versionIn n = cond (eqb n 1) One Two
+unfoldable pub versionOfNumber : ℕ → Version
+versionOfNumber n = cond (eqb n 1) One Two
 
 -- the bit patterns in the order of a record: four outer levels, two inner levels
 abbrev pub bitsIn : List ℕ → LevelBits

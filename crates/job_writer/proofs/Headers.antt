@@ -9,7 +9,7 @@ use Rattle.job.specs.declared.cursor.Cursor.{Cursor}
 use Rattle.job.specs.declared.header.Header.the-variants.{Read}
 use Rattle.job_fields.specs.Bytes.{lowBytes}
 use Rattle.job_fields.specs.Version.{versionNumber}
-use Rattle.job.specs.Header.{mark, start, headerOf}
+use Rattle.job.specs.Header.{jobMark, firstRecord, headerOf}
 use Rattle.job.proofs.Headers.{header-exactly}
 use Rattle.job_bytes.specs.Written.{headerBytes}
 use Rattle.job_writer.specs.Whole.{Bytes}
@@ -17,14 +17,14 @@ use Rattle.job_bytes.proofs.Lengths.{number-small, header-length}
 use Rattle.job_writer.proofs.Has.{Has, has-front, has-back, has-both, has-within, word-has, has-word}
 
 -- bytes that begin with a header are read as that header
-pub header-back : (v : Version) (bs : List ℕ) → take 5 bs ≡ headerBytes v → headerOf bs ≡ Read v start
+pub header-back : (v : Version) (bs : List ℕ) → take 5 bs ≡ headerBytes v → headerOf bs ≡ Read v firstRecord
 unfolding headerBytes
 header-back v bs e =
     let h : Has bs 0 (headerBytes v) = record { is = rw (header-length v) e } in
     let n : 5 ≤ length bs = omega (arith, header-length v, has-within (omega (arith, header-length v)) h) in
     let number = lowBytes 2 (versionNumber v) in
-    header-exactly bs (Read v start) .1
-    (n, has-front mark number h .is, word-has 2 (versionNumber v) (omega (arith, number-small v)) (has-back mark number h), refl)
+    header-exactly bs (Read v firstRecord) .1
+    (n, has-front jobMark number h .is, word-has 2 (versionNumber v) (omega (arith, number-small v)) (has-back jobMark number h), refl)
 
 -- bytes that are read as a header begin with its bytes
 pub header-again : (v : Version) (bs : List ℕ) (next : Cursor) → Bytes bs → headerOf bs ≡ Read v next → take 5 bs ≡ headerBytes v
@@ -33,5 +33,5 @@ header-again v bs next b e =
     let m = header-exactly bs (Read v next) .0 e in
     let n : 5 ≤ length bs = m .0 in
     let number : Has bs 3 (lowBytes 2 (versionNumber v)) = rw (m .2) at (has-word bs 3 2 n b) in
-    let h : Has bs 0 (headerBytes v) = has-both mark (lowBytes 2 (versionNumber v)) (record { is = m .1 }) number in
+    let h : Has bs 0 (headerBytes v) = has-both jobMark (lowBytes 2 (versionNumber v)) (record { is = m .1 }) number in
     rw (header-length v) at (h .is)

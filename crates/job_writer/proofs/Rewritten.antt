@@ -8,7 +8,7 @@ use borrow.Author.Tests.{le-ltb}
 use lib.Dec.{ltb}
 use lib.ListN.{length, take, drop, getD}
 use Rattle.buffer.proofs.Laws.{over-front}
-use Rattle.answer_codes.specs.Told.{Told, refused}
+use Rattle.answer_codes.specs.AnswerCode.{AnswerCode, refused}
 use Rattle.answer_codes.specs.Drew.{Drew}
 use Rattle.job_fields.specs.declared.version.Version.{Version}
 use Rattle.job.specs.declared.cursor.Cursor.{Cursor}
@@ -22,7 +22,7 @@ use Rattle.job_writer.specs.declared.answer.HeaderWritten.{HeaderWritten
 use Rattle.job_writer.specs.declared.answer.RecordWritten.{RecordWritten}
 use Rattle.job_bytes.specs.Written.{headerBytes, recordBytes, takesTop}
 use Rattle.job_writer.specs.Whole.{Bytes, Reads, recordsBytes, fileBytes}
-use Rattle.job_writer.specs.Answers.{wrote, toldHeader, toldRecord, roomVerdict, recordVerdict, WroteHeader, WroteRecord}
+use Rattle.job_writer.specs.Answers.{wrote, headerCode, recordCode, bytesVerdict, recordVerdict, WroteHeader, WroteRecord}
 use Rattle.job_writer.specs.InTurn.{RecordsInTurn, none, more, FileInTurn}
 use Rattle.job_bytes.proofs.Lengths.{header-length, record-length}
 use Rattle.job_writer.proofs.Headers.{header-again}
@@ -30,22 +30,22 @@ use Rattle.job_writer.proofs.RoundTrip.{record-again}
 use Rattle.job_writer.proofs.WholeFiles.{file-again}
 
 -- a writer that answered `size` bytes wrote its bytes at the front
-front : {t right : Told} {bytes xs xs′ : List ℕ} {size : ℕ} → length bytes ≡ size → Drew t right bytes xs xs′ → right ≡ wrote size → take size xs′ ≡ bytes
+front : {t right : AnswerCode} {bytes xs xs′ : List ℕ} {size : ℕ} → length bytes ≡ size → Drew t right bytes xs xs′ → right ≡ wrote size → take size xs′ ≡ bytes
 front {bytes = bytes} {xs = xs} {size = size} n w e =
-    let zero = ap (λ (x : Told). x .number) (w .answer ∙ e) in
+    let zero = ap (λ (x : AnswerCode). x .number) (w .answer ∙ e) in
     rw (rw zero at (w .list)) (over-front xs bytes size (sym n))
 
 -- a header that was read, written into a list with room: the answer, and the same 5 bytes
 pub header-rewritten : (v : Version) (bs : List ℕ) (next : Cursor) {xs xs′ : List ℕ} {r : HeaderWritten} → Bytes bs → headerOf bs ≡ read-header.Read v next
-    → 5 ≤ length xs → WroteHeader v xs xs′ r → (toldHeader r ≡ wrote 5) × (take 5 xs′ ≡ take 5 bs)
+    → 5 ≤ length xs → WroteHeader v xs xs′ r → (headerCode r ≡ wrote 5) × (take 5 xs′ ≡ take 5 bs)
 header-rewritten v bs next {xs} b e h w =
-    let right : roomVerdict 5 (length xs) ≡ wrote 5 = rw (le-ltb _ _ h) in
+    let right : bytesVerdict 5 (length xs) ≡ wrote 5 = rw (le-ltb _ _ h) in
     (w .wrote .answer ∙ right, front (header-length v) (w .wrote) right ∙ sym (header-again v bs next b e))
 
 -- a record that was read, written in its version into a list with room: the answer, and the same 29 or 30 bytes
 pub record-rewritten : (v : Version) (bs : List ℕ) (at : ℕ) (x : Record) (next : Cursor) {xs xs′ : List ℕ} {r : RecordWritten} → Bytes bs
     → recordAt v bs at ≡ Read x next → recordSize v ≤ length xs → WroteRecord v x xs xs′ r
-    → (toldRecord r ≡ wrote (recordSize v)) × (take (recordSize v) xs′ ≡ take (recordSize v) (drop at bs))
+    → (recordCode r ≡ wrote (recordSize v)) × (take (recordSize v) xs′ ≡ take (recordSize v) (drop at bs))
 record-rewritten v bs at x next {xs} b e h w =
     let again = record-again v bs at x next b e in
     let right : recordVerdict v x (length xs) ≡ wrote (recordSize v) = rw (again .0 .top, le-ltb _ _ h) in
@@ -54,19 +54,19 @@ record-rewritten v bs at x next {xs} b e h w =
 -- ---- several calls
 
 -- a writer that wrote n bytes wrote its whole record
-room-wrote : (size have n : ℕ) → wrote n ≡ roomVerdict size have → n ≡ size
+room-wrote : (size have n : ℕ) → wrote n ≡ bytesVerdict size have → n ≡ size
 room-wrote size have n = go (ltb have size)
   where
     go : (b : Bool) → wrote n ≡ cond b (refused 10) (wrote size) → n ≡ size
-    go true e = absurd (omega (arith, ap (λ (t : Told). t .number) e))
-    go false e = ap (λ (t : Told). getD (t .values) 0 0) e
+    go true e = absurd (omega (arith, ap (λ (t : AnswerCode). t .number) e))
+    go false e = ap (λ (t : AnswerCode). getD (t .values) 0 0) e
 
 record-wrote : (v : Version) (x : Record) (have n : ℕ) → wrote n ≡ recordVerdict v x have → n ≡ recordSize v
 record-wrote v x have n = go (takesTop v (x .settings .top))
   where
-    go : (b : Bool) → wrote n ≡ cond b (roomVerdict (recordSize v) have) (refused 11) → n ≡ recordSize v
+    go : (b : Bool) → wrote n ≡ cond b (bytesVerdict (recordSize v) have) (refused 11) → n ≡ recordSize v
     go true e = room-wrote (recordSize v) have n e
-    go false e = absurd (omega (arith, ap (λ (t : Told). t .number) e))
+    go false e = absurd (omega (arith, ap (λ (t : AnswerCode). t .number) e))
 
 records-in-turn : (v : Version) (xs : List Record) {ys : List ℕ} → RecordsInTurn v xs ys → ys ≡ recordsBytes v xs
 unfolding recordsBytes

@@ -10,8 +10,8 @@ use Rattle.job.specs.declared.record.Record.{Record}
 use Rattle.job.specs.declared.next.NextRecord.the-variants.{Read}
 use Rattle.job_fields.specs.Version.{settingBytes, recordSize}
 use Rattle.job_fields.specs.Levels.{levelsOf}
-use Rattle.job_fields.specs.Tops.{topAt, AllKnown}
-use Rattle.job.specs.Records.{recordOf, recordAt, after}
+use Rattle.job_fields.specs.Tops.{topAt, AllSettingsKnown}
+use Rattle.job.specs.Records.{recordOf, recordAt, cursorAfter}
 use Rattle.job.proofs.Records.{record-exactly, levels-are}
 use Rattle.job_bytes.specs.Written.{fiveBytes, topBytes, levelBytes, recordBytes}
 use Rattle.job_bytes.specs.Patterns.{Agrees}
@@ -27,7 +27,7 @@ module _ (v : Version) (bs : List ℕ) (at : ℕ) where
   place : (t : ℕ) → at + 5 + length (topBytes v t) ≡ at + settingBytes v
   place t = omega (arith, top-length v t)
 
-  has-record : (r : Record) → Writable v r → Has bs at (recordBytes v r) → recordAt v bs at ≡ Read (reread r) (after v at)
+  has-record : (r : Record) → Writable v r → Has bs at (recordBytes v r) → recordAt v bs at ≡ Read (reread r) (cursorAfter v at)
   unfolding recordBytes recordOf
   has-record r w h =
       let five = fiveBytes (r .kind) (r .settings) in
@@ -38,7 +38,7 @@ module _ (v : Version) (bs : List ℕ) (at : ℕ) where
       let t = top-back bs at v (r .settings .top) (w .top) (has-front top (levelBytes (r .bits)) rest) in
       let levels = rw (place (r .settings .top)) at (has-back top (levelBytes (r .bits)) rest) in
       let bits = bits-back (r .bits) (w .patterns) levels in
-      record-exactly v bs at (Read (reread r) (after v at)) .1 (
+      record-exactly v bs at (Read (reread r) (cursorAfter v at)) .1 (
         omega (arith, n, has-within (omega (arith, n)) h),
         top-known bs at v (r .settings .top) (w .top) t (five-known (r .kind) (r .settings) first),
         rw (ap levelsOf bits, bits, t, five-kind (r .kind) (r .settings) first, five-settings (r .kind) (r .settings) first),
@@ -46,14 +46,14 @@ module _ (v : Version) (bs : List ℕ) (at : ℕ) where
       )
 
   -- the bytes of a record are read as the same kind, settings and bit patterns
-  pub record-back : (r : Record) → Writable v r → take (recordSize v) (drop at bs) ≡ recordBytes v r → recordAt v bs at ≡ Read (reread r) (after v at)
+  pub record-back : (r : Record) → Writable v r → take (recordSize v) (drop at bs) ≡ recordBytes v r → recordAt v bs at ≡ Read (reread r) (cursorAfter v at)
   record-back r w e = has-record r w (record { is = rw (record-length v r) e })
 
   -- if its levels are those of its bit patterns, as the same record
-  pub record-same : (r : Record) → Writable v r → Agrees r → take (recordSize v) (drop at bs) ≡ recordBytes v r → recordAt v bs at ≡ Read r (after v at)
+  pub record-same : (r : Record) → Writable v r → Agrees r → take (recordSize v) (drop at bs) ≡ recordBytes v r → recordAt v bs at ≡ Read r (cursorAfter v at)
   record-same r w a e = rw a (record-back r w e)
 
-  has-read : at + recordSize v ≤ length bs → AllKnown v bs at → Bytes bs → Has bs at (recordBytes v (recordOf v bs at))
+  has-read : at + recordSize v ≤ length bs → AllSettingsKnown v bs at → Bytes bs → Has bs at (recordBytes v (recordOf v bs at))
   unfolding recordBytes recordOf
   has-read h a b =
       let t = topAt v bs at in
@@ -61,7 +61,7 @@ module _ (v : Version) (bs : List ℕ) (at : ℕ) where
       let levels = bits-again bs (at + settingBytes v) (omega arith) b in
       has-both _ _ five (has-both _ _ (top-again bs at v h) (rw (place t) levels))
 
-  can-write : AllKnown v bs at → Bytes bs → Writable v (recordOf v bs at)
+  can-write : AllSettingsKnown v bs at → Bytes bs → Writable v (recordOf v bs at)
   unfolding recordOf
   can-write a b = record { top = top-taken bs at v a .1; patterns = bits-small bs (at + settingBytes v) b }
 

@@ -12,7 +12,7 @@ use Rattle.job_fields.specs.declared.version.Version.the-variants.{One, Two}
 use Rattle.job_fields.specs.Bytes.{byteAt}
 use Rattle.job_fields.specs.Version.{recordSize}
 use Rattle.job_fields.specs.Settings.{choices, AllBelow}
-use Rattle.job_fields.specs.Tops.{topAt, AllKnown}
+use Rattle.job_fields.specs.Tops.{topAt, AllSettingsKnown}
 use Rattle.job_bytes.specs.Written.{takesTop, topBytes}
 use Rattle.job_writer.proofs.Has.{Has, has-byte, has-all}
 
@@ -23,12 +23,12 @@ module _ (bs : List ℕ) (at : ℕ) where
   top-back Two t h p = rw (add-zero (at + 5)) at (has-byte p 0 (omega arith))
 
   -- the top level is in range, if the other setting bytes are
-  pub top-known : (v : Version) (t : ℕ) → takesTop v t ≡ true → topAt v bs at ≡ t → AllBelow choices bs at → AllKnown v bs at
+  pub top-known : (v : Version) (t : ℕ) → takesTop v t ≡ true → topAt v bs at ≡ t → AllBelow choices bs at → AllSettingsKnown v bs at
   top-known One t h e a = a
   top-known Two t h e a = (a, rw e h)
 
   -- if all setting bytes are in range, the version can hold the top level that is read
-  pub top-taken : (v : Version) → AllKnown v bs at → (AllBelow choices bs at) × (takesTop v (topAt v bs at) ≡ true)
+  pub top-taken : (v : Version) → AllSettingsKnown v bs at → (AllBelow choices bs at) × (takesTop v (topAt v bs at) ≡ true)
   top-taken One a = (a, refl)
   top-taken Two a = a
 

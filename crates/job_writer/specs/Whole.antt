@@ -43,12 +43,12 @@ pub data AllWritable (v : Version) : List Record → Type 0 where
   more : {r : Record} {rs : List Record} → Writable v r → Agrees r → AllWritable v rs → AllWritable v (r ∷ rs)
 
 -- reading from `at` on returns these records and then the end, with no refusal
-pub data Finds (v : Version) (bs : List ℕ) : ℕ → List Record → Type 0 where
-  ends : {at : ℕ} → recordAt v bs at ≡ End → Finds v bs at []
-  reads : {at : ℕ} {r : Record} {rs : List Record} (next : Cursor) → recordAt v bs at ≡ Read r next → Finds v bs (next .at) rs → Finds v bs at (r ∷ rs)
+pub data ReadsBack (v : Version) (bs : List ℕ) : ℕ → List Record → Type 0 where
+  ends : {at : ℕ} → recordAt v bs at ≡ End → ReadsBack v bs at []
+  reads : {at : ℕ} {r : Record} {rs : List Record} (next : Cursor) → recordAt v bs at ≡ Read r next → ReadsBack v bs (next .at) rs → ReadsBack v bs at (r ∷ rs)
 
 -- reading the file returns this version and these records
 pub record Reads (v : Version) (bs : List ℕ) (rs : List Record) : Type 0 where
   pub first : Cursor
   pub header : headerOf bs ≡ header.Read v first
-  pub records : Finds v bs (first .at) rs
+  pub records : ReadsBack v bs (first .at) rs

@@ -14,7 +14,7 @@ use lib.Ieee.Scale.{round-same}
 use lib.Ieee.Back.{unsigned-back}
 use lib.Ieee.Positive.{num, den, positive, den-pos, value→cross, le→cross, between, mul-at}
 use Rattle.level.specs.Clamp.{From1To64}
-use Rattle.level.specs.Scale.{ceil, parts}
+use Rattle.level.specs.Scale.{ceil, scaledLevel}
 
 -- ---- the number of units is whole
 whole : (m : ℕ) (e : ℤ) → m < 2 ^ 24 → down e ≤ m * up e → m * up e * 8388608 / down e * down e ≡ m * up e * 8388608
@@ -59,14 +59,14 @@ coarser A D N d h =
 -- ---- an `f32` from 1 to 64 has N units with no remainder, and its L is N / 128 rounded up
 pub record FineParts (x : Float) (N : ℕ) : Type 0 where
   pub value : HasValue x false N 8388608
-  pub rounded : ceil N 128 ≡ parts x
+  pub rounded : ceil N 128 ≡ scaledLevel x
   pub small : N ≤ 536870912
 
 is-positive : (x : Float) → From1To64 x → T (positive x)
 is-positive x w = between (fin false 1 (pos 0)) x (fin false 1 (pos 6)) tt tt (w .least) (w .most)
 
 pub fine-parts : (x : Float) → T (fits binary32 x) → From1To64 x → FineParts x (fineParts x)
-unfolding parts
+unfolding scaledLevel
 fine-parts x f w =
     let one = fin false 1 (pos 0) in
     let top = fin false 1 (pos 6) in
@@ -85,7 +85,7 @@ fine-parts x f w =
 pub record Counted (x y : Float) : Type 0 where
   pub is-whole : T (inUnsigned binary64 32 y)
   pub small : toUnsigned 32 y ≤ 536870912
-  pub rounded : (toUnsigned 32 y + 127) / 128 ≡ parts x
+  pub rounded : (toUnsigned 32 y + 127) / 128 ≡ scaledLevel x
 
 pub counted : (x : Float) → T (fits binary32 x) → From1To64 x → Counted x (mul binary64 x (fin false 1 (pos 23)))
 unfolding ofInt inFloat

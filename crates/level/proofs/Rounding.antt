@@ -6,7 +6,7 @@ use native.Mathlib.Omega.{arith}
 use lib.Ieee.{Float}
 use Rattle.level.specs.Top.{Top}
 use Rattle.level.specs.Clamp.{clampedLevel}
-use Rattle.level.specs.Scale.{parts, LeastParts}
+use Rattle.level.specs.Scale.{scaledLevel, LeastParts}
 use Rattle.level.specs.Segments.{segmentsAt, segmentsOf}
 use Rattle.level.specs.Rounding.{LeastCount, scaledAfter, Rounded, FromLevel}
 use Rattle.level.specs.declared.Spacing.{Spacing}
@@ -48,15 +48,15 @@ parts-only : {x : Float} {L M : ℕ} → LeastParts x L → LeastParts x M → L
 parts-only {x} {L} {M} h k = omega (arith, h .least M (k .enough), k .least L (h .enough))
 
 module _ (s : Spacing) (t : ℕ) (top : Top t) (x : Float) where
-  from-level-only : (L : ℕ) (g : Segments) → FromLevel s t x L g → (L ≡ parts (clampedLevel s t x)) × (g ≡ segmentsOf s t x)
+  from-level-only : (L : ℕ) (g : Segments) → FromLevel s t x L g → (L ≡ scaledLevel (clampedLevel s t x)) × (g ≡ segmentsOf s t x)
   unfolding segmentsOf
   from-level-only L g h =
-      let e : L ≡ parts (clampedLevel s t x) = parts-only (h .parts) (level-least-parts s t top x) in
+      let e : L ≡ scaledLevel (clampedLevel s t x) = parts-only (h .parts) (level-least-parts s t top x) in
       (e, rounded-only s L g (h .rounded) ∙ ap (segmentsAt s) e)
 
-  from-level : (L : ℕ) (g : Segments) → (L ≡ parts (clampedLevel s t x)) × (g ≡ segmentsOf s t x) → FromLevel s t x L g
+  from-level : (L : ℕ) (g : Segments) → (L ≡ scaledLevel (clampedLevel s t x)) × (g ≡ segmentsOf s t x) → FromLevel s t x L g
   unfolding segmentsOf
-  from-level L g h = rw (h .0, h .1) (record { parts = level-least-parts s t top x; rounded = rounded s (parts (clampedLevel s t x)) })
+  from-level L g h = rw (h .0, h .1) (record { parts = level-least-parts s t top x; rounded = rounded s (scaledLevel (clampedLevel s t x)) })
 
-  pub level-exactly : (L : ℕ) (g : Segments) → ((L ≡ parts (clampedLevel s t x)) × (g ≡ segmentsOf s t x)) ↔ FromLevel s t x L g
+  pub level-exactly : (L : ℕ) (g : Segments) → ((L ≡ scaledLevel (clampedLevel s t x)) × (g ≡ segmentsOf s t x)) ↔ FromLevel s t x L g
   level-exactly L g = (from-level L g, from-level-only L g)

@@ -8,7 +8,7 @@ use lib.Ieee.{Float, nan, inf, fin, lt, le}
 use lib.Ieee.Bits.{is-true}
 use lib.Ieee.Positive.{positive, above, above-of-le, le-trans-positive}
 use Rattle.level.specs.Top.{Top}
-use Rattle.level.specs.Clamp.{lowest, highest, clamped, clampedLevel, sideOf, clampOf, Within}
+use Rattle.level.specs.Clamp.{lowest, highest, clamped, clampedLevel, sideOf, clampOf, InRange}
 use Rattle.level.specs.declared.Spacing.{Spacing}
 use Rattle.level.specs.declared.Clamp.the-variants.{Below, Inside, Above}
 use Rattle.level.proofs.Order.{not-below, lt-le, numbers, le-itself}
@@ -24,10 +24,10 @@ module _ (lo hi x : Float) where
       go true true e = cc
       go false u e = cc
 
-  kept-within : T (le lo hi) → clamped lo hi x ≡ x → Within lo hi x
+  kept-within : T (le lo hi) → clamped lo hi x ≡ x → InRange lo hi x
   kept-within r e = rw e at (clamped-within lo hi x r)
 
-  within-inside : Within lo hi x → sideOf lo hi x ≡ Inside
+  within-inside : InRange lo hi x → sideOf lo hi x ≡ Inside
   within-inside w =
       let up : lt hi x ≡ false = not-true (lt hi x) (not-below x hi (numbers lo x (w .least) .1) (numbers x hi (w .most) .1) ∙ is-true (le x hi) (w .most)) in
       rw (is-true (le lo x) (w .least), up)

@@ -8,7 +8,7 @@ use borrow.Author.Tests.{eqb-false}
 use lib.Ieee.{Float}
 use Rattle.level.specs.Top.{Top, mostSegments}
 use Rattle.level.specs.Clamp.{lowest, clampedLevel}
-use Rattle.level.specs.Scale.{parts}
+use Rattle.level.specs.Scale.{scaledLevel}
 use Rattle.level.specs.Segments.{segmentsAt, segmentsOf, raised, asInner, innerSegments, Valid}
 use Rattle.level.specs.declared.Spacing.{Spacing}
 use Rattle.level.specs.declared.Spacing.the-variants.{Equal, FractionalEven, FractionalOdd}
@@ -17,8 +17,8 @@ use Rattle.level.proofs.Top.{top-two}
 use Rattle.level.proofs.Scale.{level-parts}
 
 -- for a scaled level in its range
-valid-at : (s : Spacing) (t L : ℕ) → Top t → (parts (lowest s) ≤ L) × (L ≤ 65536 * mostSegments s t) → Valid (segmentsAt s L .count) (segmentsAt s L .scaled) × (segmentsAt s L .count ≤ mostSegments s t)
-unfolding parts
+valid-at : (s : Spacing) (t L : ℕ) → Top t → (scaledLevel (lowest s) ≤ L) × (L ≤ 65536 * mostSegments s t) → Valid (segmentsAt s L .count) (segmentsAt s L .scaled) × (segmentsAt s L .count ≤ mostSegments s t)
+unfolding scaledLevel
 valid-at Equal t L top h = omega arith
 valid-at FractionalEven t L top h = omega arith
 valid-at FractionalOdd t L top h = omega arith
@@ -27,11 +27,11 @@ module _ (s : Spacing) (t : ℕ) (top : Top t) (x : Float) where
   -- the segments are valid, and at most t, or t - 1 for odd spacing
   pub segments-valid : Valid (segmentsOf s t x .count) (segmentsOf s t x .scaled)
   unfolding segmentsOf
-  segments-valid = valid-at s t (parts (clampedLevel s t x)) top (level-parts s t top x) .0
+  segments-valid = valid-at s t (scaledLevel (clampedLevel s t x)) top (level-parts s t top x) .0
 
   pub segments-at-most : segmentsOf s t x .count ≤ mostSegments s t
   unfolding segmentsOf
-  segments-at-most = valid-at s t (parts (clampedLevel s t x)) top (level-parts s t top x) .1
+  segments-at-most = valid-at s t (scaledLevel (clampedLevel s t x)) top (level-parts s t top x) .1
 
 -- with odd spacing and the top level 2 every level gives one segment
 pub odd-top-two : (x : Float) → segmentsOf FractionalOdd 2 x .count ≡ 1

@@ -11,17 +11,17 @@ use lib.Ieee.Back.{round-whole}
 use lib.Ieee.Order.{le-of-values}
 use lib.Ieee.Positive.{positive, positive-of-value, between, le-trans-positive}
 use Rattle.level.specs.Top.{Top, mostSegments}
-use Rattle.level.specs.Clamp.{lowest, highest, clamped, clampedLevel, Within, From1To64}
+use Rattle.level.specs.Clamp.{lowest, highest, clamped, clampedLevel, InRange, From1To64}
 use Rattle.level.specs.declared.Spacing.{Spacing}
 use Rattle.level.specs.declared.Spacing.the-variants.{Equal, FractionalEven, FractionalOdd}
 use Rattle.level.proofs.Order.{not-below, numbers, le-itself}
 
 -- ---- any range
 -- the clamped level is a number from the low end to the high end
-pub clamped-within : (lo hi x : Float) → T (le lo hi) → Within lo hi (clamped lo hi x)
+pub clamped-within : (lo hi x : Float) → T (le lo hi) → InRange lo hi (clamped lo hi x)
 clamped-within lo hi x r = go (le lo x) (lt hi x) refl refl
   where
-    go : (t u : Bool) → le lo x ≡ t → lt hi x ≡ u → Within lo hi (cond t (cond u hi x) lo)
+    go : (t u : Bool) → le lo x ≡ t → lt hi x ≡ u → InRange lo hi (cond t (cond u hi x) lo)
     go false u p q = record { least = le-itself lo (numbers lo hi r .0); most = r }
     go true true p q = record { least = r; most = le-itself hi (numbers lo hi r .1) }
     go true false p q =
@@ -88,7 +88,7 @@ under-infinity (fin false m e) p = (refl, refl)
 -- ---- every level
 module _ (s : Spacing) (t : ℕ) (top : Top t) where
   -- a clamped level lies within its range, so it is above 0 and from 1 to 64
-  pub level-within : (x : Float) → Within (lowest s) (highest s t) (clampedLevel s t x)
+  pub level-within : (x : Float) → InRange (lowest s) (highest s t) (clampedLevel s t x)
   level-within x = clamped-within (lowest s) (highest s t) x (ends s t top .ordered)
 
   pub level-positive : (x : Float) → T (positive (clampedLevel s t x))

@@ -37,10 +37,10 @@ unfoldable pub clampOf : Spacing → ℕ → Float → Clamp
 clampOf s t x = sideOf (lowest s) (highest s t) x
 
 -- x is a number from lo to hi
-pub record Within (lo hi x : Float) : Type 0 where
+pub record InRange (lo hi x : Float) : Type 0 where
   pub least : T (le lo x)
   pub most : T (le x hi)
 
 -- x is a number from 1 to 64; every spacing's range lies in there
 abbrev pub From1To64 : Float → Type 0
-From1To64 x = Within (fin false 1 (pos 0)) (fin false 1 (pos 6)) x
+From1To64 x = InRange (fin false 1 (pos 0)) (fin false 1 (pos 6)) x

@@ -9,16 +9,16 @@ use Rattle.level.specs.declared.Spacing.the-variants.{Equal, FractionalE
 use Rattle.level.specs.declared.Segments.{Segments}
 
 -- the numbers that a spacing rounds to: whole, even or odd
-abbrev pub Kind : Spacing → ℕ → Type 0
-Kind Equal n = Unit
-Kind FractionalEven n = n % 2 ≡ 0
-Kind FractionalOdd n = n % 2 ≡ 1
+abbrev pub FitsSpacing : Spacing → ℕ → Type 0
+FitsSpacing Equal n = Unit
+FitsSpacing FractionalEven n = n % 2 ≡ 0
+FitsSpacing FractionalOdd n = n % 2 ≡ 1
 
 -- n is the least number of the spacing's kind that is not below L / 65536
 pub record LeastCount (s : Spacing) (L n : ℕ) : Type 0 where
-  pub kind : Kind s n
+  pub kind : FitsSpacing s n
   pub enough : L ≤ 65536 * n
-  pub least : (k : ℕ) → Kind s k → L ≤ 65536 * k → n ≤ k
+  pub least : (k : ℕ) → FitsSpacing s k → L ≤ 65536 * k → n ≤ k
 
 -- L after rounding: 65536 * n for equal spacing, unchanged for the other two
 abbrev pub scaledAfter : Spacing → ℕ → ℕ → ℕ

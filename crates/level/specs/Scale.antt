@@ -11,8 +11,8 @@ abbrev pub ceil : ℕ → ℕ → ℕ
 ceil a b = (a + (b - 1)) / b
 
 -- L of a clamped level x: x * 65536 rounded up, where x is the fraction num x / den x
-unfoldable pub parts : Float → ℕ
-parts x = ceil (num x * 65536) (den x)
+unfoldable pub scaledLevel : Float → ℕ
+scaledLevel x = ceil (num x * 65536) (den x)
 
 -- the number k / 65536
 abbrev pub ofParts : ℕ → Float

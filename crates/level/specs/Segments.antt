@@ -4,7 +4,7 @@ use mathlib.Core.Bool.{cond}
 use lib.Dec.{eqb}
 use lib.Ieee.{Float}
 use Rattle.level.specs.Clamp.{clampedLevel}
-use Rattle.level.specs.Scale.{ceil, parts}
+use Rattle.level.specs.Scale.{ceil, scaledLevel}
 use Rattle.level.specs.declared.Spacing.{Spacing}
 use Rattle.level.specs.declared.Spacing.the-variants.{Equal, FractionalEven, FractionalOdd}
 use Rattle.level.specs.declared.Segments.{Segments}
@@ -17,7 +17,7 @@ segmentsAt FractionalOdd L = record { count = 2 * ceil (L - 65536) 131072 + 1; s
 
 -- n and L of a level, under the top level t
 unfoldable pub segmentsOf : Spacing → ℕ → Float → Segments
-segmentsOf s t x = segmentsAt s (parts (clampedLevel s t x))
+segmentsOf s t x = segmentsAt s (scaledLevel (clampedLevel s t x))
 
 -- n and L of an inner level that would give one segment: L is 65537 before rounding
 abbrev pub raised : Spacing → Segments

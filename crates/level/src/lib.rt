@@ -4,7 +4,7 @@ ghost use lib.Ieee.{binary32, ofBits};
 ghost use Rattle.level.specs.Discard.{discarded};
 ghost use Rattle.level.specs.Top.{Top, isTop};
 ghost use Rattle.level.specs.Clamp.{lowest, highest, clamped, sideOf, clampOf, From1To64};
-ghost use Rattle.level.specs.Scale.{parts, InRange};
+ghost use Rattle.level.specs.Scale.{scaledLevel, InRange};
 ghost use Rattle.level.specs.Segments.{segmentsAt, segmentsOf, raised, asInner};
 
 pub enum Spacing {
@@ -116,7 +116,7 @@ fn clamp_level(level: f32, range: Range) -> LevelInRange
 // Returns L of a clamped level. An f32 from 1 to 64 is a whole number of units of 2^-23, and an f64 holds that number exactly.
 fn parts_of(x: f32) -> u32
     requires { ⌜ From1To64 x ⌝ }
-    ensures { λ r. ⌜ r ≡ parts x ⌝ }
+    ensures { λ r. ⌜ r ≡ scaledLevel x ⌝ }
 {
     let fine = (x as f64) * 8388608.0;
     let fine_parts = fine as u32;

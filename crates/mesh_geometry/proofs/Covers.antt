@@ -12,11 +12,11 @@ use Rattle.strip.specs.declared.triangle.Triangle.{Triangle}
 use Rattle.strip.specs.Triangles.{turned}
 use Rattle.mesh_topology.specs.Sides.{hit, flip, sumSides, sum, uses, lineSum}
 use Rattle.mesh_topology.specs.Ring.{ringAt}
-use Rattle.mesh_topology.specs.Closes.{Within, Closes}
+use Rattle.mesh_topology.specs.Closes.{CornersWithin, Closes}
 use Rattle.mesh_topology.proofs.Hits.{hit-at, hit-flip}
 use Rattle.mesh_topology.proofs.Ring.{ring-point, ring-before}
 use Rattle.mesh_geometry.specs.declared.Point.{Point}
-use Rattle.mesh_geometry.specs.Cover.{missing, twiceArea, totalTwiceArea, signed, HasSign, next, piece, Cover}
+use Rattle.mesh_geometry.specs.Cover.{missing, twiceArea, totalTwiceArea, signed, HasSign, nextPoint, piece, Cover}
 use Rattle.mesh_geometry.specs.Faces.{at, faceOf, facesOf}
 use Rattle.mesh_geometry.proofs.Signed.{Is, is-same, is-add, is-above, is-below, is-area, cross, loop}
 use Rattle.mesh_geometry.proofs.Lists.{All, all-more, all-map, all-at, get-within, Distinct, distinct-at}
@@ -75,7 +75,7 @@ sign b P t h = record { size = x - y; above = omega arith; is = go b }
     go false = is-below _ y x (x - y) (is-area (faceOf P (turned false t))) (omega arith)
 
 -- the vertices of a side are in range
-used-within : (base top : ℕ) (ts : List Triangle) → Within base top ts → (x y : ℕ) → 1 ≤ uses x y ts → (x < top) × (y < top)
+used-within : (base top : ℕ) (ts : List Triangle) → CornersWithin base top ts → (x y : ℕ) → 1 ≤ uses x y ts → (x < top) × (y < top)
 unfolding sumSides
 used-within base top [] w x y h = absurd (omega arith)
 used-within base top (t ∷ ts) w x y h =
@@ -130,8 +130,8 @@ module _ (outline rest : List Point) (total : ℕ) (all : length outline ≡ tot
   out-start : (k : ℕ) → k < total → at outline k ≡ at (outline ++ rest) (ringAt 0 total k)
   out-start k h = out-at k h ∙ ap (at (outline ++ rest)) (omega (arith, ring-before 0 total k h))
 
-  out-next : (k : ℕ) → k < total → next outline k ≡ at (outline ++ rest) (ringAt 0 total (suc k))
-  unfolding next
+  out-next : (k : ℕ) → k < total → nextPoint outline k ≡ at (outline ++ rest) (ringAt 0 total (suc k))
+  unfolding nextPoint
   out-next k h = ⊎-elim
       (λ e. List·getD-eq-default outline _ (omega arith) ∙ out-at 0 (omega arith) ∙ ap (at (outline ++ rest)) (omega arith))
       (λ e. let l : suc k < total = less (e .0) in

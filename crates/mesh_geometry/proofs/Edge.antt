@@ -3,7 +3,7 @@ use Prim.Native.Nat.{ℕ, zero, suc, _+_, _≤_, _<_}
 use mathlib.Core.Path.{_≡_}
 use native.Mathlib.Omega.{arith}
 use native.Mathlib.Decide.{decLe}
-use Rattle.mesh_geometry.specs.Edge.{Good, Run, GoodRun}
+use Rattle.mesh_geometry.specs.Edge.{GoodPlaces, Run, GoodRun}
 
 pub far : (x : ℕ → ℕ) (n : ℕ) → ((i : ℕ) → i < n → x i < x (suc i)) → (i j : ℕ) → i ≤ j → j ≤ n → x i + j ≤ x j + i
 far x n h i zero l m = let e : i ≡ 0 = omega arith in rw e (omega arith)
@@ -50,7 +50,7 @@ module _ {e : Run} (g : GoodRun e) (i : ℕ) where
   good-to l = omega (arith, span-to (good-span g) i l)
 
 -- an edge has at least one segment
-pub good-some : {q : ℕ → ℕ} {n : ℕ} → Good q n → 1 ≤ n
+pub good-some : {q : ℕ → ℕ} {n : ℕ} → GoodPlaces q n → 1 ≤ n
 good-some {q} {n} g = go n (g .last)
   where
     go : (n : ℕ) → q n ≡ 65536 → 1 ≤ n

@@ -2,7 +2,7 @@
 use Prim.Native.Nat.{ℕ, suc, _+_, _-_, _<_}
 use mathlib.Core.Path.{_≡_, refl}
 use native.Mathlib.Omega.{arith}
-use Rattle.mesh_geometry.specs.Edge.{Good}
+use Rattle.mesh_geometry.specs.Edge.{GoodPlaces}
 use Rattle.mesh_geometry.specs.TrianglePoints.{alike}
 use Rattle.mesh_geometry.proofs.Lists.{All, none, more}
 use Rattle.mesh_geometry.proofs.Edge.{Span}
@@ -24,7 +24,7 @@ inside-in v = record {
   mirrors = λ i j e. v .mirrors (suc i) (suc j) (omega arith);
 }
 
-pub good-inside : {q : ℕ → ℕ} {n : ℕ} → Good q n → Inside q n
+pub good-inside : {q : ℕ → ℕ} {n : ℕ} → GoodPlaces q n → Inside q n
 good-inside {q} {n} g = record {
   rises = g .rises;
   mirrors = λ i j e. let l : j ≡ n - i = omega arith in rw l (g .mirrors i (omega arith));

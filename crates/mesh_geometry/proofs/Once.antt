@@ -10,8 +10,8 @@ use Rattle.mesh_geometry.specs.declared.Point.{Point}
 use Rattle.mesh_geometry.specs.Cover.{Face, Side, sides, missing, twiceArea, HasSign, directed, Cover}
 use Rattle.mesh_geometry.specs.Edge.{Run, GoodRun, ring}
 use Rattle.mesh_geometry.proofs.Lists.{All, none, more, Distinct}
-use Rattle.mesh_geometry.specs.Held.{Spot, corner, Holds, OnSide, Clear, HeldOnce}
-use Rattle.mesh_geometry.specs.Domain.{Domain, edgeCount, placeOn, Within}
+use Rattle.mesh_geometry.specs.Held.{Spot, corner, Holds, OnSide, OffSides, HeldOnce}
+use Rattle.mesh_geometry.specs.Domain.{Domain, edgeCount, placeOn, InsideDomain}
 use Rattle.mesh_geometry.proofs.Members.{sum, sum-map, all-places}
 use Rattle.mesh_geometry.proofs.Walk.{walked, pieces}
 use Rattle.mesh_geometry.proofs.Stokes.{back, stokes, cover-closed}
@@ -86,7 +86,7 @@ pieces-down false s ps = sum-map (directed false) (back (weight false s)) (walke
 
 module _ {b : Bool} {area : ℕ} {outline points : List Point} {faces : List Face} (c : Cover b area outline points faces) where
   -- any outline that winds once around the spot
-  pub winds-once : Distinct outline → (s : Spot) → Winds outline (corner s) → Clear faces s → HeldOnce b faces s
+  pub winds-once : Distinct outline → (s : Spot) → Winds outline (corner s) → OffSides faces s → HeldOnce b faces s
   winds-once apart s winds clear = record { number = one .number; within = one .within; holds = one .has; only = one .only }
     where
       total : sum (faceUps b s) faces ≡ suc (sum (faceDowns b s) faces)
@@ -104,5 +104,5 @@ module _ {b : Bool} {area : ℕ} {outline points : List Point} {faces : List Fac
 
 pub cover-once : (k : Domain) (es : List Run) → length es ≡ edgeCount k → All GoodRun es
     → {positive : Bool} {area : ℕ} {points : List Point} {faces : List Face} → Cover positive area (ring (placeOn k) 0 es 0) points faces
-    → (s : Spot) → Within k s → Clear faces s → HeldOnce positive faces s
+    → (s : Spot) → InsideDomain k s → OffSides faces s → HeldOnce positive faces s
 cover-once k es n good c s inside clear = winds-once c (outline-distinct es k n good) s (outline-winds es k n good s inside) clear

@@ -10,7 +10,7 @@ use borrow.Author.Tests.{eq-eqb, ne-eqb}
 use Rattle.edge.specs.Table.{table}
 use Rattle.mesh_geometry.specs.declared.Point.{Point}
 use Rattle.mesh_geometry.specs.Seam.{keep, OuterEdge, places}
-use Rattle.mesh_geometry.specs.Edge.{Run, GoodRun, ring, along, Placed}
+use Rattle.mesh_geometry.specs.Edge.{Run, GoodRun, ring, along, EdgesPlaced}
 use Rattle.mesh_geometry.proofs.Lists.{All, none, more, all-append, all-more, all-table}
 use Rattle.mesh_geometry.proofs.Edge.{good-some, good-after, good-before, good-to}
 use Rattle.mesh_geometry.proofs.Shape.{Shape}
@@ -128,7 +128,7 @@ module _ {sides : ℕ} {Fits : ℕ → ℕ → Type 0} {place : ℕ → ℕ → 
     (rest : List Point) (deep : All (λ p. 0 < depth p) rest) where
   -- from edge k on, where `pre` are the edges before it
   placed-from : (k : ℕ) (pre es : List Run) → length pre ≡ k → k + length es ≡ sides → All GoodRun pre → All GoodRun es
-      → Placed edge (ring place 0 (pre ++ es) 0 ++ rest) k es
+      → EdgesPlaced edge (ring place 0 (pre ++ es) 0 ++ rest) k es
   placed-from k pre [] a b gs none = tt
   placed-from k [] (e ∷ []) a b none (more g none) = absurd (omega arith)
   placed-from k (e′ ∷ pre) (e ∷ []) a b (more g′ gs) (more g none) = (
@@ -144,5 +144,5 @@ module _ {sides : ℕ} {Fits : ℕ → ℕ → Type 0} {place : ℕ → ℕ → 
         (all-append (e ∷ []) gs (more g none)) (more g′ gs′)),
   )
 
-  pub outline-places : (es : List Run) → length es ≡ sides → All GoodRun es → Placed edge (ring place 0 es 0 ++ rest) 0 es
+  pub outline-places : (es : List Run) → length es ≡ sides → All GoodRun es → EdgesPlaced edge (ring place 0 es 0 ++ rest) 0 es
   outline-places es n gs = placed-from 0 [] es refl (omega arith) none gs

@@ -10,7 +10,7 @@ use Rattle.mesh_topology.proofs.Plain.{plain-closes, plain-stokes}
 use Rattle.mesh_geometry.specs.Cover.{Cover}
 use Rattle.mesh_geometry.specs.Seam.{triangleEdge, quadEdge}
 use Rattle.mesh_geometry.specs.Faces.{at, facesOf}
-use Rattle.mesh_geometry.specs.Edge.{GoodRun, ends, ring, Placed}
+use Rattle.mesh_geometry.specs.Edge.{GoodRun, ends, ring, EdgesPlaced}
 use Rattle.mesh_geometry.specs.TrianglePoints.{rings, triangleArea, triangleCorners}
 use Rattle.mesh_geometry.specs.QuadPoints.{quadArea, quadCorners}
 use Rattle.mesh_geometry.proofs.Lists.{All, none, more}
@@ -29,7 +29,7 @@ pub plain-triangle-covers : (positive : Bool)
 unfolding nest rings ring table
 plain-triangle-covers = patch-covers ends ends ends ends good-ends good-ends good-ends good-ends (omega arith)
 
-pub plain-triangle-places : Placed triangleEdge triangleCorners 0 (ends ∷ ends ∷ ends ∷ [])
+pub plain-triangle-places : EdgesPlaced triangleEdge triangleCorners 0 (ends ∷ ends ∷ ends ∷ [])
 unfolding rings ring table
 plain-triangle-places = patch-places ends ends ends ends good-ends good-ends good-ends good-ends
 
@@ -49,6 +49,6 @@ plain-quad-covers = patch-covered square made (plainQuad 0) turns (plain-closes 
     turns : All (Turns (at quadCorners)) (plainQuad 0)
     turns = more {x = record { a = 0; b = 1; c = 2 }} (omega arith) (more {x = record { a = 0; b = 2; c = 3 }} (omega arith) none)
 
-pub plain-quad-places : Placed quadEdge quadCorners 0 (ends ∷ ends ∷ ends ∷ ends ∷ [])
+pub plain-quad-places : EdgesPlaced quadEdge quadCorners 0 (ends ∷ ends ∷ ends ∷ ends ∷ [])
 unfolding ring table
 plain-quad-places = quad-outline-places ends ends ends ends good-ends good-ends good-ends good-ends [] none

@@ -6,7 +6,7 @@ use native.Mathlib.Omega.{arith}
 use lib.Dec.{eqb}
 use Rattle.mesh_geometry.specs.declared.Point.{Point}
 use Rattle.mesh_geometry.specs.Seam.{quadEdge}
-use Rattle.mesh_geometry.specs.Edge.{Run, GoodRun, ring, Placed}
+use Rattle.mesh_geometry.specs.Edge.{Run, GoodRun, ring, EdgesPlaced}
 use Rattle.mesh_geometry.specs.QuadPoints.{quadPlace, quadPatch}
 use Rattle.mesh_geometry.proofs.Lists.{All, none, more}
 use Rattle.mesh_geometry.proofs.Places.{after, Sees, outline-places}
@@ -80,10 +80,10 @@ sees k h = record {
 module _ (e0 e1 e2 e3 : Run) (g0 : GoodRun e0) (g1 : GoodRun e1) (g2 : GoodRun e2) (g3 : GoodRun e3) where
   -- for an outline with inner points
   pub quad-outline-places : (rest : List Point) → All (λ p. 0 < inset p) rest
-      → Placed quadEdge (ring quadPlace 0 (e0 ∷ e1 ∷ e2 ∷ e3 ∷ []) 0 ++ rest) 0 (e0 ∷ e1 ∷ e2 ∷ e3 ∷ [])
+      → EdgesPlaced quadEdge (ring quadPlace 0 (e0 ∷ e1 ∷ e2 ∷ e3 ∷ []) 0 ++ rest) 0 (e0 ∷ e1 ∷ e2 ∷ e3 ∷ [])
   quad-outline-places rest deep =
       outline-places square (omega arith) sees rest deep (e0 ∷ e1 ∷ e2 ∷ e3 ∷ []) refl (more g0 (more g1 (more g2 (more g3 none))))
 
   pub quad-places : (rows columns : Run) → GoodRun rows → GoodRun columns
-      → Placed quadEdge (quadPatch e0 e1 e2 e3 rows columns) 0 (e0 ∷ e1 ∷ e2 ∷ e3 ∷ [])
+      → EdgesPlaced quadEdge (quadPatch e0 e1 e2 e3 rows columns) 0 (e0 ∷ e1 ∷ e2 ∷ e3 ∷ [])
   quad-places rows columns gr gc = quad-outline-places _ (inner-deep rows columns gr gc)

@@ -5,7 +5,7 @@ use mathlib.Core.List.{List, [], _∷_, _++_}
 use native.Mathlib.Omega.{arith}
 use Rattle.strip.specs.declared.triangle.Triangle.{Triangle}
 use Rattle.mesh_topology.specs.Band.{band}
-use Rattle.mesh_topology.specs.Quad.{cell, joined, cells, gridEdges}
+use Rattle.mesh_topology.specs.Quad.{cell, joinedLists, cells, gridEdges}
 use Rattle.mesh_geometry.specs.declared.Point.{Point}
 use Rattle.mesh_geometry.specs.Edge.{Run, GoodRun}
 use Rattle.mesh_geometry.specs.QuadPoints.{quadPlace, inner}
@@ -17,8 +17,8 @@ use Rattle.mesh_geometry.proofs.Shape.{same-point}
 use Rattle.mesh_geometry.proofs.Lines.{Lines}
 use Rattle.mesh_geometry.proofs.QuadPlace.{QuadFits, square}
 
-pub joined-all : (Q : Triangle → Type 0) (L : ℕ → List Triangle) (n : ℕ) → ((k : ℕ) → k < n → All Q (L k)) → All Q (joined L n)
-unfolding joined
+pub joined-all : (Q : Triangle → Type 0) (L : ℕ → List Triangle) (n : ℕ) → ((k : ℕ) → k < n → All Q (L k)) → All Q (joinedLists L n)
+unfolding joinedLists
 joined-all Q L zero h = none
 joined-all Q L (suc n) h = all-append _ (joined-all Q L n (λ k l. h k (omega arith))) (h n (omega arith))
 

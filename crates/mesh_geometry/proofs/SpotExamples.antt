@@ -12,7 +12,7 @@ use Rattle.mesh_geometry.specs.Edge.{GoodRun, ends, ring}
 use Rattle.mesh_geometry.specs.QuadPoints.{quadCorners}
 use Rattle.mesh_geometry.proofs.Lists.{none, more}
 use Rattle.mesh_geometry.proofs.Plain.{plain-quad-covers}
-use Rattle.mesh_geometry.specs.Held.{Holds, OnSide, Clear, face, HeldOnce}
+use Rattle.mesh_geometry.specs.Held.{Holds, OnSide, OffSides, face, HeldOnce}
 use Rattle.mesh_geometry.specs.Domain.{square}
 use Rattle.mesh_geometry.proofs.Once.{cover-once}
 
@@ -49,7 +49,7 @@ apart-back : OnSide (reversed diagonal) (record { u = 1; v = 2 }) → ⊥
 unfolding twiceArea
 apart-back h = let e : _≡_ {A = ℕ} 0 1 = cc (h .straight) in omega arith
 
-clear : Clear plain (record { u = 1; v = 2 })
+clear : OffSides plain (record { u = 1; v = 2 })
 unfolding sides
 clear zero l h = omega (arith, h .along-u)
 clear (suc zero) l h = omega (arith, h .along-v)

@@ -6,7 +6,7 @@ use mathlib.Core.List.{[], _∷_}
 use native.Mathlib.Omega.{arith}
 use native.Mathlib.Nat.{zero-add}
 use lib.ListN.{length}
-use Rattle.mesh_topology.specs.Nest.{nest, points, Edges}
+use Rattle.mesh_topology.specs.Nest.{nest, nestVertices, Edges}
 use Rattle.mesh_topology.proofs.Nest.{nest-closes, nest-stokes}
 use Rattle.mesh_geometry.specs.Cover.{Cover}
 use Rattle.mesh_geometry.specs.Faces.{at, facesOf}
@@ -22,7 +22,7 @@ use Rattle.mesh_geometry.proofs.TriangleTurns.{nest-turns}
 
 -- the number of points
 pub patch-length : (e0 e1 e2 inside : Run) → Edges (e0 .c) (e1 .c) (e2 .c) (inside .c)
-    → length (trianglePatch e0 e1 e2 inside) ≡ points (e0 .c) (e1 .c) (e2 .c) (inside .c)
+    → length (trianglePatch e0 e1 e2 inside) ≡ nestVertices (e0 .c) (e1 .c) (e2 .c) (inside .c)
 patch-length e0 e1 e2 inside = rings-length (inside .c) e0 e1 e2 0 (inside .q)
 
 module _ (e0 e1 e2 inside : Run) (g0 : GoodRun e0) (g1 : GoodRun e1) (g2 : GoodRun e2) (g : GoodRun inside) where
@@ -48,7 +48,7 @@ module _ (e0 e1 e2 inside : Run) (g0 : GoodRun e0) (g1 : GoodRun e1) (g2 : GoodR
       (rw is at (nest-turns (at (trianglePatch e0 e1 e2 inside)) (inside .c) 0 e0 e1 e2 0 (inside .q) (good-inside g) (g .first)
       (more (good-span g0) (more (good-span g1) (more (good-span g2) none))) e (λ k. rw (zero-add k))))
       (rw (← is, patch-length e0 e1 e2 inside e)
-      (rw (zero-add (points (e0 .c) (e1 .c) (e2 .c) (inside .c))) at (nest-closes (inside .c) 0 (e0 .c) (e1 .c) (e2 .c) e)))
+      (rw (zero-add (nestVertices (e0 .c) (e1 .c) (e2 .c) (inside .c))) at (nest-closes (inside .c) 0 (e0 .c) (e1 .c) (e2 .c) e)))
       (nest-stokes (inside .c) 0 (e0 .c) (e1 .c) (e2 .c) e) b)
 
   -- any outer edges go with an inner level of at least 2 segments

@@ -6,7 +6,7 @@ use native.Mathlib.Omega.{arith}
 use lib.Dec.{eqb}
 use Rattle.mesh_geometry.specs.declared.Point.{Point}
 use Rattle.mesh_geometry.specs.Seam.{triangleEdge}
-use Rattle.mesh_geometry.specs.Edge.{Run, GoodRun, Placed}
+use Rattle.mesh_geometry.specs.Edge.{Run, GoodRun, EdgesPlaced}
 use Rattle.mesh_geometry.specs.TrianglePoints.{trianglePlace, trianglePatch}
 use Rattle.mesh_geometry.proofs.Lists.{none, more}
 use Rattle.mesh_geometry.proofs.Places.{after, Sees, outline-places}
@@ -61,7 +61,7 @@ sees k h = record {
 }
 
 module _ (e0 e1 e2 inside : Run) (g0 : GoodRun e0) (g1 : GoodRun e1) (g2 : GoodRun e2) (g : GoodRun inside) where
-  pub patch-places : Placed triangleEdge (trianglePatch e0 e1 e2 inside) 0 (e0 ∷ e1 ∷ e2 ∷ [])
+  pub patch-places : EdgesPlaced triangleEdge (trianglePatch e0 e1 e2 inside) 0 (e0 ∷ e1 ∷ e2 ∷ [])
   patch-places =
       let f = front e0 e1 e2 inside g0 g1 g2 g in
       rw (f .is) (outline-places triangle (omega arith) sees (f .rest) (f .deep) (e0 ∷ e1 ∷ e2 ∷ []) refl (more g0 (more g1 (more g2 none))))

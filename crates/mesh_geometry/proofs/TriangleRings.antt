@@ -4,7 +4,7 @@ use mathlib.Core.Path.{_≡_, refl, ap, sym}
 use mathlib.Core.List.{List, [], _∷_, _++_, append-nil}
 use native.Mathlib.Omega.{arith}
 use lib.ListN.{length, length-append}
-use Rattle.mesh_topology.specs.Nest.{Edges, points}
+use Rattle.mesh_topology.specs.Nest.{Edges, nestVertices}
 use Rattle.mesh_topology.proofs.Nest.{edges}
 use Rattle.mesh_geometry.specs.declared.Point.{Point}
 use Rattle.mesh_geometry.specs.Edge.{Run, ring}
@@ -16,8 +16,8 @@ use Rattle.mesh_geometry.proofs.Inside.{Inside, inside-spans, inside-in
 use Rattle.mesh_geometry.proofs.TrianglePlace.{triangle, least, least-is}
 
 pub rings-length : (n : ℕ) (e0 e1 e2 : Run) (d : ℕ) (q : ℕ → ℕ) → Edges (e0 .c) (e1 .c) (e2 .c) n
-    → length (rings (e0 ∷ e1 ∷ e2 ∷ []) d q n) ≡ points (e0 .c) (e1 .c) (e2 .c) n
-unfolding rings points
+    → length (rings (e0 ∷ e1 ∷ e2 ∷ []) d q n) ≡ nestVertices (e0 .c) (e1 .c) (e2 .c) n
+unfolding rings nestVertices
 rings-length zero e0 e1 e2 d q e = refl
 rings-length (suc zero) e0 e1 e2 d q e = omega (arith, ring-length trianglePlace 0 (e0 ∷ e1 ∷ e2 ∷ []) d)
 rings-length (suc (suc r)) e0 e1 e2 d q e =

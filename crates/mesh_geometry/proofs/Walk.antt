@@ -6,7 +6,7 @@ use mathlib.Core.List.{List, [], _∷_, _++_, map, List·Memᴰ}
 use native.Mathlib.Omega.{arith}
 use lib.ListN.{length, getD, length-map, List·getD-map}
 use Rattle.mesh_geometry.specs.declared.Point.{Point}
-use Rattle.mesh_geometry.specs.Cover.{Side, reversed, missing, next, directed, piece}
+use Rattle.mesh_geometry.specs.Cover.{Side, reversed, missing, nextPoint, directed, piece}
 use Rattle.mesh_geometry.proofs.Lists.{All, none, more, all-more, Distinct}
 use Rattle.mesh_geometry.proofs.Members.{member-at, at-member, distinct-map}
 
@@ -49,7 +49,7 @@ module _ (b : Bool) (ps : List Point) where
   unused = record { start = missing; end = missing }
 
   pub piece-at : (k : ℕ) → k < length ps → getD (pieces b ps) k (directed b unused) ≡ piece b ps k
-  unfolding next
+  unfolding nextPoint
   piece-at k h = List·getD-map (directed b) (walked ps) k unused ∙ ap (directed b) (walk-at _ _ ps k h)
 
   -- a property of each piece by number holds for every piece in the list

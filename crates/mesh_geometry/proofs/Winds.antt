@@ -20,7 +20,7 @@ use Rattle.mesh_geometry.proofs.Frame.{Left, rise}
 use Rattle.mesh_geometry.proofs.TrianglePlace.{triangle as triangle-shape}
 use Rattle.mesh_geometry.proofs.QuadPlace.{square as square-shape}
 use Rattle.mesh_geometry.specs.Held.{Spot, corner}
-use Rattle.mesh_geometry.specs.Domain.{Domain, triangle, square, edgeCount, placeOn, Within}
+use Rattle.mesh_geometry.specs.Domain.{Domain, triangle, square, edgeCount, placeOn, InsideDomain}
 use Rattle.mesh_geometry.proofs.Members.{sum}
 use Rattle.mesh_geometry.proofs.Walk.{walked}
 use Rattle.mesh_geometry.proofs.Stokes.{back}
@@ -96,7 +96,7 @@ module _ (s : Point) (c : ℕ) where
     ap (λ x. x * t) d,
   )
 
-module _ (z : Spot) (inside : Within triangle z) where
+module _ (z : Spot) (inside : InsideDomain triangle z) where
   abbrev s : Point
   s = corner z
 
@@ -128,7 +128,7 @@ module _ (z : Spot) (inside : Within triangle z) where
     has-passed s 196608 (omega arith),
   )
 
-module _ (z : Spot) (inside : Within square z) where
+module _ (z : Spot) (inside : InsideDomain square z) where
   abbrev c : Point
   c = corner z
 
@@ -161,7 +161,7 @@ module _ (z : Spot) (inside : Within square z) where
 
 module _ (es : List Run) where
   pub outline-winds : (k : Domain) → length es ≡ edgeCount k → All GoodRun es
-      → (z : Spot) → Within k z → Winds (ring (placeOn k) 0 es 0) (corner z)
+      → (z : Spot) → InsideDomain k z → Winds (ring (placeOn k) 0 es 0) (corner z)
   outline-winds triangle n good z i = triangle-winds z i es n good
   outline-winds square n good z i = quad-winds z i es n good
 

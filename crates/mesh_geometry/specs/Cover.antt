@@ -65,8 +65,8 @@ pub record HasSign (positive : Bool) (z : ℤ) : Type 0 where
   pub is : z ≡ signed positive size
 
 -- the point after point k of a closed outline
-unfoldable pub next : List Point → ℕ → Point
-next ps k = getD ps (suc k) (getD ps 0 missing)
+unfoldable pub nextPoint : List Point → ℕ → Point
+nextPoint ps k = getD ps (suc k) (getD ps 0 missing)
 
 -- a side, reversed if the orientation asked for is the negative one
 abbrev pub directed : Bool → Side → Side
@@ -75,7 +75,7 @@ directed false s = reversed s
 
 -- piece k of an outline in the orientation asked for: from point k to the next point, or back
 abbrev pub piece : Bool → List Point → ℕ → Side
-piece positive ps k = directed positive (record { start = getD ps k missing; end = next ps k })
+piece positive ps k = directed positive (record { start = getD ps k missing; end = nextPoint ps k })
 
 -- s is one of the sides
 abbrev pub Occurs : Side → List Side → Type 0

@@ -21,6 +21,6 @@ placeOn triangle = trianglePlace
 placeOn square = quadPlace
 
 -- the spot lies strictly inside the domain
-abbrev pub Within : Domain → Spot → Type 0
-Within triangle s = (0 < s .u) × (0 < s .v) × (s .u + s .v < 196608)
-Within square s = (0 < s .u) × (s .u < 65536) × (0 < s .v) × (s .v < 65536)
+abbrev pub InsideDomain : Domain → Spot → Type 0
+InsideDomain triangle s = (0 < s .u) × (0 < s .v) × (s .u + s .v < 196608)
+InsideDomain square s = (0 < s .u) × (s .u < 65536) × (0 < s .v) × (s .v < 65536)

@@ -7,7 +7,7 @@ use Rattle.mesh_geometry.specs.declared.Point.{Point}
 use Rattle.mesh_geometry.specs.Seam.{OuterEdge, places, Mirrors}
 
 -- q 0 to q n are good places on an edge of 65,536 units: they start at 0, end at 65,536, rise, and mirror
-pub record Good (q : ℕ → ℕ) (n : ℕ) : Type 0 where
+pub record GoodPlaces (q : ℕ → ℕ) (n : ℕ) : Type 0 where
   pub first : q 0 ≡ 0
   pub last : q n ≡ 65536
   pub rises : (i : ℕ) → i < n → q i < q (suc i)
@@ -20,7 +20,7 @@ pub record Run : Type 0 where
 
 -- an edge with good places
 abbrev pub GoodRun : Run → Type 0
-GoodRun e = Good (e .q) (e .c)
+GoodRun e = GoodPlaces (e .q) (e .c)
 
 -- the edge of one segment
 abbrev pub ends : Run
@@ -42,6 +42,6 @@ abbrev pub along : Run → List ℕ
 along e = table (e .q) (suc (e .c))
 
 -- along each outer edge k, k + 1, .. the points ps have the places of the given run, and these mirror
-abbrev pub Placed : (ℕ → OuterEdge) → List Point → ℕ → List Run → Type 0
-Placed edge ps k [] = Unit {0}
-Placed edge ps k (e ∷ es) = (places (edge k) ps ≡ along e) × Mirrors (along e) × Placed edge ps (suc k) es
+abbrev pub EdgesPlaced : (ℕ → OuterEdge) → List Point → ℕ → List Run → Type 0
+EdgesPlaced edge ps k [] = Unit {0}
+EdgesPlaced edge ps k (e ∷ es) = (places (edge k) ps ≡ along e) × Mirrors (along e) × EdgesPlaced edge ps (suc k) es

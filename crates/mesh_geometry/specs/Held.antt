@@ -39,8 +39,8 @@ pub record OnSide (e : Side) (s : Spot) : Type 0 where
   pub along-v : Between (e .start .v) (e .end .v) (s .v)
 
 -- the spot lies on no side of any triangle
-abbrev pub Clear : List Face → Spot → Type 0
-Clear faces s = (i : ℕ) → i < length (sides faces) → OnSide (side (sides faces) i) s → ⊥
+abbrev pub OffSides : List Face → Spot → Type 0
+OffSides faces s = (i : ℕ) → i < length (sides faces) → OnSide (side (sides faces) i) s → ⊥
 
 -- triangle number k
 abbrev pub face : List Face → ℕ → Face

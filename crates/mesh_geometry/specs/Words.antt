@@ -5,13 +5,13 @@ use Rattle.strip.specs.declared.triangle.Triangle.{Triangle}
 use Rattle.mesh_geometry.specs.declared.Point.{Point}
 
 -- a point as three words
-abbrev pub pointWords : Point → List ℕ
-pointWords p = p .u ∷ p .v ∷ p .w ∷ []
+abbrev pub coordinateWords : Point → List ℕ
+coordinateWords p = p .u ∷ p .v ∷ p .w ∷ []
 
 -- the words of all points, in order
 unfoldable pub vertexWords : List Point → List ℕ
 vertexWords [] = []
-vertexWords (p ∷ ps) = pointWords p ++ vertexWords ps
+vertexWords (p ∷ ps) = coordinateWords p ++ vertexWords ps
 
 -- the points that words hold, three words each
 unfoldable pub readPoints : List ℕ → List Point

@@ -9,7 +9,7 @@ abbrev pub listText : ℕ → List ℕ → List ℕ → ℕ → ℕ → List ℕ
 listText width vertices indices P I = drawnLine P I ++ rows 3 vertices 0 P ++ rows width indices 0 (I / width)
 
 -- lists of v and i words hold P points and I indices
-pub record Mesh (width v i P I : ℕ) : Type 0 where
+pub record HoldsMesh (width v i P I : ℕ) : Type 0 where
   pub some : 1 ≤ width
   pub most : width ≤ 3
   pub vertices : 3 * P ≤ v

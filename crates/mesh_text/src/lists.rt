@@ -2,7 +2,7 @@
 ghost use Prim.Native.Nat.{_+_, _*_, _/_, _≤_};
 ghost use lib.ListN.{length};
 ghost use Rattle.buffer.specs.Over.{Wrote};
-ghost use Rattle.mesh_text.specs.Lists.{Mesh, listText};
+ghost use Rattle.mesh_text.specs.Lists.{HoldsMesh, listText};
 
 // Writes the first `points` points of a vertex list, and the first `words` indices of an index list, `width` per primitive.
 pub fn put_mesh(
@@ -14,7 +14,7 @@ pub fn put_mesh(
     points: u32,
     words: u32,
 ) -> usize
-    requires { ⌜ Mesh width (length (now vertices)) (length (now indices)) points words ⌝ }
+    requires { ⌜ HoldsMesh width (length (now vertices)) (length (now indices)) points words ⌝ }
     requires { ⌜ at + (28 + 33 * points + 18 * (words / width)) ≤ length (now out) ⌝ }
     ensures { λ r. ⌜ Wrote (now (out .entry)) at (listText width (now (vertices .entry)) (now (indices .entry)) points words) (now (out .exit)) r ⌝ }
 {

@@ -6,7 +6,7 @@ use native.Mathlib.Omega.{arith}
 use native.Mathlib.Nat.{add-zero}
 use Rattle.strip.specs.Strips.{strip}
 use Rattle.mesh_topology.specs.Sides.{flip, sumSides, sum, lineSum}
-use Rattle.mesh_topology.specs.Band.{from, Edge, outers, bandFrom, band}
+use Rattle.mesh_topology.specs.Band.{from, Edge, outerSegments, bandFrom, band}
 use Rattle.mesh_topology.proofs.Hits.{sum-append}
 use Rattle.mesh_topology.proofs.Line.{Closed, line-from}
 use Rattle.mesh_topology.proofs.Strip.{rungs, strip-sides}
@@ -32,7 +32,7 @@ Chain m low top d (e ∷ es) z = Sound m low top e × Meets d e × Chain m low t
 pub record Loop (F : ℕ → ℕ) (m low top : ℕ) (z : Edge) (es : List Edge) : Type 0 where
   pub closed : Closed F m
   pub big : 3 ≤ m
-  pub whole : z .p + outers es ≡ m
+  pub whole : z .p + outerSegments es ≡ m
   pub first : Sound m low top z
   pub chain : Chain m low top z es z
 
@@ -53,7 +53,7 @@ next-sides : (f : ℕ → ℕ → ℕ) (F B : ℕ → ℕ) (o p r : ℕ)
 next-sides f F B o p r = omega (arith, simp add-zero at (strip-sides (from o F) B p r f), line-from f F o p)
 
 module _ (F : ℕ → ℕ) (m low top : ℕ) (z : Edge) where
-  rest-sides : (f : ℕ → ℕ → ℕ) (es : List Edge) (d : Edge) (o : ℕ) → o + outers es ≡ m → Chain m low top d es z
+  rest-sides : (f : ℕ → ℕ → ℕ) (es : List Edge) (d : Edge) (o : ℕ) → o + outerSegments es ≡ m → Chain m low top d es z
       → sumSides f (bandFrom F o es) + f (F o) (d .line (d .r)) + lineSum f F o
       ≡ cross f F o es + cross (flip f) F o es + f (F m) (z .line 0) + lineSum f F m + innerSum (flip f) es
   unfolding bandFrom cross innerSum sumSides

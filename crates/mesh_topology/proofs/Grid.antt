@@ -6,7 +6,7 @@ use native.Mathlib.Omega.{arith}
 use native.Mathlib.Decide.{decLe}
 use native.Mathlib.Nat.{mul-le-mul-right}
 use Rattle.mesh_topology.specs.Sides.{hit, flip, sumSides, sum, lineSum}
-use Rattle.mesh_topology.specs.Quad.{gridAt, joined, cell, cells, gridEdges}
+use Rattle.mesh_topology.specs.Quad.{gridAt, joinedLists, cell, cells, gridEdges}
 use Rattle.mesh_topology.proofs.Sums.{one-of-two, one-of-three, part, sum-once}
 use Rattle.mesh_topology.proofs.Hits.{hit-flip, hit-le, hit-at, sum-append}
 use Rattle.mesh_topology.proofs.Line.{line-back}
@@ -24,18 +24,18 @@ segments f P a b =
 
 module _ (f : ℕ → ℕ → ℕ) (P : ℕ → ℕ → ℕ) where
   row-sides : (r b : ℕ)
-      → sumSides f (joined (cell P r) b) + f (P r 0) (P (suc r) 0) + f (P (suc r) b) (P r b)
+      → sumSides f (joinedLists (cell P r) b) + f (P r 0) (P (suc r) 0) + f (P (suc r) b) (P r b)
       ≡ lineSum f (P r) b + lineSum (flip f) (P (suc r)) b
       + (sum (λ c. f (P r c) (P (suc r) c)) (suc b) + sum (λ c. f (P (suc r) c) (P r c)) (suc b))
       + (sum (λ c. f (P r c) (P (suc r) (suc c))) b + sum (λ c. f (P (suc r) (suc c)) (P r c)) b)
-  unfolding joined sumSides sum
+  unfolding joinedLists sumSides sum
   row-sides r zero = omega arith
   row-sides r (suc b) = simp sum-append (omega (arith, row-sides r b))
 
   cells-sides : (a b : ℕ)
       → sumSides f (cells P a b) + lineSum f (λ r. P r 0) a + lineSum (flip f) (P 0) b + lineSum (flip f) (λ r. P r b) a + lineSum f (P a) b
       ≡ segments f P a b + segments (flip f) P a b
-  unfolding joined sumSides sum segments
+  unfolding joinedLists sumSides sum segments
   cells-sides zero b = omega arith
   cells-sides (suc a) b = simp sum-append (omega (arith, cells-sides a b, row-sides a b))
 

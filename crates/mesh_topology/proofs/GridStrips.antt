@@ -7,7 +7,7 @@ use Rattle.strip.specs.Strips.{strip}
 use Rattle.mesh_topology.specs.Sides.{sum}
 use Rattle.mesh_topology.specs.Ring.{ringAt}
 use Rattle.mesh_topology.specs.Band.{from, bandFrom, band}
-use Rattle.mesh_topology.specs.Quad.{gridAt, cell, joined, cells, gridEdges, quad}
+use Rattle.mesh_topology.specs.Quad.{gridAt, cell, joinedLists, cells, gridEdges, quad}
 use Rattle.mesh_topology.specs.GridStrips.{outlineOn, gridOn, nearestLine, nearestSegments, gridStrip, cellOn, cellsOn, gridStrips}
 use Rattle.mesh_topology.proofs.Joined.{joined-same}
 
@@ -50,8 +50,8 @@ module _ (c : ℕ → ℕ) (n : ℕ) where
         → strip (from o (ringAt 0 (c 0 + c 1 + c 2 + c 3))) line (c k) r ≡ gridStrip c m n k
     strip-at k o r line h e g = rw e (same-strip (c k) (nearestSegments m n k) (outline-vertex k o h) g)
 
-    same-band : band (ringAt 0 (c 0 + c 1 + c 2 + c 3)) (gridEdges P (m - 2) (n - 2) (c 0) (c 1) (c 2) (c 3)) ≡ joined (gridStrip c m n) 4
-    unfolding bandFrom joined sum
+    same-band : band (ringAt 0 (c 0 + c 1 + c 2 + c 3)) (gridEdges P (m - 2) (n - 2) (c 0) (c 1) (c 2) (c 3)) ≡ joinedLists (gridStrip c m n) 4
+    unfolding bandFrom joinedLists sum
     same-band =
         let a = strip-at 0 0 (m - 2) (λ k. P (m - 2 - k) 0) refl refl (λ i. grid-vertex _ _ (m - 1 - i) 1 (omega arith) refl) in
         let b = strip-at 1 (0 + c 0) (n - 2) (λ k. P 0 k) refl refl (λ i. grid-vertex _ _ 1 (1 + i) refl (omega arith)) in

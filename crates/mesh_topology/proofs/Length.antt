@@ -11,10 +11,10 @@ use Rattle.strip.proofs.Strips.{strip-length}
 use Rattle.mesh_topology.specs.Band.{bandFrom}
 use Rattle.mesh_topology.specs.Nest.{nest, count}
 use Rattle.mesh_topology.specs.Lines.{lineSegment, isolines, dots}
-use Rattle.mesh_topology.specs.Quad.{gridAt, cell, joined, cells, quad, quadCount}
+use Rattle.mesh_topology.specs.Quad.{gridAt, cell, joinedLists, cells, quad, quadCount}
 
-joined-length : (l : ℕ) (L : ℕ → List Triangle) (n : ℕ) → ((k : ℕ) → length (L k) ≡ l) → length (joined L n) ≡ n * l
-unfolding joined
+joined-length : (l : ℕ) (L : ℕ → List Triangle) (n : ℕ) → ((k : ℕ) → length (L k) ≡ l) → length (joinedLists L n) ≡ n * l
+unfolding joinedLists
 joined-length l L zero h = omega arith
 joined-length l L (suc n) h = simp length-append (omega (arith, joined-length l L n h, h n))
 
@@ -25,7 +25,7 @@ nest-length (suc zero) base c0 c1 c2 = refl
 nest-length (suc (suc r)) base c0 c1 c2 = simp (length-append, strip-length, nest-length r) (omega arith)
 
 cells-length : (P : ℕ → ℕ → ℕ) (a b : ℕ) → length (cells P a b) ≡ 2 * (a * b)
-cells-length P a b = omega (arith, joined-length (b * 2) (λ r. joined (cell P r) b) a (λ r. joined-length 2 (cell P r) b (λ c. refl)))
+cells-length P a b = omega (arith, joined-length (b * 2) (λ r. joinedLists (cell P r) b) a (λ r. joined-length 2 (cell P r) b (λ c. refl)))
 
 pub quad-length : (base c0 c1 c2 c3 m n : ℕ) → length (quad base c0 c1 c2 c3 m n) ≡ quadCount c0 c1 c2 c3 m n
 unfolding quad bandFrom

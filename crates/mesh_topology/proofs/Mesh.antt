@@ -8,14 +8,14 @@ use native.Mathlib.Decide.{decLe}
 use Rattle.strip.specs.declared.triangle.Triangle.{Triangle}
 use Rattle.mesh_topology.specs.Sides.{sumSides, uses}
 use Rattle.mesh_topology.specs.Ring.{ringAt, ringSum, ringSide}
-use Rattle.mesh_topology.specs.Closes.{Within, Closes}
+use Rattle.mesh_topology.specs.Closes.{CornersWithin, Closes}
 use Rattle.mesh_topology.proofs.Hits.{hit-self}
 use Rattle.mesh_topology.proofs.Line.{piece, pieces-at, line-once}
 use Rattle.mesh_topology.proofs.Ring.{ring-closed}
 use Rattle.mesh_topology.proofs.Fills.{Fills, fills-turned}
 
 -- if the vertices of every side lie in the range, those of every triangle do
-all-within : (base top : ℕ) (ts : List Triangle) → ((x y : ℕ) → 1 ≤ uses x y ts → (base ≤ x) × (x < top)) → Within base top ts
+all-within : (base top : ℕ) (ts : List Triangle) → ((x y : ℕ) → 1 ≤ uses x y ts → (base ≤ x) × (x < top)) → CornersWithin base top ts
 unfolding sumSides
 all-within base top [] h = tt
 all-within base top (t ∷ ts) h = (

@@ -9,7 +9,7 @@ use Rattle.strip.specs.declared.triangle.Triangle.{Triangle}
 use Rattle.mesh_topology.specs.Sides.{hit, flip, sumSides, sum, lineSum}
 use Rattle.mesh_topology.specs.Ring.{ringAt, ringSum}
 use Rattle.mesh_topology.specs.Band.{from, band}
-use Rattle.mesh_topology.specs.Nest.{ringEdge, ringEdges, Edges, points, nest}
+use Rattle.mesh_topology.specs.Nest.{ringEdge, ringEdges, Edges, nestVertices, nest}
 use Rattle.mesh_topology.specs.Closes.{Closes, Stokes}
 use Rattle.mesh_topology.proofs.Line.{line-from, line-once, line-in}
 use Rattle.mesh_topology.proofs.Ring.{ring-closed, ring-in}
@@ -104,22 +104,22 @@ edges zero = omega arith
 edges (suc zero) = omega arith
 edges (suc (suc r)) = omega arith
 
-room : (n c0 c1 c2 : ℕ) → Edges c0 c1 c2 n → max 1 (c0 + c1 + c2) ≤ points c0 c1 c2 n
-unfolding points
+room : (n c0 c1 c2 : ℕ) → Edges c0 c1 c2 n → max 1 (c0 + c1 + c2) ≤ nestVertices c0 c1 c2 n
+unfolding nestVertices
 room zero c0 c1 c2 e = omega arith
 room (suc zero) c0 c1 c2 e = omega arith
 room (suc (suc r)) c0 c1 c2 e = omega arith
 
 nest-fills : (n base c0 c1 c2 : ℕ) → Edges c0 c1 c2 n
-    → Fills base (base + points c0 c1 c2 n) (λ f. ringSum f base (c0 + c1 + c2)) (nest base c0 c1 c2 n)
-unfolding nest points
+    → Fills base (base + nestVertices c0 c1 c2 n) (λ f. ringSum f base (c0 + c1 + c2)) (nest base c0 c1 c2 n)
+unfolding nest nestVertices
 nest-fills zero base c0 c1 c2 e = let s : c0 + c1 + c2 ≡ 0 = omega arith in rw s (fills-none base (base + 1))
 nest-fills (suc zero) base c0 c1 c2 e = let s : c0 + c1 + c2 ≡ 3 = omega arith in rw s (fills-one base)
 nest-fills (suc (suc r)) base c0 c1 c2 e =
     let s : r + r + r ≡ 3 * r = omega arith in
     let d = rw s at (nest-fills r (base + (c0 + c1 + c2)) r r r (edges r)) in
     wrap base c0 c1 c2 r _ _ _ refl (e .0) (e .1) (e .2) (omega (arith, room r r r r (edges r)))
-    (rw (add-assoc base (c0 + c1 + c2) (points r r r r)) at d)
+    (rw (add-assoc base (c0 + c1 + c2) (nestVertices r r r r)) at d)
 
 big : (n c0 c1 c2 : ℕ) → Edges c0 c1 c2 n → 1 ≤ c0 + c1 + c2 → 3 ≤ c0 + c1 + c2
 big zero c0 c1 c2 e h = omega arith
@@ -127,7 +127,7 @@ big (suc zero) c0 c1 c2 e h = omega arith
 big (suc (suc r)) c0 c1 c2 e h = omega arith
 
 module _ (n base c0 c1 c2 : ℕ) (e : Edges c0 c1 c2 n) where
-  pub nest-closes : Closes base (base + points c0 c1 c2 n) (c0 + c1 + c2) (nest base c0 c1 c2 n)
+  pub nest-closes : Closes base (base + nestVertices c0 c1 c2 n) (c0 + c1 + c2) (nest base c0 c1 c2 n)
   nest-closes = closes _ _ _ _ (big n c0 c1 c2 e) (nest-fills n base c0 c1 c2 e)
 
   pub nest-stokes : Stokes base (c0 + c1 + c2) (nest base c0 c1 c2 n)

@@ -10,7 +10,7 @@ use Rattle.mesh_topology.specs.Sides.{sum}
 use Rattle.mesh_topology.specs.Ring.{ringAt}
 use Rattle.mesh_topology.specs.Band.{from, bandFrom, band}
 use Rattle.mesh_topology.specs.Nest.{ringEdges, nest}
-use Rattle.mesh_topology.specs.Quad.{joined}
+use Rattle.mesh_topology.specs.Quad.{joinedLists}
 use Rattle.mesh_topology.specs.RingVertices.{ringSegments, edgeFirst, ringSize, ringFirst}
 use Rattle.mesh_topology.specs.RingStrips.{ringStrip, stripsBetween, innermost, ringStrips}
 use Rattle.mesh_topology.proofs.Joined.{joined-first, joined-same}
@@ -31,7 +31,7 @@ partFrom base c n j k =
     (base + ringFirst c n (suc j)) (ringSize c n (suc j)) (edgeFirst c n (suc j) k) (ringSegments c n (suc j) k)
 
 abbrev listFrom : ℕ → (ℕ → ℕ) → ℕ → List Triangle
-listFrom base c n = joined (λ j. joined (partFrom base c n j) 3) (n / 2) ++ innermost (base + ringFirst c n (n / 2)) n
+listFrom base c n = joinedLists (λ j. joinedLists (partFrom base c n j) 3) (n / 2) ++ innermost (base + ringFirst c n (n / 2)) n
 
 module _ (base : ℕ) (c : ℕ → ℕ) (r : ℕ) where
   abbrev total : ℕ
@@ -52,8 +52,8 @@ module _ (base : ℕ) (c : ℕ → ℕ) (r : ℕ) where
   part-first k o h =
       same-part (omega arith) (omega arith) h refl (omega arith) (omega arith) (edge-inside c r 0 k ∙ sum-constant r k) (omega arith)
 
-  band-first : joined (partFrom base c (suc (suc r)) 0) 3 ≡ band (ringAt base total) (ringEdges (base + total) r (c 0) (c 1) (c 2))
-  unfolding joined bandFrom sum
+  band-first : joinedLists (partFrom base c (suc (suc r)) 0) 3 ≡ band (ringAt base total) (ringEdges (base + total) r (c 0) (c 1) (c 2))
+  unfolding joinedLists bandFrom sum
   band-first =
       let f : ℕ → ℕ → List Triangle = λ k o. part base total o (c k) (base + total) (3 * r) (k * r) r in
       ap₂ (λ s t. s ++ t) (ap₂ (λ s t. s ++ t) (part-first 0 0 refl) (part-first 1 (0 + c 0) refl)) (part-first 2 (0 + c 0 + c 1) refl)
@@ -68,16 +68,16 @@ module _ (base : ℕ) (c : ℕ → ℕ) (r : ℕ) where
   list-inside : listFrom base c (suc (suc r)) ≡ band (ringAt base total) (ringEdges (base + total) r (c 0) (c 1) (c 2)) ++ listFrom (base + total) (λ _. r) r
   list-inside =
       let half : suc (suc r) / 2 ≡ suc (r / 2) = omega arith in
-      let pairs : ℕ → List Triangle = λ j. joined (partFrom base c (suc (suc r)) j) 3 in
-      let further : ℕ → List Triangle = λ j. joined (partFrom (base + total) (λ _. r) r j) 3 in
+      let pairs : ℕ → List Triangle = λ j. joinedLists (partFrom base c (suc (suc r)) j) 3 in
+      let further : ℕ → List Triangle = λ j. joinedLists (partFrom (base + total) (λ _. r) r j) 3 in
       rw half (ap₂ (λ s t. s ++ t)
       (joined-first pairs (r / 2)
       ∙ ap₂ (λ s t. s ++ t) band-first (joined-same (λ j. pairs (suc j)) further (r / 2) (λ j. joined-same _ _ 3 (part-inside j))))
       innermost-inside
-      ∙ append-assoc (band (ringAt base total) (ringEdges (base + total) r (c 0) (c 1) (c 2))) (joined further (r / 2)) (innermost (base + total + ringFirst (λ _. r) r (r / 2)) r))
+      ∙ append-assoc (band (ringAt base total) (ringEdges (base + total) r (c 0) (c 1) (c 2))) (joinedLists further (r / 2)) (innermost (base + total + ringFirst (λ _. r) r (r / 2)) r))
 
 nest-from : (n base : ℕ) (c : ℕ → ℕ) → nest base (c 0) (c 1) (c 2) n ≡ listFrom base c n
-unfolding nest joined sum
+unfolding nest joinedLists sum
 nest-from zero base c = refl
 nest-from (suc zero) base c = rw (add-zero base)
 nest-from (suc (suc r)) base c =

@@ -6,7 +6,7 @@ use mathlib.Core.List.{List, [], _∷_}
 use native.Mathlib.Omega.{arith}
 use native.Mathlib.Decide.{decLe}
 use Rattle.mesh_topology.specs.Sides.{hit}
-use Rattle.mesh_topology.specs.Band.{from, Edge, outers}
+use Rattle.mesh_topology.specs.Band.{from, Edge, outerSegments}
 use Rattle.mesh_topology.proofs.Sums.{one-of-two}
 use Rattle.mesh_topology.proofs.Walk.{Rung}
 use Rattle.mesh_topology.proofs.Line.{Closed}
@@ -44,11 +44,11 @@ module _ (F : ℕ → ℕ) (m low top : ℕ) where
 
 module _ (F : ℕ → ℕ) (m low top : ℕ) (z : Edge) where
   -- if no outer segment is left, no edge is left
-  ended : (es : List Edge) (d : Edge) → outers es ≡ 0 → Chain m low top d es z → Meets d z
+  ended : (es : List Edge) (d : Edge) → outerSegments es ≡ 0 → Chain m low top d es z → Meets d z
   ended [] d h c = c
   ended (e ∷ es) d h c = absurd (omega (arith, c .0 .some))
 
-  later : (es : List Edge) (d : Edge) (o x y : ℕ) → o + outers es ≡ m → Chain m low top d es z → 1 ≤ cross (hit x y) F o es
+  later : (es : List Edge) (d : Edge) (o x y : ℕ) → o + outerSegments es ≡ m → Chain m low top d es z → 1 ≤ cross (hit x y) F o es
       → Later F m low top d z o x y
   unfolding cross
   later [] d o x y em c h = absurd (omega arith)
@@ -67,7 +67,7 @@ module _ (F : ℕ → ℕ) (m low top : ℕ) (z : Edge) where
 
   module _ (cF : Closed F m) where
     -- a strip and the rest of the band have no rung in common
-    not-both : (es : List Edge) (e : Edge) (o x y : ℕ) → (o ≡ 0 → z ≡ e) → o + e .p + outers es ≡ m → Chain m low top e es z
+    not-both : (es : List Edge) (e : Edge) (o x y : ℕ) → (o ≡ 0 → z ≡ e) → o + e .p + outerSegments es ≡ m → Chain m low top e es z
         → 1 ≤ rungs (hit x y) (from o F) (e .line) (e .p) (e .r) → 1 ≤ cross (hit x y) F (o + e .p) es → ⊥
     not-both es e o x y old em c h k =
         let s = strip-rung (from o F) (e .line) (e .p) (e .r) x y h in
@@ -76,7 +76,7 @@ module _ (F : ℕ → ℕ) (m low top : ℕ) (z : Edge) where
         (λ u. let q = old (omega arith) in t .last (omega arith) (s .j) (rw q (s .j-to)) (rw q (s .start)))
         (cF .same (o + s .i) (t .spot .i) (omega arith) (t .spot .i-to) (cc))
 
-    rest-once : (es : List Edge) (d : Edge) (o x y : ℕ) → 1 ≤ o → o + outers es ≡ m → Chain m low top d es z → cross (hit x y) F o es ≤ 1
+    rest-once : (es : List Edge) (d : Edge) (o x y : ℕ) → 1 ≤ o → o + outerSegments es ≡ m → Chain m low top d es z → cross (hit x y) F o es ≤ 1
     unfolding cross
     rest-once [] d o x y h em c = omega arith
     rest-once (e ∷ es) d o x y h em c =

@@ -15,9 +15,9 @@ pub record Edge : Type 0 where
   pub line : ℕ → ℕ
 
 -- the segments of all edges' outer lines together
-abbrev pub outers : List Edge → ℕ
-outers [] = 0
-outers (e ∷ es) = e .p + outers es
+abbrev pub outerSegments : List Edge → ℕ
+outerSegments [] = 0
+outerSegments (e ∷ es) = e .p + outerSegments es
 
 -- one strip per edge, in walk order, along the outer line F from its point o on
 unfoldable pub bandFrom : (ℕ → ℕ) → ℕ → List Edge → List Triangle

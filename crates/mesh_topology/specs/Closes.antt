@@ -8,15 +8,15 @@ use Rattle.mesh_topology.specs.Sides.{flip, sumSides, uses}
 use Rattle.mesh_topology.specs.Ring.{ringAt, ringSum}
 
 -- every corner of every triangle is a number from `base` up to, not including, `top`
-abbrev pub Within : ℕ → ℕ → List Triangle → Type 0
-Within base top [] = Unit {0}
-Within base top (t ∷ ts) =
-    ((base ≤ t .a) × (t .a < top)) × ((base ≤ t .b) × (t .b < top)) × ((base ≤ t .c) × (t .c < top)) × Within base top ts
+abbrev pub CornersWithin : ℕ → ℕ → List Triangle → Type 0
+CornersWithin base top [] = Unit {0}
+CornersWithin base top (t ∷ ts) =
+    ((base ≤ t .a) × (t .a < top)) × ((base ≤ t .b) × (t .b < top)) × ((base ≤ t .c) × (t .c < top)) × CornersWithin base top ts
 
 -- what a watertight mesh needs: every index is the number of a point; no directed side occurs twice; each segment of the
 -- outline is a side once and its reverse is not; every other side has its reverse
 pub record Closes (base top total : ℕ) (ts : List Triangle) : Type 0 where
-  pub within : Within base top ts
+  pub within : CornersWithin base top ts
   pub single : (x y : ℕ) → uses x y ts ≤ 1
   pub outline : (k : ℕ) → k < total → uses (ringAt base total k) (ringAt base total (suc k)) ts ≡ 1
   pub outside : (k : ℕ) → k < total → uses (ringAt base total (suc k)) (ringAt base total k) ts ≡ 0

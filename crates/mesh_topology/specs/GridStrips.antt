@@ -6,7 +6,7 @@ use Rattle.strip.specs.declared.triangle.Triangle.{Triangle}
 use Rattle.strip.specs.Strips.{strip}
 use Rattle.mesh_topology.specs.Sides.{sum}
 use Rattle.mesh_topology.specs.Ring.{ringAt}
-use Rattle.mesh_topology.specs.Quad.{joined}
+use Rattle.mesh_topology.specs.Quad.{joinedLists}
 
 -- the vertex i segments along outer edge k; the end of an edge is the first vertex of the next, and the last edge ends at vertex 0
 abbrev pub outlineOn : (ℕ → ℕ) → ℕ → ℕ → ℕ
@@ -43,8 +43,8 @@ cellOn c n r s =
 
 -- the cells of rows 1 to m − 2 and columns 1 to n − 2, row by row
 abbrev pub cellsOn : (ℕ → ℕ) → ℕ → ℕ → List Triangle
-cellsOn c m n = joined (λ r. joined (λ s. cellOn c n (r + 1) (s + 1)) (n - 2)) (m - 2)
+cellsOn c m n = joinedLists (λ r. joinedLists (λ s. cellOn c n (r + 1) (s + 1)) (n - 2)) (m - 2)
 
 -- four strips in walk order, then the cells
 abbrev pub gridStrips : (ℕ → ℕ) → ℕ → ℕ → List Triangle
-gridStrips c m n = joined (gridStrip c m n) 4 ++ cellsOn c m n
+gridStrips c m n = joinedLists (gridStrip c m n) 4 ++ cellsOn c m n

@@ -29,10 +29,10 @@ Edges c0 c1 c2 (suc zero) = (c0 ≡ 1) × (c1 ≡ 1) × (c2 ≡ 1)
 Edges c0 c1 c2 (suc (suc r)) = (1 ≤ c0) × (1 ≤ c1) × (1 ≤ c2)
 
 -- the number of vertices of those rings; for n = 0 there is one vertex, the centre
-unfoldable pub points : ℕ → ℕ → ℕ → ℕ → ℕ
-points c0 c1 c2 zero = 1
-points c0 c1 c2 (suc zero) = 3
-points c0 c1 c2 (suc (suc r)) = c0 + c1 + c2 + points r r r r
+unfoldable pub nestVertices : ℕ → ℕ → ℕ → ℕ → ℕ
+nestVertices c0 c1 c2 zero = 1
+nestVertices c0 c1 c2 (suc zero) = 3
+nestVertices c0 c1 c2 (suc (suc r)) = c0 + c1 + c2 + nestVertices r r r r
 
 -- the number of triangles
 unfoldable pub count : ℕ → ℕ → ℕ → ℕ → ℕ

@@ -15,13 +15,13 @@ cell P r c =
     record { a = P r c; b = P r (suc c); c = P (suc r) (suc c) } ∷ record { a = P r c; b = P (suc r) (suc c); c = P (suc r) c } ∷ []
 
 -- the lists L 0 to L (n - 1), joined
-unfoldable pub joined : (ℕ → List Triangle) → ℕ → List Triangle
-joined L zero = []
-joined L (suc n) = joined L n ++ L n
+unfoldable pub joinedLists : (ℕ → List Triangle) → ℕ → List Triangle
+joinedLists L zero = []
+joinedLists L (suc n) = joinedLists L n ++ L n
 
 -- a rows of b cells
 abbrev pub cells : (ℕ → ℕ → ℕ) → ℕ → ℕ → List Triangle
-cells P a b = joined (λ r. joined (cell P r) b) a
+cells P a b = joinedLists (λ r. joinedLists (cell P r) b) a
 
 -- the edges of the band around the grid, in walk order: down the first column, along the first row, up the last column, back along the last row
 abbrev pub gridEdges : (ℕ → ℕ → ℕ) → ℕ → ℕ → ℕ → ℕ → ℕ → ℕ → List Edge

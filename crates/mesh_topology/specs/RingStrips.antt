@@ -5,7 +5,7 @@ use mathlib.Core.List.{List, [], _∷_, _++_}
 use lib.Dec.{eqb}
 use Rattle.strip.specs.declared.triangle.Triangle.{Triangle}
 use Rattle.strip.specs.Strips.{strip}
-use Rattle.mesh_topology.specs.Quad.{joined}
+use Rattle.mesh_topology.specs.Quad.{joinedLists}
 use Rattle.mesh_topology.specs.RingVertices.{ringSegments, ringFirst, vertexOn}
 
 -- strip k between ring j and ring j + 1: from edge k of ring j to edge k of ring j + 1
@@ -14,7 +14,7 @@ ringStrip c n j k = strip (vertexOn c n j k) (vertexOn c n (suc j) k) (ringSegme
 
 -- the three strips between rings j and j + 1, in walk order
 abbrev pub stripsBetween : (ℕ → ℕ) → ℕ → ℕ → List Triangle
-stripsBetween c n j = joined (ringStrip c n j) 3
+stripsBetween c n j = joinedLists (ringStrip c n j) 3
 
 -- the triangle of the innermost ring, for odd n
 abbrev pub innermost : ℕ → ℕ → List Triangle
@@ -22,4 +22,4 @@ innermost first n = cond (eqb (n % 2) 1) (record { a = first; b = first + 1; c =
 
 -- the strips from the outer ring inwards, then the triangle of the innermost ring
 abbrev pub ringStrips : (ℕ → ℕ) → ℕ → List Triangle
-ringStrips c n = joined (stripsBetween c n) (n / 2) ++ innermost (ringFirst c n (n / 2)) n
+ringStrips c n = joinedLists (stripsBetween c n) (n / 2) ++ innermost (ringFirst c n (n / 2)) n

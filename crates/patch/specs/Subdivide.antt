@@ -16,10 +16,10 @@ use Rattle.patch.specs.declared.subdivision.Subdivision.the-variants.{Di
 use Rattle.patch.specs.Every.{some, every}
 
 -- the outer levels of a patch, edge after edge
-abbrev pub outers : Patch → List Float
-outers (Triangles a b c i) = a ∷ b ∷ c ∷ []
-outers (Quads a b c d i j) = a ∷ b ∷ c ∷ d ∷ []
-outers (Isolines a b) = a ∷ b ∷ []
+abbrev pub outerLevels : Patch → List Float
+outerLevels (Triangles a b c i) = a ∷ b ∷ c ∷ []
+outerLevels (Quads a b c d i j) = a ∷ b ∷ c ∷ d ∷ []
+outerLevels (Isolines a b) = a ∷ b ∷ []
 
 -- the level gives one segment, under the top level t
 abbrev pub single : Spacing → ℕ → Float → Bool
@@ -27,7 +27,7 @@ single s t x = eqb (segmentsOf s t x .count) 1
 
 -- the patch is discarded: an outer level is NaN or <= 0
 abbrev pub discards : Patch → Bool
-discards p = some discarded (outers p)
+discards p = some discarded (outerLevels p)
 
 -- the subdivision of a patch that is not discarded; it is the plain patch if every level that counts gives one segment. The first
 -- inner level i of a quad patch gives its rows, the second, j, its columns. The number of isolines always has equal spacing.

@@ -14,7 +14,7 @@ use Rattle.patch.specs.declared.subdivision.Subdivision.{Subdivision}
 use Rattle.patch.specs.Subdivide.{cut}
 use Rattle.mesh_geometry.specs.Cover.{Cover}
 use Rattle.mesh_geometry.specs.Seam.{triangleEdge, quadEdge}
-use Rattle.mesh_geometry.specs.Edge.{GoodRun, ring, Placed}
+use Rattle.mesh_geometry.specs.Edge.{GoodRun, ring, EdgesPlaced}
 use Rattle.mesh_geometry.specs.TrianglePoints.{trianglePlace, triangleCorners}
 use Rattle.mesh_geometry.specs.QuadPoints.{quadPlace, quadCorners}
 use Rattle.mesh_geometry.proofs.TrianglePatch.{patch-covers, edges-two}
@@ -34,7 +34,7 @@ use Rattle.patch_mesh.proofs.Plain.{plain-outline, plain-placed}
 -- the triangles of a subdivision cover its patch, and its outer edges have the places of their levels
 pub record Covered (s : Spacing) (t : ℕ) (p : Patch) (c : Subdivision) : Type 0 where
   pub cover : Surface p → (turn : Bool) → Cover turn (twiceAreaOf p) (outline s t p) (points c) (facesIn (points c) (primitives turn c))
-  pub seams : Surface p → Placed (edges p) (points c) 0 (outerRuns s t p)
+  pub seams : Surface p → EdgesPlaced (edges p) (points c) 0 (outerRuns s t p)
 
 module _ (s : Spacing) (t : ℕ) (top : Top t) where
   outer : (x : Float) → GoodRun (run (segmentsOf s t x))

@@ -9,7 +9,7 @@ use Rattle.level.specs.Top.{Top}
 use Rattle.level.proofs.Top.{top-64}
 use Rattle.patch.specs.declared.kinds.Patch.{Patch}
 use Rattle.patch.specs.declared.settings.Settings.{Settings}
-use Rattle.patch.specs.Subdivide.{outers, discards, subdivision, subdivisionOf}
+use Rattle.patch.specs.Subdivide.{outerLevels, discards, subdivision, subdivisionOf}
 use Rattle.mesh_geometry.specs.Seam.{places}
 use Rattle.patch_mesh.specs.Points.{points}
 use Rattle.patch_mesh.specs.Primitives.{indexWords}
@@ -28,7 +28,7 @@ demand-64 set p e = demand set (greatest e) p
 
 -- the places of an outer edge depend on its spacing and its own level alone
 pub same-seams-64 : (set set′ : Settings) (p p′ : Patch) → set .top ≡ 64 → set′ .top ≡ 64 → discards p ≡ false → discards p′ ≡ false
-    → Surface p → Surface p′ → (k k′ : ℕ) → k < length (outers p) → k′ < length (outers p′)
+    → Surface p → Surface p′ → (k k′ : ℕ) → k < length (outerLevels p) → k′ < length (outerLevels p′)
     → set .spacing ≡ set′ .spacing → outerLevel p k ≡ outerLevel p′ k′
     → places (edges p k) (points (subdivisionOf set p)) ≡ places (edges p′ k′) (points (subdivisionOf set′ p′))
 same-seams-64 set set′ p p′ e e′ d d′ f f′ k k′ h h′ s l =

@@ -2,12 +2,12 @@
 use Prim.Native.Nat.{ℕ, zero, suc, _+_, _-_, _*_, _%_, _≤_}
 use mathlib.Core.Path.{_≡_, refl}
 use native.Mathlib.Omega.{arith}
-use Rattle.mesh_topology.specs.Nest.{points, count}
+use Rattle.mesh_topology.specs.Nest.{nestVertices, count}
 use Rattle.patch_mesh.specs.Counts.{insidePoints, insideTriangles}
 
 -- the rings from one with r segments per edge inwards
-rings-points : (r : ℕ) → 4 * points r r r r + r % 2 ≡ 3 * (r * r) + 6 * r + 4
-unfolding points
+rings-points : (r : ℕ) → 4 * nestVertices r r r r + r % 2 ≡ 3 * (r * r) + 6 * r + 4
+unfolding nestVertices
 rings-points zero = refl
 rings-points (suc zero) = refl
 rings-points (suc (suc r)) =
@@ -21,8 +21,8 @@ rings-triangles (suc zero) = refl
 rings-triangles (suc (suc r)) = omega (arith, rings-triangles r)
 
 module _ (c0 c1 c2 : ℕ) where
-  pub nest-points : (n : ℕ) → 2 ≤ n → points c0 c1 c2 n ≡ c0 + c1 + c2 + insidePoints n
-  unfolding points
+  pub nest-points : (n : ℕ) → 2 ≤ n → nestVertices c0 c1 c2 n ≡ c0 + c1 + c2 + insidePoints n
+  unfolding nestVertices
   nest-points zero h = absurd (omega arith)
   nest-points (suc zero) h = absurd (omega arith)
   nest-points (suc (suc r)) h =

@@ -9,7 +9,7 @@ use lib.ListN.{length}
 use Rattle.buffer.specs.Over.{flat}
 use Rattle.strip.specs.declared.triangle.Triangle.{Triangle as Corners}
 use Rattle.strip.specs.Triangles.{indices}
-use Rattle.mesh_topology.specs.Closes.{Within}
+use Rattle.mesh_topology.specs.Closes.{CornersWithin}
 use Rattle.mesh_topology.specs.Lines.{lineSegment, isolines, dots}
 use Rattle.mesh_topology.proofs.Nest.{nest-closes}
 use Rattle.mesh_topology.proofs.Quad.{quad-closes}
@@ -32,7 +32,7 @@ abbrev Below : ℕ → List ℕ → Type 0
 Below top ws = All (λ w. w < top) ws
 
 -- the corners of triangles whose vertices are in range
-corners-below : (base top : ℕ) (turn : Bool) (ts : List Corners) → Within base top ts → Below top (indices turn ts)
+corners-below : (base top : ℕ) (turn : Bool) (ts : List Corners) → CornersWithin base top ts → Below top (indices turn ts)
 unfolding indices
 corners-below base top turn [] w = none
 corners-below base top true (t ∷ ts) w = more (w .0 .1) (more (w .1 .1) (more (w .2 .1) (corners-below base top true ts (w .3))))

@@ -11,11 +11,11 @@ use Rattle.level.proofs.Valid.{segments-valid}
 use Rattle.patch.specs.declared.kinds.Patch.{Patch}
 use Rattle.patch.specs.declared.kinds.Patch.the-variants.{Triangles, Quads, Isolines}
 use Rattle.patch.specs.declared.settings.Settings.{Settings}
-use Rattle.patch.specs.Subdivide.{outers, discards, subdivisionOf}
+use Rattle.patch.specs.Subdivide.{outerLevels, discards, subdivisionOf}
 use Rattle.mesh_geometry.specs.declared.Point.{Point}
 use Rattle.mesh_geometry.specs.Cover.{Face, Cover}
 use Rattle.mesh_geometry.specs.Edge.{GoodRun}
-use Rattle.mesh_geometry.specs.Held.{Spot, Clear, HeldOnce}
+use Rattle.mesh_geometry.specs.Held.{Spot, OffSides, HeldOnce}
 use Rattle.mesh_geometry.specs.Domain.{triangle, square}
 use Rattle.mesh_geometry.proofs.Lists.{All, none, more}
 use Rattle.mesh_geometry.proofs.Once.{cover-once}
@@ -28,7 +28,7 @@ use Rattle.patch_mesh.proofs.Demand.{demand}
 
 module _ (s : Spacing) (t : ℕ) (top : Top t) where
   good-runs : (p : Patch) → All GoodRun (outerRuns s t p)
-  good-runs p = go (outers p)
+  good-runs p = go (outerLevels p)
     where
       go : (xs : List Float) → All GoodRun (map (λ x. run (segmentsOf s t x)) xs)
       go [] = none
@@ -36,7 +36,7 @@ module _ (s : Spacing) (t : ℕ) (top : Top t) where
 
   -- any mesh that covers a patch
   patch-once : (p : Patch) {turn : Bool} {area : ℕ} {ps : List Point} {faces : List Face} → Cover turn area (outline s t p) ps faces
-      → (z : Spot) → Inside p z → Clear faces z → HeldOnce turn faces z
+      → (z : Spot) → Inside p z → OffSides faces z → HeldOnce turn faces z
   patch-once (Triangles a b c i) d z inside clear =
       cover-once triangle (outerRuns s t (Triangles a b c i)) refl (good-runs (Triangles a b c i)) d z inside clear
   patch-once (Quads a b c e i j) d z inside clear =

@@ -12,10 +12,10 @@ use Rattle.level.proofs.Valid.{segments-valid}
 use Rattle.edge.specs.Table.{table}
 use Rattle.patch.specs.Every.{every}
 use Rattle.patch.specs.declared.kinds.Patch.{Patch}
-use Rattle.patch.specs.Subdivide.{outers, single}
+use Rattle.patch.specs.Subdivide.{outerLevels, single}
 use Rattle.mesh_geometry.specs.declared.Point.{Point}
 use Rattle.mesh_geometry.specs.Seam.{OuterEdge}
-use Rattle.mesh_geometry.specs.Edge.{Run, GoodRun, ends, ring, along, Placed}
+use Rattle.mesh_geometry.specs.Edge.{Run, GoodRun, ends, ring, along, EdgesPlaced}
 use Rattle.mesh_geometry.proofs.Lists.{All, none, more, all-more, all-map}
 use Rattle.patch_mesh.specs.Points.{run}
 use Rattle.patch_mesh.specs.Demand.{outerRuns}
@@ -56,19 +56,19 @@ unfolding table
 along-plain h = rw (h .one, h .start, h .end)
 
 placed-plain : (edge : ℕ → OuterEdge) (ps : List Point) (k : ℕ) {es : List Run} → All TwoEnds es
-    → Placed edge ps k (plain es) → Placed edge ps k es
+    → EdgesPlaced edge ps k (plain es) → EdgesPlaced edge ps k es
 placed-plain edge ps k none p = tt
 placed-plain edge ps k (more h hs) p = rw (along-plain h) (p .0, p .1, placed-plain edge ps (suc k) hs (p .2))
 
 -- a patch whose levels, outer and inner, all give one segment
-module _ (s : Spacing) (t : ℕ) (top : Top t) (p : Patch) (inner : List Float) (h : every (single s t) (outers p ++ inner) ≡ true) where
+module _ (s : Spacing) (t : ℕ) (top : Top t) (p : Patch) (inner : List Float) (h : every (single s t) (outerLevels p ++ inner) ≡ true) where
   ones : All TwoEnds (outerRuns s t p)
   ones = all-map (λ x. run (segmentsOf s t x)) TwoEnds
       (all-more (λ x e. two-ends (good-run _ (segments-valid s t top x)) (eqb-true (segmentsOf s t x .count) 1 e))
-      (first-pass (single s t) (outers p) inner h))
+      (first-pass (single s t) (outerLevels p) inner h))
 
   pub plain-outline : (place : ℕ → ℕ → ℕ → Point) → ring place 0 (outerRuns s t p) 0 ≡ ring place 0 (plain (outerRuns s t p)) 0
   plain-outline place = ring-plain place 0 0 ones
 
-  pub plain-placed : (edge : ℕ → OuterEdge) (ps : List Point) → Placed edge ps 0 (plain (outerRuns s t p)) → Placed edge ps 0 (outerRuns s t p)
+  pub plain-placed : (edge : ℕ → OuterEdge) (ps : List Point) → EdgesPlaced edge ps 0 (plain (outerRuns s t p)) → EdgesPlaced edge ps 0 (outerRuns s t p)
   plain-placed edge ps = placed-plain edge ps 0 ones

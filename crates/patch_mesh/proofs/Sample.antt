@@ -1,7 +1,7 @@
 -- Document 01's sample output, by computation from the definitions. Assumes nothing.
 use mathlib.Core.Path.{_≡_, refl}
 use lib.Ieee.{isNan, le, ofInt}
-use Rattle.level.specs.Scale.{parts}
+use Rattle.level.specs.Scale.{scaledLevel}
 use Rattle.level.specs.Segments.{segmentsOf, asInner}
 use Rattle.edge.specs.Positions.{position}
 use Rattle.edge.specs.Table.{table}
@@ -21,6 +21,6 @@ use Rattle.patch_mesh.specs.Starred.{usual}
 use Rattle.patch_mesh.specs.Sample.{output, samplePatch, sampleOutput}
 
 pub sample : output usual samplePatch ≡ sampleOutput
-unfolding isNan le ofInt parts segmentsOf asInner position table outerNext stripFrom indices ringAt bandFrom nest
+unfolding isNan le ofInt scaledLevel segmentsOf asInner position table outerNext stripFrom indices ringAt bandFrom nest
     some every subdivision ring rings points triangles indexWords
 sample = refl

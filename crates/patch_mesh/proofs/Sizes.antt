@@ -9,7 +9,7 @@ use lib.Ieee.{Float, isNan, le, ofInt}
 use Rattle.level.specs.declared.Spacing.{Spacing}
 use Rattle.level.specs.declared.Spacing.the-variants.{Equal}
 use Rattle.level.specs.Top.{Top}
-use Rattle.level.specs.Scale.{parts}
+use Rattle.level.specs.Scale.{scaledLevel}
 use Rattle.level.specs.Segments.{segmentsOf, asInner, innerSegments}
 use Rattle.level.proofs.Valid.{segments-valid, inner-valid}
 use Rattle.patch.specs.declared.kinds.Patch.{Patch}
@@ -83,7 +83,7 @@ indices-at-most set top p = omega (arith, index-count set (subdivisionOf set p) 
     go true = omega (arith, sizes-at-most (set .spacing) (set .top) top p, most p)
 
 pub greatest : Greatest triangles64 × Greatest quads64 × Greatest isolines64
-unfolding parts segmentsOf asInner some every subdivision pointCount primitiveCount isNan le ofInt
+unfolding scaledLevel segmentsOf asInner some every subdivision pointCount primitiveCount isNan le ofInt
 greatest = (
   record { points = refl; primitives = refl },
   record { points = refl; primitives = refl },

@@ -3,7 +3,7 @@ use mathlib.Core.Path.{_≡_, refl}
 use mathlib.Core.List.{map}
 use lib.Ieee.{isNan, le, ofInt}
 use Rattle.buffer.specs.Over.{flat}
-use Rattle.level.specs.Scale.{parts}
+use Rattle.level.specs.Scale.{scaledLevel}
 use Rattle.level.specs.Segments.{segmentsOf, asInner}
 use Rattle.edge.specs.Positions.{position}
 use Rattle.edge.specs.Table.{table}
@@ -13,7 +13,7 @@ use Rattle.strip.specs.Strips.{stripFrom}
 use Rattle.mesh_topology.specs.Ring.{ringAt}
 use Rattle.mesh_topology.specs.Band.{bandFrom}
 use Rattle.mesh_topology.specs.Nest.{nest}
-use Rattle.mesh_topology.specs.Quad.{gridAt, joined, quad}
+use Rattle.mesh_topology.specs.Quad.{gridAt, joinedLists, quad}
 use Rattle.mesh_topology.specs.Lines.{isolines}
 use Rattle.patch.specs.Every.{some, every}
 use Rattle.patch.specs.Subdivide.{subdivision}
@@ -25,6 +25,6 @@ use Rattle.patch_mesh.specs.Primitives.{triangles, indexWords}
 use Rattle.patch_mesh.specs.Starred.{worked, starredTable}
 
 pub starred : map worked starredTable ≡ starredTable
-unfolding isNan le ofInt parts segmentsOf asInner position table outerNext stripFrom indices ringAt bandFrom nest gridAt joined quad
+unfolding isNan le ofInt scaledLevel segmentsOf asInner position table outerNext stripFrom indices ringAt bandFrom nest gridAt joinedLists quad
     flat isolines some every subdivision ring rings grid points triangles indexWords
 starred = refl

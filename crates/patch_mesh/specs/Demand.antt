@@ -11,11 +11,11 @@ use Rattle.patch.specs.declared.kinds.Patch.{Patch}
 use Rattle.patch.specs.declared.kinds.Patch.the-variants.{Triangles, Quads, Isolines}
 use Rattle.patch.specs.declared.settings.Settings.{Settings}
 use Rattle.patch.specs.Turn.{turnAsked}
-use Rattle.patch.specs.Subdivide.{outers}
+use Rattle.patch.specs.Subdivide.{outerLevels}
 use Rattle.mesh_geometry.specs.declared.Point.{Point}
 use Rattle.mesh_geometry.specs.Cover.{Cover}
 use Rattle.mesh_geometry.specs.Seam.{OuterEdge, triangleEdge, quadEdge}
-use Rattle.mesh_geometry.specs.Edge.{Run, ring, Placed}
+use Rattle.mesh_geometry.specs.Edge.{Run, ring, EdgesPlaced}
 use Rattle.mesh_geometry.specs.Faces.{facesIn}
 use Rattle.mesh_geometry.specs.TrianglePoints.{trianglePlace, triangleArea}
 use Rattle.mesh_geometry.specs.QuadPoints.{quadPlace, quadArea}
@@ -29,11 +29,11 @@ Surface (Isolines a b) = ⊥
 
 -- the level of outer edge k
 abbrev pub outerLevel : Patch → ℕ → Float
-outerLevel p k = getD (outers p) k nan
+outerLevel p k = getD (outerLevels p) k nan
 
 -- the outer edges; each depends on the spacing, its own level and the top level t alone
 abbrev pub outerRuns : Spacing → ℕ → Patch → List Run
-outerRuns s t p = map (λ x. run (segmentsOf s t x)) (outers p)
+outerRuns s t p = map (λ x. run (segmentsOf s t x)) (outerLevels p)
 
 -- the points of the outline in walk order
 abbrev pub outline : Spacing → ℕ → Patch → List Point
@@ -66,4 +66,4 @@ pub record Demand (set : Settings) (p : Patch) (ps : List Point) (ws : List ℕ)
       → Cover (turnAsked set) (twiceAreaOf p) (outline (set .spacing) (set .top) p) ps (facesIn ps ws)
   -- drawn as triangles or as dots: on each outer edge the points have the places q(0) to q(n) of the spacing, that edge's level
   -- and the top level, and the places mirror. All points count, so no inner point lies on an outer edge
-  pub seams : Surface p → Placed (edges p) ps 0 (outerRuns (set .spacing) (set .top) p)
+  pub seams : Surface p → EdgesPlaced (edges p) ps 0 (outerRuns (set .spacing) (set .top) p)

@@ -8,17 +8,17 @@ use Rattle.patch.specs.declared.kinds.Patch.the-variants.{Triangles, Quads, Iso
 use Rattle.patch.specs.declared.settings.Settings.{Settings}
 use Rattle.patch.specs.Turn.{turnAsked}
 use Rattle.mesh_geometry.specs.declared.Point.{Point}
-use Rattle.mesh_geometry.specs.Held.{Spot, Clear, HeldOnce}
-use Rattle.mesh_geometry.specs.Domain.{triangle, square, Within}
+use Rattle.mesh_geometry.specs.Held.{Spot, OffSides, HeldOnce}
+use Rattle.mesh_geometry.specs.Domain.{triangle, square, InsideDomain}
 use Rattle.mesh_geometry.specs.Faces.{facesIn}
 
 -- the spot lies strictly inside the patch; no spot lies inside isolines
 abbrev pub Inside : Patch → Spot → Type 0
-Inside (Triangles a b c i) s = Within triangle s
-Inside (Quads a b c d i j) s = Within square s
+Inside (Triangles a b c i) s = InsideDomain triangle s
+Inside (Quads a b c d i j) s = InsideDomain square s
 Inside (Isolines a b) s = ⊥
 
 -- the patch is drawn as triangles: exactly one triangle holds each spot that lies strictly inside the patch and on no side
 abbrev pub SpotsOnce : Settings → Patch → List Point → List ℕ → Type 0
-SpotsOnce set p ps ws = set .«point_mode» ≡ false → (s : Spot) → Inside p s → Clear (facesIn ps ws) s
+SpotsOnce set p ps ws = set .«point_mode» ≡ false → (s : Spot) → Inside p s → OffSides (facesIn ps ws) s
     → HeldOnce (turnAsked set) (facesIn ps ws) s

@@ -11,12 +11,12 @@ use Rattle.patch_mesh.specs.Points.{points}
 use Rattle.patch_mesh.specs.Primitives.{indexWords}
 
 -- the points and the index words of a patch
-pub record Output : Type 0 where
+pub record PatchOutput : Type 0 where
   pub vertices : List Point
   pub indices : List ℕ
 
 -- what drawing a patch with these settings gives
-abbrev pub output : Settings → Patch → Output
+abbrev pub output : Settings → Patch → PatchOutput
 output set p =
     record { vertices = points (subdivisionOf set p); indices = indexWords set (subdivisionOf set p) }
 
@@ -25,7 +25,7 @@ abbrev pub samplePatch : Patch
 samplePatch = Triangles level1 level1 level1 level2
 
 -- the sample's points V, W, U and the centre, and its three triangles
-abbrev pub sampleOutput : Output
+abbrev pub sampleOutput : PatchOutput
 sampleOutput = record {
   vertices =
       record { u = 0; v = 196608; w = 0 }

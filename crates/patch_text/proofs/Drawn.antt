@@ -18,16 +18,16 @@ use Rattle.tessellate.specs.declared.answer.PointsAnswer.{PointsAnswer}
 use Rattle.tessellate.specs.declared.answer.PointsAnswer.the-variants as points
 use Rattle.tessellate.specs.declared.answer.IndicesAnswer.{IndicesAnswer}
 use Rattle.tessellate.specs.declared.answer.IndicesAnswer.the-variants as indices
-use Rattle.tessellate.specs.Answers.{toldPoints, toldIndices, pointsOf, indicesOf, verdict}
-use Rattle.answer_codes.specs.Told.{Told, refused, drew}
+use Rattle.tessellate.specs.Answers.{pointsCode, indicesCode, pointsOf, indicesOf, listVerdict}
+use Rattle.answer_codes.specs.AnswerCode.{AnswerCode, refused, drew}
 use Rattle.tessellate.specs.Draws.{DrewPoints, DrewIndices, pointWords, connectionWords}
 use Rattle.tessellate.proofs.Together.{drawn-means}
 use Rattle.level.proofs.Top.{top-as}
 use Rattle.decimal_text.specs.Heads.{discardedLine, refusedLine}
 use Rattle.mesh_text.specs.Widths.{widthOf}
-use Rattle.mesh_text.specs.Lists.{Mesh, listText}
+use Rattle.mesh_text.specs.Lists.{HoldsMesh, listText}
 use Rattle.patch_text.specs.Room.{room, FullSize}
-use Rattle.patch_text.specs.Answers.{Placed, drawnText, recordText}
+use Rattle.patch_text.specs.Answers.{PointsAtFront, drawnText, recordText}
 use Rattle.patch_text.proofs.Rows.{rows-front}
 use Rattle.patch_text.proofs.Sizes.{width-range, points-fit, indices-fit, text-fits}
 
@@ -39,9 +39,9 @@ module _ (set : Settings) (p : Patch) where
   numbered (suc (suc n)) = refusedLine (suc (suc n))
 
   -- if there is room for every good top level, the number of the operation's answer gives the text
-  said : (short need have count : ℕ) → (Top (set .top) → need ≤ have) → {t : Told} → t ≡ verdict set p short need have count → recordText set p ≡ numbered (t .number)
-  unfolding verdict
-  said short need have count long e = go (isTop (set .top)) (discards p) refl ∙ ap (λ (t : Told). numbered (t .number)) (sym e)
+  said : (short need have count : ℕ) → (Top (set .top) → need ≤ have) → {t : AnswerCode} → t ≡ listVerdict set p short need have count → recordText set p ≡ numbered (t .number)
+  unfolding listVerdict
+  said short need have count long e = go (isTop (set .top)) (discards p) refl ∙ ap (λ (t : AnswerCode). numbered (t .number)) (sym e)
     where
       go : (t b : Bool) → isTop (set .top) ≡ t
           → cond t (cond b discardedLine (drawnText set p)) (refusedLine 11)
@@ -51,16 +51,16 @@ module _ (set : Settings) (p : Patch) where
       go true false e = rw (le-ltb have need (long (top-as (set .top) e)))
 
   -- the text that the answers to drawing points and to drawing indices give
-  pub points-said : {v v′ : List ℕ} {r s : PointsAnswer} {n : ℕ} → DrewPoints set p v v′ r → r ≡ s → FullSize (length v) n → recordText set p ≡ numbered (toldPoints s .number)
-  points-said {v} d e h = said 3 (3 * pointsOf set p) (length v) (pointsOf set p) (λ top. omega (arith, points-fit set top p)) (ap toldPoints (sym e) ∙ d .answer)
+  pub points-said : {v v′ : List ℕ} {r s : PointsAnswer} {n : ℕ} → DrewPoints set p v v′ r → r ≡ s → FullSize (length v) n → recordText set p ≡ numbered (pointsCode s .number)
+  points-said {v} d e h = said 3 (3 * pointsOf set p) (length v) (pointsOf set p) (λ top. omega (arith, points-fit set top p)) (ap pointsCode (sym e) ∙ d .answer)
 
-  pub indices-said : {i i′ : List ℕ} {r s : IndicesAnswer} {n : ℕ} → DrewIndices set p i i′ r → r ≡ s → FullSize n (length i) → recordText set p ≡ numbered (toldIndices s .number)
-  indices-said {i} d e h = said 4 (indicesOf set p) (length i) (indicesOf set p) (λ top. omega (arith, indices-fit set top p)) (ap toldIndices (sym e) ∙ d .answer)
+  pub indices-said : {i i′ : List ℕ} {r s : IndicesAnswer} {n : ℕ} → DrewIndices set p i i′ r → r ≡ s → FullSize n (length i) → recordText set p ≡ numbered (indicesCode s .number)
+  indices-said {i} d e h = said 4 (indicesOf set p) (length i) (indicesOf set p) (λ top. omega (arith, indices-fit set top p)) (ap indicesCode (sym e) ∙ d .answer)
 
   -- the points were drawn
-  pub placed : {v v′ : List ℕ} {r : PointsAnswer} {P : ℕ} → DrewPoints set p v v′ r → r ≡ points.Drawn P → Placed set p P v′
+  pub placed : {v v′ : List ℕ} {r : PointsAnswer} {P : ℕ} → DrewPoints set p v v′ r → r ≡ points.Drawn P → PointsAtFront set p P v′
   placed {v} {P = P} d e =
-      let f = drawn-means set p 2 (3 * pointsOf set p) (length v) (pointsOf set p) P (ap toldPoints (sym e) ∙ d .answer) in
+      let f = drawn-means set p 2 (3 * pointsOf set p) (length v) (pointsOf set p) P (ap pointsCode (sym e) ∙ d .answer) in
       record {
         count = f .count;
         lines =
@@ -70,18 +70,18 @@ module _ (set : Settings) (p : Patch) where
 
   -- a drawn patch in two lists: its text fits into the room for one record, and is `recordText`
   pub record Printed (P I : ℕ) (v i : List ℕ) : Type 0 where
-    pub mesh : Mesh (widthOf (set .«point_mode») p) (length v) (length i) P I
+    pub mesh : HoldsMesh (widthOf (set .«point_mode») p) (length v) (length i) P I
     pub fits : 28 + 33 * P + 18 * (I / widthOf (set .«point_mode») p) ≤ room
     pub is : recordText set p ≡ listText (widthOf (set .«point_mode») p) v i P I
 
   -- the points were drawn before, and the indices now
-  pub printed : {P I : ℕ} {v i i′ : List ℕ} {r : IndicesAnswer} → Placed set p P v → FullSize (length v) (length i) → DrewIndices set p i i′ r → length i′ ≡ length i → r ≡ indices.Drawn I
+  pub printed : {P I : ℕ} {v i i′ : List ℕ} {r : IndicesAnswer} → PointsAtFront set p P v → FullSize (length v) (length i) → DrewIndices set p i i′ r → length i′ ≡ length i → r ≡ indices.Drawn I
       → Printed P I v i′
   unfolding drawnText
   printed {P} {I} {v} {i} m h d ei e =
       let w = widthOf (set .«point_mode») p in
       let width = width-range (set .«point_mode») p in
-      let f = drawn-means set p 3 (indicesOf set p) (length i) (indicesOf set p) I (ap toldIndices (sym e) ∙ d .answer) in
+      let f = drawn-means set p 3 (indicesOf set p) (length i) (indicesOf set p) I (ap indicesCode (sym e) ∙ d .answer) in
       record {
         mesh = record {
           some = width .0;

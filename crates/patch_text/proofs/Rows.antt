@@ -7,7 +7,7 @@ use native.Mathlib.Omega.{arith}
 use lib.ListN.{length, drop}
 use lib.Seq.{take-append-le}
 use Rattle.buffer.specs.Over.{over, flat}
-use Rattle.decimal_text.specs.Lines.{line, row, rows}
+use Rattle.decimal_text.specs.Lines.{line, rowLine, rows}
 use Rattle.decimal_text.proofs.Rows.{row-within}
 
 -- pieces that agree up to the last
@@ -16,7 +16,7 @@ unfolding flat
 flat-agree f g i zero h = refl
 flat-agree f g i (suc k) h = rw (h i (omega arith), flat-agree f g (i + 1) k (λ j l. h j (omega arith)))
 
-row-front : (width n : ℕ) (xs ys : List ℕ) → width * n + width ≤ length ys → row width (over xs 0 ys) n ≡ row width ys n
+row-front : (width n : ℕ) (xs ys : List ℕ) → width * n + width ≤ length ys → rowLine width (over xs 0 ys) n ≡ rowLine width ys n
 unfolding over
 row-front width n xs ys h = ap (λ (l : List ℕ). line (drop (width * n) l)) (take-append-le (width * n + width) ys (drop (0 + length ys) xs) h)
 
@@ -24,5 +24,5 @@ row-front width n xs ys h = ap (λ (l : List ℕ). line (drop (width * n) l)) (t
 pub rows-front : (width count : ℕ) (xs ys : List ℕ) → width * count ≤ length ys → rows width (over xs 0 ys) 0 count ≡ rows width ys 0 count
 unfolding rows
 rows-front width count xs ys h =
-    flat-agree (λ i. row width (over xs 0 ys) (0 + i)) (λ i. row width ys (0 + i)) 0 count
+    flat-agree (λ i. rowLine width (over xs 0 ys) (0 + i)) (λ i. rowLine width ys (0 + i)) 0 count
     (λ j l. row-front width (0 + j) xs ys (le-trans (row-within width (0 + j) count (omega arith)) h))

@@ -15,7 +15,7 @@ use Rattle.mesh_text.specs.Widths.{widthOf}
 use Rattle.mesh_text.specs.Lists.{listText}
 
 -- the P points of a patch are at the front of a list
-pub record Placed (set : Settings) (p : Patch) (P : ℕ) (vertices : List ℕ) : Type 0 where
+pub record PointsAtFront (set : Settings) (p : Patch) (P : ℕ) (vertices : List ℕ) : Type 0 where
   pub count : P ≡ pointsOf set p
   pub lines : rows 3 vertices 0 P ≡ rows 3 (pointWords set p) 0 (pointsOf set p)
 

@@ -2,7 +2,7 @@
 ghost use Prim.Native.Nat.{_+_, _≤_};
 ghost use lib.ListN.{length};
 ghost use Rattle.buffer.specs.Over.{Wrote};
-ghost use Rattle.patch_text.specs.Answers.{Placed, recordText};
+ghost use Rattle.patch_text.specs.Answers.{PointsAtFront, recordText};
 ghost use Rattle.patch_text.specs.Room.{room, FullSize};
 use mesh_text::lists::put_mesh;
 use mesh_text::width::width_of;
@@ -21,7 +21,7 @@ fn put_indexed(
     points: u32,
     indices: &mut [u16],
 ) -> usize
-    requires { ⌜ Placed settings patch points (now vertices) ⌝ ∗ ⌜ FullSize (length (now vertices)) (length (now indices)) ⌝ ∗ ⌜ at + room ≤ length (now out) ⌝ }
+    requires { ⌜ PointsAtFront settings patch points (now vertices) ⌝ ∗ ⌜ FullSize (length (now vertices)) (length (now indices)) ⌝ ∗ ⌜ at + room ≤ length (now out) ⌝ }
     ensures { λ r. ⌜ Wrote (now (out .entry)) at (recordText settings patch) (now (out .exit)) r ⌝ }
 {
     let width = width_of(patch, settings.point_mode);

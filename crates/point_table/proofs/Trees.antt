@@ -13,9 +13,9 @@ use Rattle.mesh_geometry.specs.Faces.{at}
 use Rattle.check_searches.specs.Points.{samePoint, repeats}
 use Rattle.check_searches.proofs.First.{some-none, some-here}
 use Rattle.check_searches.proofs.Equal.{same-is}
-use Rattle.point_table.specs.Trees.{slotOf, turned, restAfter, nextPlace, placeAt, Way, Held, PointTable, Sought}
+use Rattle.point_table.specs.Trees.{slotOf, pathStep, restAfter, nextPlace, placeAt, Way, PathHolds, PointTable, PointSought}
 use Rattle.point_table.specs.Trees.Way.{steps}
-use Rattle.point_table.specs.Trees.Held.{held}
+use Rattle.point_table.specs.Trees.PathHolds.{held}
 
 test-false : (b : Bool) → (b ≡ true → ⊥) → b ≡ false
 test-false true h = absurd (h refl)
@@ -39,24 +39,24 @@ module _ (ps : List Point) (t : List ℕ) (slots : ℕ) (p : Point) where
   unfolding placeAt
   step-is d l = next-is (placeAt t slots p d) (getD t (placeAt t slots p d) 0) (restAfter p d .u % 2) l
 
-  rest-step : (d : ℕ) → restAfter p (suc d) ≡ turned (restAfter p d)
+  rest-step : (d : ℕ) → restAfter p (suc d) ≡ pathStep (restAfter p d)
   unfolding restAfter
   rest-step d = refl
 
   -- past a point other than p
-  pub passed-more : {rest rest′ : Point} {x : ℕ} (k b : ℕ) → Passed ps t slots p rest x → k ≡ getD t x 0 → 0 < k → samePoint (at ps (k - 1)) p ≡ false → rest′ ≡ turned rest → b ≡ rest .u % 2
+  pub passed-more : {rest rest′ : Point} {x : ℕ} (k b : ℕ) → Passed ps t slots p rest x → k ≡ getD t x 0 → 0 < k → samePoint (at ps (k - 1)) p ≡ false → rest′ ≡ pathStep rest → b ≡ rest .u % 2
       → Passed ps t slots p rest′ (slots + 2 * (k - 1) + b)
   passed-more {rest} {rest′} {x} k b (passing d r e h) v l s r′ f =
       let place : k ≡ getD t (placeAt t slots p d) 0 = v ∙ ap (λ (y : ℕ). getD t y 0) e in
       let bit : b ≡ restAfter p d .u % 2 = f ∙ ap (λ (q : Point). q .u % 2) r in
-      passing (suc d) (r′ ∙ ap turned r ∙ sym (rest-step d)) (rw (place, bit) (sym (step-is d (rw place at l))))
+      passing (suc d) (r′ ∙ ap pathStep r ∙ sym (rest-step d)) (rw (place, bit) (sym (step-is d (rw place at l))))
       (λ i m. elim (decLe d i) [
         | yes y ↦ (let z : i ≡ d = omega arith in rw (z, ← place) (l, s))
         | no y ↦ h i (omega arith)
       ])
 
   -- at an empty place: no point in the table equals p
-  meets : {rest : Point} {x : ℕ} → Passed ps t slots p rest x → getD t x 0 ≡ 0 → (i : ℕ) → samePoint (at ps i) p ≡ true → Held t slots p (suc i) → ⊥
+  meets : {rest : Point} {x : ℕ} → Passed ps t slots p rest x → getD t x 0 ≡ 0 → (i : ℕ) → samePoint (at ps i) p ≡ true → PathHolds t slots p (suc i) → ⊥
   meets (passing d r e h) z i s (held y (steps b f o) v) = elim (decLe d b) [
     | yes m ↦ elim (decLe b d) [
       | yes m′ ↦ (let q : b ≡ d = omega arith in let w : suc i ≡ 0 = sym v ∙ ap (λ (j : ℕ). getD t j 0) (f ∙ ap (placeAt t slots p) q ∙ sym e) ∙ z in omega arith)
@@ -77,10 +77,10 @@ module _ (ps : List Point) (t : List ℕ) (slots : ℕ) (p : Point) where
 
 -- ---- a search ends at a point equal to p, or at an empty place
 module _ {ps : List Point} {slots n : ℕ} {t : List ℕ} {p rest : Point} {x : ℕ} (h : Passed ps t slots p rest x) (l : x < slots + 2 * n) where
-  pub sought-at : (k : ℕ) → k ≡ getD t x 0 → 0 < k → samePoint (at ps (k - 1)) p ≡ true → Sought ps slots n t p x
+  pub sought-at : (k : ℕ) → k ≡ getD t x 0 → 0 < k → samePoint (at ps (k - 1)) p ≡ true → PointSought ps slots n t p x
   sought-at k e g s = record { place = l; found = λ z. rw (← e) s; none = λ z. absurd (omega arith); way = passed-way ps t slots p h }
 
-  pub sought-empty : PointTable ps slots n t → getD t x 0 ≡ 0 → Sought ps slots n t p x
+  pub sought-empty : PointTable ps slots n t → getD t x 0 ≡ 0 → PointSought ps slots n t p x
   sought-empty g z = record { place = l; found = λ m. absurd (omega arith); none = λ e. passed-all ps t slots p g h e; way = passed-way ps t slots p h }
 
 -- ---- the table with one more point, at an empty place
@@ -106,7 +106,7 @@ equal-or x y P f g = elim (decLe x y) [
   | no p ↦ g (λ e. omega arith)
 ]
 
-module _ (ps : List Point) (slots n : ℕ) (t : List ℕ) (g : PointTable ps slots n t) (x : ℕ) (s : Sought ps slots n t (at ps n) x) (z : getD t x 0 ≡ 0) (fits : slots + 2 * (n + 1) ≤ length t) where
+module _ (ps : List Point) (slots n : ℕ) (t : List ℕ) (g : PointTable ps slots n t) (x : ℕ) (s : PointSought ps slots n t (at ps n) x) (z : getD t x 0 ≡ 0) (fits : slots + 2 * (n + 1) ≤ length t) where
   here : getD (set t x (n + 1)) x 0 ≡ n + 1
   here = getD-set-same t x (n + 1) 0 (omega (arith, s .place))
 
@@ -120,10 +120,10 @@ module _ (ps : List Point) (slots n : ℕ) (t : List ℕ) (g : PointTable ps slo
       (λ e l. rw (e, here) (omega (arith, s .place)))
       (λ e. rw (getD-set-other t x y (n + 1) 0 e) (g .down y))
 
-  held-kept : (q : Point) (k : ℕ) → 0 < k → Held t slots q k → Held (set t x (n + 1)) slots q k
+  held-kept : (q : Point) (k : ℕ) → 0 < k → PathHolds t slots q k → PathHolds (set t x (n + 1)) slots q k
   held-kept q k l (held y w e) = held y (way-kept t slots x (n + 1) z q y w) (other t slots x (n + 1) z y (rw e l) ∙ e)
 
-  there-more : (i : ℕ) → i < n + 1 → Held (set t x (n + 1)) slots (at ps i) (suc i)
+  there-more : (i : ℕ) → i < n + 1 → PathHolds (set t x (n + 1)) slots (at ps i) (suc i)
   there-more i l = elim (decLe n i) [
     | yes p ↦ (let e : i ≡ n = omega arith in let f : n + 1 ≡ suc n = omega arith in rw e (held x (way-kept t slots x (n + 1) z (at ps n) x (s .way)) (here ∙ f)))
     | no p ↦ held-kept (at ps i) (suc i) (omega arith) (g .there i (omega arith))
@@ -142,7 +142,7 @@ pub table-none : (ps : List Point) (slots n : ℕ) → slots ≤ length (replica
 table-none ps slots n l = record { room = omega arith; most = λ x. omega (arith, zero-at n x); down = λ x m. absurd (omega (arith, zero-at n x)); there = λ i m. absurd (omega arith) }
 
 -- ---- what a search for the next point shows
-module _ {ps : List Point} {slots n : ℕ} {t : List ℕ} {p : Point} {x : ℕ} (s : Sought ps slots n t p x) (e : p ≡ at ps n) where
+module _ {ps : List Point} {slots n : ℕ} {t : List ℕ} {p : Point} {x : ℕ} (s : PointSought ps slots n t p x) (e : p ≡ at ps n) where
   pub sought-new : getD t x 0 ≡ 0 → repeats ps n ≡ false
   sought-new z = some-none (λ i. samePoint (at ps i) (at ps n)) n (λ i l. rw e at (s .none z i l))
 

@@ -13,13 +13,13 @@ unfoldable pub slotOf : ℕ → Point → ℕ
 slotOf n p = (p .u + 65 * p .v + 4225 * p .w) % n
 
 -- the coordinates after one step: the lowest bit of the first is dropped, and the first becomes the last
-abbrev pub turned : Point → Point
-turned p = record { u = p .v; v = p .w; w = p .u / 2 }
+abbrev pub pathStep : Point → Point
+pathStep p = record { u = p .v; v = p .w; w = p .u / 2 }
 
 -- the coordinates after d steps
 unfoldable pub restAfter : Point → ℕ → Point
 restAfter p zero = p
-restAfter p (suc d) = turned (restAfter p d)
+restAfter p (suc d) = pathStep (restAfter p d)
 
 -- the place that follows place x, which holds k, for a point whose next bit is b; x itself if it is empty (k = 0)
 abbrev pub nextPlace : ℕ → ℕ → ℕ → ℕ → ℕ
@@ -36,18 +36,18 @@ pub data Way (t : List ℕ) (slots : ℕ) (p : Point) (x : ℕ) : Type 0 where
   steps : (d : ℕ) → x ≡ placeAt t slots p d → ((e : ℕ) → e < d → 0 < getD t (placeAt t slots p e) 0) → Way t slots p x
 
 -- a place on the path of p holds k
-pub data Held (t : List ℕ) (slots : ℕ) (p : Point) (k : ℕ) : Type 0 where
-  held : (x : ℕ) → Way t slots p x → getD t x 0 ≡ k → Held t slots p k
+pub data PathHolds (t : List ℕ) (slots : ℕ) (p : Point) (k : ℕ) : Type 0 where
+  held : (x : ℕ) → Way t slots p x → getD t x 0 ≡ k → PathHolds t slots p k
 
 -- the table holds the first n points
 pub record PointTable (ps : List Point) (slots n : ℕ) (t : List ℕ) : Type 0 where
   pub room : slots + 2 * n ≤ length t
   pub most : (x : ℕ) → getD t x 0 ≤ n
   pub down : (x : ℕ) → 0 < getD t x 0 → x + 2 < slots + 2 * getD t x 0
-  pub there : (i : ℕ) → i < n → Held t slots (at ps i) (suc i)
+  pub there : (i : ℕ) → i < n → PathHolds t slots (at ps i) (suc i)
 
 -- x is the place of a point equal to p, or, if none of the first n points equals p, the empty place for it
-pub record Sought (ps : List Point) (slots n : ℕ) (t : List ℕ) (p : Point) (x : ℕ) : Type 0 where
+pub record PointSought (ps : List Point) (slots n : ℕ) (t : List ℕ) (p : Point) (x : ℕ) : Type 0 where
   pub place : x < slots + 2 * n
   pub found : 0 < getD t x 0 → samePoint (at ps (getD t x 0 - 1)) p ≡ true
   pub none : getD t x 0 ≡ 0 → (i : ℕ) → i < n → samePoint (at ps i) p ≡ false

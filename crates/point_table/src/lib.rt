@@ -7,7 +7,7 @@ ghost use Prim.Native.Nat.{_+_, _*_, _/_, _%_, _≤_, _<_};
 ghost use lib.ListN.{length};
 ghost use Rattle.mesh_geometry.specs.Words.{readPoints};
 ghost use Rattle.check_searches.specs.Points.{firstRepeated};
-ghost use Rattle.point_table.specs.Trees.{slotOf, turned, PointTable, Sought};
+ghost use Rattle.point_table.specs.Trees.{slotOf, pathStep, PointTable, PointSought};
 use check_searches::point::lies_at;
 use check_searches::point::point_at;
 use mesh_geometry::Point;
@@ -29,7 +29,7 @@ fn next_bit(p: Point) -> usize
 
 // Returns the coordinates after one step: the lowest bit of the first is dropped, and the first becomes the last.
 fn turn(p: Point) -> Point
-    ensures { λ r. ⌜ r ≡ turned p ⌝ }
+    ensures { λ r. ⌜ r ≡ pathStep p ⌝ }
 {
     Point {
         u: p.v,
@@ -41,7 +41,7 @@ fn turn(p: Point) -> Point
 // Returns the place of a point equal to p in the table of the first `count` points, or the empty place for it.
 pub fn seek(points: &[u32], count: usize, table: &[u16], slots: usize, p: Point) -> usize
     requires { ⌜ PointTable (readPoints (now points)) slots count (now table) ⌝ ∗ ⌜ count ≤ length (now points) / 3 ⌝ ∗ ⌜ 0 < slots ⌝ }
-    ensures { λ x. ⌜ Sought (readPoints (now (points .entry))) slots count (now (table .entry)) p x ⌝ }
+    ensures { λ x. ⌜ PointSought (readPoints (now (points .entry))) slots count (now (table .entry)) p x ⌝ }
 {
     let mut x = slot_of(p, slots);
     let mut rest = p;

@@ -8,12 +8,12 @@ use native.Mathlib.Decide.{ℕ-discrete, decLe, decLt}
 use native.Mathlib.Omega.{arith}
 use lib.ListN.{length, take, drop, length-drop}
 use lib.Seq.{drop-drop}
-use Rattle.job.specs.Header.{startsWith, versionIn}
+use Rattle.job.specs.Header.{startsWith, versionNumberIn}
 use Rattle.job.proofs.Marks.{starts-take, take-starts}
 use Rattle.replay.specs.declared.answer.Replay.{Replay}
 use Rattle.replay.specs.declared.answer.Replay.the-variants.{AllAgree, Differs, NotARecording, UnknownVersion, CutEntry}
 use Rattle.replay_entry.specs.Entries.{recorded, replayed, agrees}
-use Rattle.replay.specs.Replays.{mark, entrySize, entriesFrom, replayOf}
+use Rattle.replay.specs.Replays.{recordingMark, entrySize, entriesFrom, replayOf}
 use Rattle.replay.specs.Means.{Headed, entryAt, AgreesAt, AgreeBefore, wholeEntries, ReplayMeans}
 use Rattle.replay_entry.proofs.Sides.{same-equal, equal-same, differ-same}
 use Rattle.replay.proofs.Headers.{start-short, start-other, start-version, start-right}
@@ -43,18 +43,18 @@ module _ (bs : List ℕ) where
 
   headed : {r : Replay} → Headed bs → from 0 ≡ r → replayOf bs ≡ r
   unfolding replayOf
-  headed h e = rw (start-right bs (h .long) (take-starts mark bs (h .marked)) (h .version)) e
+  headed h e = rw (start-right bs (h .long) (take-starts recordingMark bs (h .marked)) (h .version)) e
 
-  not-marked : (take 3 bs ≡ mark → ⊥) → (t : Bool) → startsWith mark bs ≡ t → replayOf bs ≡ NotARecording
+  not-marked : (take 3 bs ≡ recordingMark → ⊥) → (t : Bool) → startsWith recordingMark bs ≡ t → replayOf bs ≡ NotARecording
   unfolding replayOf
-  not-marked d true m = absurd (d (starts-take mark bs m))
+  not-marked d true m = absurd (d (starts-take recordingMark bs m))
   not-marked d false m = rw (start-other bs m)
 
   means-replay : (r : Replay) → ReplayMeans bs r → replayOf bs ≡ r
   unfolding replayOf
   means-replay NotARecording (inl h) = rw (start-short bs h)
-  means-replay NotARecording (inr d) = not-marked d (startsWith mark bs) refl
-  means-replay UnknownVersion (h, m, p) = rw (start-version bs h (take-starts mark bs m) p)
+  means-replay NotARecording (inr d) = not-marked d (startsWith recordingMark bs) refl
+  means-replay UnknownVersion (h, m, p) = rw (start-version bs h (take-starts recordingMark bs m) p)
   means-replay (AllAgree n) (h, l, a) = headed h (skip n (omega arith) a ∙ entries-none n (drop (5 + entrySize * n) bs) (omega (arith, left n)))
   means-replay CutEntry (h, l, a) =
       let n = wholeEntries bs in
@@ -94,18 +94,18 @@ module _ (bs : List ℕ) where
     headed-means : ReplayMeans bs (replayOf bs)
     headed-means = subst (ReplayMeans bs) (sym (headed h refl)) (from-means (wholeEntries bs) 0 (omega arith) (λ i l. absurd (omega arith)))
 
-  by-mark : 5 ≤ length bs → (t : Bool) → startsWith mark bs ≡ t → ReplayMeans bs (replayOf bs)
+  by-mark : 5 ≤ length bs → (t : Bool) → startsWith recordingMark bs ≡ t → ReplayMeans bs (replayOf bs)
   by-mark h false m =
-      let d : take 3 bs ≡ mark → ⊥ = λ e. false≢true (sym m ∙ take-starts mark bs e) in
+      let d : take 3 bs ≡ recordingMark → ⊥ = λ e. false≢true (sym m ∙ take-starts recordingMark bs e) in
       rw (not-marked d false m) (inr d)
-  by-mark h true m = elim (ℕ-discrete (versionIn bs) 1) [
-    | yes v ↦ headed-means (record { long = h; marked = starts-take mark bs m; version = v })
-    | no p ↦ let w : ReplayMeans bs UnknownVersion = (h, starts-take mark bs m, p) in rw (means-replay UnknownVersion w) w
+  by-mark h true m = elim (ℕ-discrete (versionNumberIn bs) 1) [
+    | yes v ↦ headed-means (record { long = h; marked = starts-take recordingMark bs m; version = v })
+    | no p ↦ let w : ReplayMeans bs UnknownVersion = (h, starts-take recordingMark bs m, p) in rw (means-replay UnknownVersion w) w
   ]
 
   replay-means : ReplayMeans bs (replayOf bs)
   replay-means = elim (decLe 5 (length bs)) [
-    | yes h ↦ by-mark h (startsWith mark bs) refl
+    | yes h ↦ by-mark h (startsWith recordingMark bs) refl
     | no h ↦ let k : length bs < 5 = omega arith in rw (means-replay NotARecording (inl k)) (inl k)
   ]
 

@@ -12,13 +12,13 @@ use Rattle.replay.specs.declared.answer.Replay.{Replay}
 use Rattle.replay.specs.declared.answer.Replay.the-variants.{AllAgree, Differs, NotARecording, UnknownVersion, CutEntry}
 use Rattle.replay_entry.specs.Entries.{recorded, replayed}
 use Rattle.replay.specs.Replays.{entrySize, replayOf}
-use Rattle.replay.specs.Told.{toldReplay}
+use Rattle.replay.specs.ReplayCode.{replayCode}
 use Rattle.replay.specs.Means.{Headed, entryAt, AgreesAt, AgreeBefore, ReplayMeans, ReplaySaid}
 use Rattle.replay.proofs.Exactly.{replay-exactly}
 
 -- the number of a refusal
 abbrev Numbered : Replay → ℕ → Type 0
-Numbered r n = toldReplay r .refusal ≡ n ∷ []
+Numbered r n = replayCode r .refusal ≡ n ∷ []
 
 first : {xs ys : List ℕ} → xs ≡ ys → getD xs 0 0 ≡ getD ys 0 0
 first e = ap (λ (l : List ℕ). getD l 0 0) e
@@ -39,7 +39,7 @@ module _ (bs : List ℕ) where
   numbered : (r : Replay) → r ≡ replayOf bs → (n : ℕ) → Numbered (ofNumber (suc n)) (suc n) → Numbered r (suc n) ↔ ReplayMeans bs (ofNumber (suc n))
   numbered r e n told = (
     λ t. replay-exactly bs (ofNumber (suc n)) .0 (sym e ∙ only r n t),
-    λ m. ap (λ (x : Replay). toldReplay x .refusal) (e ∙ replay-exactly bs (ofNumber (suc n)) .1 m) ∙ told,
+    λ m. ap (λ (x : Replay). replayCode x .refusal) (e ∙ replay-exactly bs (ofNumber (suc n)) .1 m) ∙ told,
   )
 
   -- an answer that equals `replayOf` satisfies the whole contract

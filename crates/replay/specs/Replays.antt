@@ -4,14 +4,14 @@ use mathlib.Core.Bool.{Bool, cond}
 use mathlib.Core.List.{List, [], _∷_}
 use lib.Dec.{eqb}
 use lib.ListN.{length, take, drop}
-use Rattle.job.specs.Header.{lacksMark, versionIn}
+use Rattle.job.specs.Header.{lacksMark, versionNumberIn}
 use Rattle.replay.specs.declared.answer.Replay.{Replay}
 use Rattle.replay.specs.declared.answer.Replay.the-variants.{AllAgree, Differs, NotARecording, UnknownVersion, CutEntry}
 use Rattle.replay_entry.specs.Entries.{recorded, replayed, agrees}
 
 -- the mark: the bytes of "TSR"
-abbrev pub mark : List ℕ
-mark = 0x54 ∷ 0x53 ∷ 0x52 ∷ []
+abbrev pub recordingMark : List ℕ
+recordingMark = 0x54 ∷ 0x53 ∷ 0x52 ∷ []
 
 -- how many bytes an entry has: a record of 29, the answer's number, and two counts of two bytes each
 abbrev pub entrySize : ℕ
@@ -19,11 +19,11 @@ entrySize = 34
 
 -- answer 5, not a recording: fewer than 5 bytes, or another mark
 abbrev pub notARecording : List ℕ → Bool
-notARecording bs = lacksMark mark bs
+notARecording bs = lacksMark recordingMark bs
 
 -- the answer after the header: 5, 6 if the version is not 1, or that all of 0 entries agree
-unfoldable pub startOf : List ℕ → Replay
-startOf bs = cond (notARecording bs) NotARecording (cond (eqb (versionIn bs) 1) (AllAgree 0) UnknownVersion)
+unfoldable pub replayStart : List ℕ → Replay
+replayStart bs = cond (notARecording bs) NotARecording (cond (eqb (versionNumberIn bs) 1) (AllAgree 0) UnknownVersion)
 
 -- the answer for n whole entries, the first of which is entry k, and the bytes after them
 unfoldable pub sayEntries : ℕ → ℕ → List ℕ → Replay
@@ -45,7 +45,7 @@ goOn CutEntry bs = CutEntry
 
 -- the answer for the bytes of a recording: its header, then its entries
 unfoldable pub replayOf : List ℕ → Replay
-replayOf bs = goOn (startOf bs) (drop 5 bs)
+replayOf bs = goOn (replayStart bs) (drop 5 bs)
 
 -- counting n more entries stays within 64 bits
 abbrev pub Countable : Replay → ℕ → Type 0

@@ -4,7 +4,7 @@ ghost use Prim.Native.Nat.{_+_, _/_, _≤_};
 ghost use lib.ListN.{length};
 ghost use Rattle.patch_text.specs.Room.{FullSize};
 ghost use Rattle.replay.specs.Means.{ReplaySaid};
-ghost use Rattle.replay.specs.Replays.{startOf, entriesFrom, goOn, Countable};
+ghost use Rattle.replay.specs.Replays.{replayStart, entriesFrom, goOn, Countable};
 use crate::answer::Replay;
 use job::header::lacks_mark;
 use job::header::read_version;
@@ -19,7 +19,7 @@ const VERSION: u16 = 1;
 
 // Returns the answer after the header: that all of 0 entries agree, or the refusal.
 pub fn read_start(bytes: &[u8]) -> Replay
-    ensures { λ r. ⌜ r ≡ startOf (now (bytes .entry)) ⌝ }
+    ensures { λ r. ⌜ r ≡ replayStart (now (bytes .entry)) ⌝ }
 {
     if lacks_mark(bytes, &MARK) {
         return Replay::NotARecording;

@@ -9,7 +9,7 @@ use lib.ListN.{getD}
 use Rattle.replay_entry.specs.declared.outcome.Outcome.{Outcome}
 use Rattle.replay.specs.declared.answer.Replay.{Replay}
 use Rattle.replay.specs.declared.answer.Replay.the-variants.{AllAgree, Differs, NotARecording, UnknownVersion, CutEntry}
-use Rattle.replay.specs.Told.{toldReplay}
+use Rattle.replay.specs.ReplayCode.{replayCode}
 use Rattle.replay.proofs.Exactly.{replay-exactly}
 use Rattle.answer_codes.specs.Reports.{Reports}
 use Rattle.answer_codes.proofs.Exactly.{number-exactly, answered-exactly}
@@ -22,7 +22,7 @@ answerIn n w =
     (cond (eqb n 60) (Differs (getD w 0 0) (sideIn w 1) (sideIn w 4)) (cond (eqb n 5) NotARecording (cond (eqb n 6) UnknownVersion CutEntry)))
 
 abbrev wordsOf : Replay → List ℕ
-wordsOf a = sevenWords (toldReplay a .values)
+wordsOf a = sevenWords (replayCode a .values)
 
 same-answer : (a : Replay) → answerIn (callNumber a) (wordsOf a) ≡ a
 same-answer (AllAgree n) = refl
@@ -33,7 +33,7 @@ same-answer CutEntry = refl
 
 pub replay-call-exactly : (bs : List ℕ) {w′ : List ℕ} {r : ℕ} → ReplayCalled bs w′ r → ReplayExactly bs w′ r
 replay-call-exactly bs c =
-    let told : Reports callNumber wordsOf _ _ _ = record { number = c .number; words = c .told } in
+    let told : Reports callNumber wordsOf _ _ _ = record { number = c .number; words = c .values } in
     record {
       answers = answered-exactly answerIn (same-answer _) told same-answer (replay-exactly bs);
       agrees = number-exactly answerIn (same-answer _) told (replay-exactly bs) 0 refl;

@@ -7,7 +7,7 @@ use lib.ListN.{getD}
 use Rattle.replay_entry.specs.declared.outcome.Outcome.{Outcome}
 use Rattle.replay.specs.declared.answer.Replay.{Replay}
 use Rattle.replay.specs.declared.answer.Replay.the-variants.{AllAgree, Differs, NotARecording, UnknownVersion, CutEntry}
-use Rattle.replay.specs.Told.{toldReplay}
+use Rattle.replay.specs.ReplayCode.{replayCode}
 use Rattle.replay.specs.Replays.{replayOf}
 use Rattle.replay.specs.Means.{ReplayMeans}
 use Rattle.answer_codes.specs.Reports.{AnsweredExactly}
@@ -27,7 +27,7 @@ sevenWords vs = getD vs 0 0 ∷ getD vs 1 0 ∷ getD vs 2 0 ∷ getD vs 3 0 ∷ 
 -- the contract of the call
 pub record ReplayCalled (bs w′ : List ℕ) (r : ℕ) : Type 0 where
   pub number : r ≡ callNumber (replayOf bs)
-  pub told : w′ ≡ sevenWords (toldReplay (replayOf bs) .values)
+  pub values : w′ ≡ sevenWords (replayCode (replayOf bs) .values)
 
 -- the recorded (k = 1) or the replayed (k = 4) answer in the seven words
 abbrev pub sideIn : List ℕ → ℕ → Outcome
@@ -36,7 +36,7 @@ sideIn w k = record { answer = getD w k 0; points = getD w (k + 1) 0; indices = 
 -- when the call gives each number, and what it leaves in memory
 pub record ReplayExactly (bs w′ : List ℕ) (r : ℕ) : Type 0 where
   -- each answer is given, by number and words, exactly if it is right
-  pub answers : AnsweredExactly callNumber (λ a. sevenWords (toldReplay a .values)) (ReplayMeans bs) w′ r
+  pub answers : AnsweredExactly callNumber (λ a. sevenWords (replayCode a .values)) (ReplayMeans bs) w′ r
   -- the same for each number
   pub agrees : (r ≡ 0) ↔ ReplayMeans bs (AllAgree (getD w′ 0 0))
   pub not-a-recording : (r ≡ 5) ↔ ReplayMeans bs NotARecording

@@ -1,6 +1,6 @@
 // An answer as a number, and as the words in memory.
 ghost use mathlib.Core.Path.{_≡_};
-ghost use Rattle.replay.specs.Told.{toldReplay};
+ghost use Rattle.replay.specs.ReplayCode.{replayCode};
 ghost use Rattle.replay_exports.specs.Calls.{callNumber, sevenWords};
 use replay::answer::Replay;
 use replay_entry::outcome::Outcome;
@@ -23,7 +23,7 @@ pub(crate) fn number_of(answer: Replay) -> u32
 
 // The words for an entry and both its answers.
 fn seven_words(entry: u64, recorded: Outcome, replayed: Outcome) -> [u64; 7]
-    ensures { λ r. ⌜ r ≡ sevenWords (toldReplay (Replay.Differs entry recorded replayed) .values) ⌝ }
+    ensures { λ r. ⌜ r ≡ sevenWords (replayCode (Replay.Differs entry recorded replayed) .values) ⌝ }
 {
     [
         entry,
@@ -37,7 +37,7 @@ fn seven_words(entry: u64, recorded: Outcome, replayed: Outcome) -> [u64; 7]
 }
 
 pub(crate) fn words_of(answer: Replay) -> [u64; 7]
-    ensures { λ r. ⌜ r ≡ sevenWords (toldReplay answer .values) ⌝ }
+    ensures { λ r. ⌜ r ≡ sevenWords (replayCode answer .values) ⌝ }
 {
     match answer {
         Replay::AllAgree { entries } => [entries, 0, 0, 0, 0, 0, 0],

@@ -4,7 +4,7 @@ use mathlib.Core.List.{List, [], _∷_, _++_}
 use lib.ListN.{length, getD}
 use Rattle.tessellate.specs.declared.answer.PointsAnswer.{PointsAnswer}
 use Rattle.tessellate.specs.declared.answer.IndicesAnswer.{IndicesAnswer}
-use Rattle.tessellate.specs.Answers.{toldPoints, toldIndices}
+use Rattle.tessellate.specs.Answers.{pointsCode, indicesCode}
 use Rattle.tessellate.specs.Draws.{DrewPoints, DrewIndices}
 use Rattle.patch_text.specs.Room.{FullSize}
 use Rattle.job_fields.specs.declared.version.Version.the-variants.{One}
@@ -15,16 +15,16 @@ use Rattle.job_bytes.specs.Written.{recordBytes}
 use Rattle.job_bytes.specs.Patterns.{Agrees}
 use Rattle.job_writer.specs.Whole.{Writable}
 use Rattle.replay_entry.specs.declared.outcome.Outcome.{Outcome}
-use Rattle.replay.specs.Replays.{mark}
+use Rattle.replay.specs.Replays.{recordingMark}
 
 -- a call: a record, and the answers of the two drawing operations to it
-pub record Call : Type 0 where
+pub record RecordedCall : Type 0 where
   pub entry : Record
   pub points : PointsAnswer
   pub indices : IndicesAnswer
 
 -- the call was made: the record can be written, and both operations were called for its patch with full-size lists
-pub record Made (c : Call) : Type 0 where
+pub record WasMade (c : RecordedCall) : Type 0 where
   pub writable : Writable One (c .entry)
   pub levels : Agrees (c .entry)
   pub v : List ℕ
@@ -36,16 +36,16 @@ pub record Made (c : Call) : Type 0 where
   pub drew-indices : DrewIndices (c .entry .settings) (patchOf (c .entry)) i i′ (c .indices)
 
 -- every call of the list was made
-pub data AllMade : List Call → Type 0 where
+pub data AllMade : List RecordedCall → Type 0 where
   none : AllMade []
-  more : {c : Call} {cs : List Call} → Made c → AllMade cs → AllMade (c ∷ cs)
+  more : {c : RecordedCall} {cs : List RecordedCall} → WasMade c → AllMade cs → AllMade (c ∷ cs)
 
 -- the number of the answer and both counts, which are 0 unless drawn
-abbrev pub answered : Call → Outcome
-answered c = record {
-  answer = toldPoints (c .points) .number;
-  points = getD (toldPoints (c .points) .values) 0 0;
-  indices = getD (toldIndices (c .indices) .values) 0 0;
+abbrev pub answeredOutcome : RecordedCall → Outcome
+answeredOutcome c = record {
+  answer = pointsCode (c .points) .number;
+  points = getD (pointsCode (c .points) .values) 0 0;
+  indices = getD (indicesCode (c .indices) .values) 0 0;
 }
 
 -- an answer in an entry: one byte for its number, two for each count, low byte first
@@ -53,18 +53,18 @@ abbrev pub outcomeBytes : Outcome → List ℕ
 outcomeBytes o = (o .answer ∷ []) ++ (lowBytes 2 (o .points) ++ lowBytes 2 (o .indices))
 
 -- an entry: the record, then the answer
-unfoldable pub entryBytes : Call → List ℕ
-entryBytes c = recordBytes One (c .entry) ++ outcomeBytes (answered c)
+unfoldable pub entryBytes : RecordedCall → List ℕ
+entryBytes c = recordBytes One (c .entry) ++ outcomeBytes (answeredOutcome c)
 
 -- the bytes of entries, joined
-unfoldable pub entriesBytes : List Call → List ℕ
+unfoldable pub entriesBytes : List RecordedCall → List ℕ
 entriesBytes [] = []
 entriesBytes (c ∷ cs) = entryBytes c ++ entriesBytes cs
 
 -- the header: the mark, and version 1
-abbrev pub headerBytes : List ℕ
-headerBytes = mark ++ lowBytes 2 1
+abbrev pub recordingHeader : List ℕ
+recordingHeader = recordingMark ++ lowBytes 2 1
 
 -- the recording of a list of calls
-abbrev pub recordingOf : List Call → List ℕ
-recordingOf cs = headerBytes ++ entriesBytes cs
+abbrev pub recordingOf : List RecordedCall → List ℕ
+recordingOf cs = recordingHeader ++ entriesBytes cs

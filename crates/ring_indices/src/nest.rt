@@ -6,7 +6,7 @@ ghost use Rattle.strip.specs.Triangles.{indices};
 ghost use Rattle.mesh_topology.specs.Ring.{ringAt};
 ghost use Rattle.mesh_topology.specs.Band.{band};
 ghost use mathlib.Core.Path.{_≡_};
-ghost use Rattle.strip_blocks.specs.Blocks.{patternOf};
+ghost use Rattle.strip_blocks.specs.Blocks.{blockPattern};
 ghost use Rattle.mesh_topology.specs.Nest.{ringEdges, nest, count};
 use crate::ring::Ring;
 use strip::triangle::Triangle;
@@ -46,7 +46,7 @@ fn write_long_band(
     pattern: &[u16; 48],
     positive: bool,
 ) -> usize
-    requires { ⌜ now pattern ≡ patternOf positive ⌝ ∗ ⌜ (10 ≤ r) × (r ≤ 62) × (base < 8192) ⌝ ∗ ⌜ at + 3 * (3 * (r + 2) + 3 * r) ≤ length (now out) ⌝ }
+    requires { ⌜ now pattern ≡ blockPattern positive ⌝ ∗ ⌜ (10 ≤ r) × (r ≤ 62) × (base < 8192) ⌝ ∗ ⌜ at + 3 * (3 * (r + 2) + 3 * r) ≤ length (now out) ⌝ }
     ensures { λ w. ⌜ Wrote (now (out .entry)) at (indices positive (band (ringAt base (r + 2 + (r + 2) + (r + 2))) (ringEdges (base + (r + 2 + (r + 2) + (r + 2))) r (r + 2) (r + 2) (r + 2)))) (now (out .exit)) w ⌝ }
 {
     let p = r + 2;
@@ -74,7 +74,7 @@ fn write_wide_band(
     pattern: &[u16; 48],
     positive: bool,
 ) -> usize
-    requires { ⌜ now pattern ≡ patternOf positive ⌝ ∗ ⌜ (c0 ≤ 64) × (c1 ≤ 64) × (c2 ≤ 64) × (10 ≤ r) × (r ≤ 62) × (base < 8192) ⌝ ∗ ⌜ at + 3 * (c0 + c1 + c2 + 3 * r) ≤ length (now out) ⌝ }
+    requires { ⌜ now pattern ≡ blockPattern positive ⌝ ∗ ⌜ (c0 ≤ 64) × (c1 ≤ 64) × (c2 ≤ 64) × (10 ≤ r) × (r ≤ 62) × (base < 8192) ⌝ ∗ ⌜ at + 3 * (c0 + c1 + c2 + 3 * r) ≤ length (now out) ⌝ }
     ensures { λ w. ⌜ Wrote (now (out .entry)) at (indices positive (band (ringAt base (c0 + c1 + c2)) (ringEdges (base + (c0 + c1 + c2)) r c0 c1 c2))) (now (out .exit)) w ⌝ }
 {
     let p = r + 2;

@@ -12,7 +12,7 @@ use Rattle.level_clamps.specs.Clamps.{clampsOf}
 use Rattle.tessellate.specs.declared.answer.Size.{Size}
 use Rattle.tessellate.specs.declared.answer.Size.the-variants.{Counts, Discarded, BadTop}
 use Rattle.tessellate.specs.Answers.{pointsOf, indicesOf}
-use Rattle.answer_codes.specs.Told.{Told}
+use Rattle.answer_codes.specs.AnswerCode.{AnswerCode}
 use Rattle.tessellate.proofs.Measured.{measured}
 use Rattle.share_state.specs.declared.state.Share.{Share}
 use Rattle.share_answers.specs.Answers.{roomVerdict, partVerdict}
@@ -53,7 +53,7 @@ module _ (set : Settings) (p : Patch) (top : isTop (set .top) ≡ true) where
       go false d h = record { drawn = d; points = cc; indices = cc }
 
 -- the answer of a part, by the shares that the code found
-pub part-says : (set : Settings) (p : Patch) {t : Told} {m k : ℕ} {a b a′ b′ : Share} → a ≡ a′ → b ≡ b′ → Counted set p m k
+pub part-says : (set : Settings) (p : Patch) {t : AnswerCode} {m k : ℕ} {a b a′ b′ : Share} → a ≡ a′ → b ≡ b′ → Counted set p m k
     → t ≡ roomVerdict (a .used / 3) (a .quota - a .used) (b .quota - b .used) m k
     → t ≡ partVerdict set p (a′ .used / 3) (a′ .quota - a′ .used) (b′ .quota - b′ .used)
 unfolding partVerdict

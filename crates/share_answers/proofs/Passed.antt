@@ -10,8 +10,8 @@ use Rattle.patch.specs.declared.kinds.Patch.{Patch}
 use Rattle.patch.specs.declared.settings.Settings.{Settings}
 use Rattle.patch.specs.Subdivide.{discards}
 use Rattle.tessellate.specs.Answers.{pointsOf, indicesOf}
-use Rattle.answer_codes.specs.Told.{refused, drewBoth}
-use Rattle.share_answers.specs.Answers.{roomVerdict, partVerdict, verdict}
+use Rattle.answer_codes.specs.AnswerCode.{refused, drewBoth}
+use Rattle.share_answers.specs.Answers.{roomVerdict, partVerdict, shareVerdict}
 
 -- no test refuses the drawing
 pub record Passed (set : Settings) (p : Patch) (ok : Bool) (n v i : ℕ) : Type 0 where
@@ -23,8 +23,8 @@ pub record Passed (set : Settings) (p : Patch) (ok : Bool) (n v i : ℕ) : Type 
   pub indices : indicesOf set p ≤ i
 
 module _ (set : Settings) (p : Patch) (ok : Bool) (n v i : ℕ) where
-  pub passed : verdict set p ok n v i .number ≡ 0 → Passed set p ok n v i
-  unfolding verdict partVerdict roomVerdict
+  pub passed : shareVerdict set p ok n v i .number ≡ 0 → Passed set p ok n v i
+  unfolding shareVerdict partVerdict roomVerdict
   passed = go (isTop (set .top)) ok (discards p) (ltb 65535 (n + pointsOf set p)) (ltb v (3 * pointsOf set p)) (ltb i (indicesOf set p)) refl refl refl refl refl refl
     where
       go : (t o x many few less : Bool) → isTop (set .top) ≡ t → ok ≡ o → discards p ≡ x → ltb 65535 (n + pointsOf set p) ≡ many

@@ -5,7 +5,7 @@ ghost use mathlib.Core.Bool.{true};
 ghost use Rattle.level.specs.Top.{isTop};
 ghost use Rattle.share_state.specs.SharedList.{left};
 ghost use Rattle.share_state.specs.Answers.{soundState};
-ghost use Rattle.share_answers.specs.Answers.{toldDraw, pointsIn, roomVerdict, partVerdict, drawVerdict};
+ghost use Rattle.share_answers.specs.Answers.{drawCode, pointsHeld, roomVerdict, partVerdict, drawVerdict};
 use crate::answer::DrawAnswer;
 use patch::kinds::Patch;
 use patch::settings::Settings;
@@ -19,7 +19,7 @@ use tessellate::answer::Size;
 // The answer for this many further points and indices, by the room in a part.
 fn room(vertices: Share, indices: Share, points: u32, words: u32) -> DrawAnswer
     requires { ⌜ vertices .used ≤ vertices .quota ⌝ ∗ ⌜ indices .used ≤ indices .quota ⌝ }
-    ensures { λ r. ⌜ toldDraw r ≡ roomVerdict (vertices .used / 3) (vertices .quota - vertices .used) (indices .quota - indices .used) points words ⌝ }
+    ensures { λ r. ⌜ drawCode r ≡ roomVerdict (vertices .used / 3) (vertices .quota - vertices .used) (indices .quota - indices .used) points words ⌝ }
 {
     if 65535 < vertices.used / 3 + (points as usize) {
         return DrawAnswer::TooManyPoints;
@@ -39,7 +39,7 @@ fn room(vertices: Share, indices: Share, points: u32, words: u32) -> DrawAnswer
 // The answer of a designer's part for a patch.
 fn part_verdict(state: State, designer: Designer, patch: Patch, settings: Settings) -> DrawAnswer
     requires { ⌜ isTop (settings .top) ≡ true ⌝ ∗ ⌜ soundState state ≡ true ⌝ }
-    ensures { λ r. ⌜ toldDraw r ≡ partVerdict settings patch (pointsIn designer state) (left designer (state .vertices)) (left designer (state .indices)) ⌝ }
+    ensures { λ r. ⌜ drawCode r ≡ partVerdict settings patch (pointsHeld designer state) (left designer (state .vertices)) (left designer (state .indices)) ⌝ }
 {
     let vertex_list = state.vertices;
     let index_list = state.indices;
@@ -67,7 +67,7 @@ pub fn verdict_of(
     v: usize,
     i: usize,
 ) -> DrawAnswer
-    ensures { λ r. ⌜ toldDraw r ≡ drawVerdict designer state settings patch v i ⌝ }
+    ensures { λ r. ⌜ drawCode r ≡ drawVerdict designer state settings patch v i ⌝ }
 {
     let top = settings.top;
     if !level::is_top(top) {

@@ -10,8 +10,8 @@ use lib.Dec.{ltb, eqb}
 use lib.Ieee.{Float}
 use lib.ListN.{length}
 use Rattle.level.specs.Top.{isTop}
-use Rattle.job_fields.specs.Settings.{firstUnknown}
-use Rattle.answer_codes.specs.Told.{Told, refused}
+use Rattle.job_fields.specs.Settings.{firstUnknownSetting}
+use Rattle.answer_codes.specs.AnswerCode.{AnswerCode, refused}
 use Rattle.call_answers.specs.Replies.{unknownSetting, badTop, twoWords}
 use Rattle.call_inputs.specs.Inputs.{topIn, patchIn, settingsIn}
 use Rattle.share_state.specs.declared.state.Designer.{Designer}
@@ -24,35 +24,35 @@ use Rattle.share_draw.specs.Operations.{drawnState}
 use Rattle.share_words.specs.Words.{stateIn, stateWords, designerOf}
 use Rattle.share_exports.specs.Calls.{unknownDesigner, asked, drawSays, clearSays}
 use Rattle.share_exports.proofs.Calls.{asked-none, asked-some}
-use Rattle.share_isolation.specs.Session.{Session, OwnState, View, same, ownState, answerTo, served}
+use Rattle.share_isolation.specs.Session.{Session, OwnState, View, sameDesigner, ownState, answerTo, served}
 use Rattle.share_isolation.specs.Session as runs
 use Rattle.share_isolation.proofs.OwnState.{callAnswer, ownStateNext, viewNext}
 use Rattle.share_isolation.proofs.Step.{Good, good-next, length-next, other-next, own-answer, own-next, own-state-next}
 use Rattle.share_isolation.proofs.Runs.{session-of}
-use Rattle.share_calls.specs.Run.{Request, draw, clear, Call, Memory, Answered, SameLists, Made, drew, cleared, sessionIn}
+use Rattle.share_calls.specs.Run.{RawRequest, draw, clear, RawCall, Memory, RawAnswer, RawSameLists, RawMade, drew, cleared, sessionIn}
 
 -- the operation's call
-abbrev pub requestOf : Request → runs.Request
+abbrev pub requestOf : RawRequest → runs.Request
 requestOf (draw bs xs) = runs.draw (settingsIn bs) (patchIn bs xs)
 requestOf clear = runs.clear
 
-abbrev pub callOf : Call → runs.Call
+abbrev pub callOf : RawCall → runs.Call
 callOf c = record { by = designerOf (c .by); request = requestOf (c .request); vertices = c .vertices; indices = c .indices }
 
 -- the refusal of a call, or the number 0
-unfoldable pub against : ℕ → Request → Bool → Told
+unfoldable pub against : ℕ → RawRequest → Bool → AnswerCode
 against d (draw bs xs) ok = asked bs d ok done
 against d clear ok = clearSays d ok
 
 -- the answer of a call: its refusal, or the operation's answer
-abbrev pub orElse : Told → Told → Told
+abbrev pub orElse : AnswerCode → AnswerCode → AnswerCode
 orElse a t = unlessRefused (a .number) t a
 
-abbrev pub saysOf : ℕ → Request → Bool → Told → Told
+abbrev pub saysOf : ℕ → RawRequest → Bool → AnswerCode → AnswerCode
 saysOf d r ok t = orElse (against d r ok) t
 
 -- a call that is refused answers its refusal
-asked-or : (bs : List ℕ) (d : ℕ) (ok : Bool) (t : Told) → asked bs d ok t ≡ orElse (asked bs d ok done) t
+asked-or : (bs : List ℕ) (d : ℕ) (ok : Bool) (t : AnswerCode) → asked bs d ok t ≡ orElse (asked bs d ok done) t
 asked-or bs d ok t = go (asked bs d ok done .number) refl
   where
     go : (n : ℕ) → asked bs d ok done .number ≡ n → asked bs d ok t ≡ unlessRefused n t (asked bs d ok done)
@@ -69,7 +69,7 @@ clear-or d true = go (ltb 1 d)
 clear-or d false = refl
 
 -- a call that is not refused has designer 0 or 1
-known-designer : (d : ℕ) (r : Request) (ok : Bool) → against d r ok .number ≡ 0 → d ≤ 1
+known-designer : (d : ℕ) (r : RawRequest) (ok : Bool) → against d r ok .number ≡ 0 → d ≤ 1
 unfolding against asked clearSays
 known-designer d r ok e = ltb-false 1 d (go r e)
   where
@@ -84,12 +84,12 @@ known-designer d r ok e = ltb-false 1 d (go r e)
     clearing true true e = absurd (omega arith)
     clearing true false e = refl
 
-    go : (r : Request) → against d r ok .number ≡ 0 → ltb 1 d ≡ false
-    go (draw bs xs) e = drawing (isTop (topIn bs)) ok (ltb 1 d) (ltb (firstUnknown bs 0) 5) (firstUnknown bs 0) e
+    go : (r : RawRequest) → against d r ok .number ≡ 0 → ltb 1 d ≡ false
+    go (draw bs xs) e = drawing (isTop (topIn bs)) ok (ltb 1 d) (ltb (firstUnknownSetting bs 0) 5) (firstUnknownSetting bs 0) e
     go clear e = clearing ok (ltb 1 d) e
 
 -- different numbers are different designers
-apart : (d e : ℕ) → d ≤ 1 → e ≤ 1 → eqb e d ≡ false → same (designerOf d) (designerOf e) ≡ false
+apart : (d e : ℕ) → d ≤ 1 → e ≤ 1 → eqb e d ≡ false → sameDesigner (designerOf d) (designerOf e) ≡ false
 apart zero zero h k f = absurd (true≢false f)
 apart zero (suc zero) h k f = refl
 apart (suc zero) zero h k f = refl
@@ -100,105 +100,105 @@ apart (suc zero) (suc (suc e)) h k f = absurd (omega arith)
 
 -- ---- answers and sessions, call by call
 -- the counts in memory after an answer
-abbrev pub countsFor : Request → Told → List ℕ
+abbrev pub countsFor : RawRequest → AnswerCode → List ℕ
 countsFor (draw bs xs) t = twoWords (t .values)
 countsFor clear t = []
 
 -- the same for the own part of the state, which depends only on the lengths of the lists
-abbrev ownAgainst : OwnState → Call → Told
+abbrev ownAgainst : OwnState → RawCall → AnswerCode
 ownAgainst o c = against (c .by) (c .request) (lent (c .vertices) (c .indices) (o .vertexLength) (o .indexLength))
 
-abbrev standsAgainst : Session → Call → Told
+abbrev standsAgainst : Session → RawCall → AnswerCode
 standsAgainst s c = against (c .by) (c .request) (accepted (c .vertices) (c .indices) (s .state))
 
-abbrev answerWith : Call → Told → Answered
+abbrev answerWith : RawCall → AnswerCode → RawAnswer
 answerWith c t = record { to = c .by; number = t .number; counts = countsFor (c .request) t }
 
-abbrev pub reply : Session → Call → Answered
+abbrev pub reply : Session → RawCall → RawAnswer
 reply s c = answerWith c (orElse (standsAgainst s c) (runs.answer s (callOf c)))
 
-abbrev pub step : Session → Call → Session
-step s c = unlessRefused (standsAgainst s c .number) (runs.next s (callOf c)) s
+abbrev pub step : Session → RawCall → Session
+step s c = unlessRefused (standsAgainst s c .number) (runs.sessionAfter s (callOf c)) s
 
-abbrev pub ownReply : OwnState → Call → Answered
+abbrev pub ownReply : OwnState → RawCall → RawAnswer
 ownReply o c = answerWith c (orElse (ownAgainst o c) (callAnswer o (callOf c)))
 
-abbrev pub ownStep : OwnState → Call → OwnState
+abbrev pub ownStep : OwnState → RawCall → OwnState
 ownStep o c = unlessRefused (ownAgainst o c .number) (ownStateNext o (callOf c)) o
 
-abbrev pub viewStep : View → Call → View
+abbrev pub viewStep : View → RawCall → View
 viewStep w c = unlessRefused (ownAgainst (w .state) c .number) (viewNext w (callOf c)) w
 
 module _ (s : Session) (g : Good s) where
-  pub good-step : (c : Call) → Good (step s c)
+  pub good-step : (c : RawCall) → Good (step s c)
   good-step c = go (standsAgainst s c .number)
     where
-      go : (n : ℕ) → Good (unlessRefused n (runs.next s (callOf c)) s)
+      go : (n : ℕ) → Good (unlessRefused n (runs.sessionAfter s (callOf c)) s)
       go zero = good-next s g (callOf c)
       go (suc n) = g
 
-  pub length-step : (c : Call) → (length (step s c .vertices) ≡ length (s .vertices)) × (length (step s c .indices) ≡ length (s .indices))
+  pub length-step : (c : RawCall) → (length (step s c .vertices) ≡ length (s .vertices)) × (length (step s c .indices) ≡ length (s .indices))
   length-step c = go (standsAgainst s c .number)
     where
-      go : (n : ℕ) → (length (unlessRefused n (runs.next s (callOf c)) s .vertices) ≡ length (s .vertices)) × (length (unlessRefused n (runs.next s (callOf c)) s .indices) ≡ length (s .indices))
+      go : (n : ℕ) → (length (unlessRefused n (runs.sessionAfter s (callOf c)) s .vertices) ≡ length (s .vertices)) × (length (unlessRefused n (runs.sessionAfter s (callOf c)) s .indices) ≡ length (s .indices))
       go zero = length-next s g (callOf c)
       go (suc n) = (refl, refl)
 
   -- for a good session only the lengths matter
-  same-against : (d : Designer) (c : Call) → standsAgainst s c ≡ ownAgainst (ownState d (s .state)) c
+  same-against : (d : Designer) (c : RawCall) → standsAgainst s c ≡ ownAgainst (ownState d (s .state)) c
   same-against d c =
       ap (against (c .by) (c .request)) (and-true (lent (c .vertices) (c .indices) (s .state .vertices .length) (s .state .indices .length)) (state-test (s .state) (g .sound)))
 
   module _ (d : ℕ) where
-    named : (c : Call) → eqb (c .by) d ≡ true → designerOf (c .by) ≡ designerOf d
+    named : (c : RawCall) → eqb (c .by) d ≡ true → designerOf (c .by) ≡ designerOf d
     named c e = ap designerOf (eqb-true (c .by) d e)
 
-    pub own-reply : (c : Call) → eqb (c .by) d ≡ true → reply s c ≡ ownReply (ownState (designerOf d) (s .state)) c
+    pub own-reply : (c : RawCall) → eqb (c .by) d ≡ true → reply s c ≡ ownReply (ownState (designerOf d) (s .state)) c
     own-reply c e =
-        ap (λ (t : Told). answerWith c (orElse t (runs.answer s (callOf c)))) (same-against (designerOf d) c)
-        ∙ ap (λ (t : Told). answerWith c (orElse (ownAgainst (ownState (designerOf d) (s .state)) c) t)) (own-answer s g (designerOf d) (callOf c) (named c e))
+        ap (λ (t : AnswerCode). answerWith c (orElse t (runs.answer s (callOf c)))) (same-against (designerOf d) c)
+        ∙ ap (λ (t : AnswerCode). answerWith c (orElse (ownAgainst (ownState (designerOf d) (s .state)) c) t)) (own-answer s g (designerOf d) (callOf c) (named c e))
 
-    pub own-step : (c : Call) → eqb (c .by) d ≡ true → ownState (designerOf d) (step s c .state) ≡ ownStep (ownState (designerOf d) (s .state)) c
+    pub own-step : (c : RawCall) → eqb (c .by) d ≡ true → ownState (designerOf d) (step s c .state) ≡ ownStep (ownState (designerOf d) (s .state)) c
     own-step c e =
         go (standsAgainst s c .number)
-        ∙ ap (λ (t : Told). unlessRefused (t .number) (ownStateNext (ownState (designerOf d) (s .state)) (callOf c)) (ownState (designerOf d) (s .state))) (same-against (designerOf d) c)
+        ∙ ap (λ (t : AnswerCode). unlessRefused (t .number) (ownStateNext (ownState (designerOf d) (s .state)) (callOf c)) (ownState (designerOf d) (s .state))) (same-against (designerOf d) c)
       where
-        go : (n : ℕ) → ownState (designerOf d) (unlessRefused n (runs.next s (callOf c)) s .state)
+        go : (n : ℕ) → ownState (designerOf d) (unlessRefused n (runs.sessionAfter s (callOf c)) s .state)
             ≡ unlessRefused n (ownStateNext (ownState (designerOf d) (s .state)) (callOf c)) (ownState (designerOf d) (s .state))
         go zero = own-state-next s g (designerOf d) (callOf c) (named c e)
         go (suc n) = refl
 
-    pub own-view : (c : Call) → eqb (c .by) d ≡ true → runs.view (designerOf d) (step s c) ≡ viewStep (runs.view (designerOf d) s) c
+    pub own-view : (c : RawCall) → eqb (c .by) d ≡ true → runs.view (designerOf d) (step s c) ≡ viewStep (runs.view (designerOf d) s) c
     own-view c e =
         go (standsAgainst s c .number)
-        ∙ ap (λ (t : Told). unlessRefused (t .number) (viewNext (runs.view (designerOf d) s) (callOf c)) (runs.view (designerOf d) s)) (same-against (designerOf d) c)
+        ∙ ap (λ (t : AnswerCode). unlessRefused (t .number) (viewNext (runs.view (designerOf d) s) (callOf c)) (runs.view (designerOf d) s)) (same-against (designerOf d) c)
       where
-        go : (n : ℕ) → runs.view (designerOf d) (unlessRefused n (runs.next s (callOf c)) s)
+        go : (n : ℕ) → runs.view (designerOf d) (unlessRefused n (runs.sessionAfter s (callOf c)) s)
             ≡ unlessRefused n (viewNext (runs.view (designerOf d) s) (callOf c)) (runs.view (designerOf d) s)
         go zero = own-next s g (designerOf d) (callOf c) (named c e)
         go (suc n) = refl
 
     -- a call of another designer, known or not, keeps the view
-    pub other-view : d ≤ 1 → (c : Call) → eqb (c .by) d ≡ false → runs.view (designerOf d) (step s c) ≡ runs.view (designerOf d) s
+    pub other-view : d ≤ 1 → (c : RawCall) → eqb (c .by) d ≡ false → runs.view (designerOf d) (step s c) ≡ runs.view (designerOf d) s
     other-view h c e = go (standsAgainst s c .number) refl
       where
-        go : (n : ℕ) → standsAgainst s c .number ≡ n → runs.view (designerOf d) (unlessRefused n (runs.next s (callOf c)) s) ≡ runs.view (designerOf d) s
+        go : (n : ℕ) → standsAgainst s c .number ≡ n → runs.view (designerOf d) (unlessRefused n (runs.sessionAfter s (callOf c)) s) ≡ runs.view (designerOf d) s
         go zero f = other-next s g (designerOf d) (callOf c) (apart d (c .by) h (known-designer (c .by) (c .request) _ f) e)
         go (suc n) f = refl
 
 -- ---- the calls that were made do this
-answered-of : (d : ℕ) {n n′ : ℕ} {c c′ : List ℕ} → n ≡ n′ → c ≡ c′ → _≡_ {A = Answered} (record { to = d; number = n; counts = c }) (record { to = d; number = n′; counts = c′ })
+answered-of : (d : ℕ) {n n′ : ℕ} {c c′ : List ℕ} → n ≡ n′ → c ≡ c′ → _≡_ {A = RawAnswer} (record { to = d; number = n; counts = c }) (record { to = d; number = n′; counts = c′ })
 answered-of d e f = cc
 
 -- refused by the call, or by the operation
-either : (a t : Told) (new old : Session) → unlessRefused (orElse a t .number) new old ≡ unlessRefused (a .number) (unlessRefused (t .number) new old) old
+either : (a t : AnswerCode) (new old : Session) → unlessRefused (orElse a t .number) new old ≡ unlessRefused (a .number) (unlessRefused (t .number) new old) old
 either a t new old = go (a .number) refl
   where
     go : (n : ℕ) → a .number ≡ n → unlessRefused (unlessRefused n t a .number) new old ≡ unlessRefused n (unlessRefused (t .number) new old) old
     go zero e = refl
     go (suc n) e = rw e
 
-pub made-is : (m m′ : Memory) (c : Call) (a : Answered) → Made m c a m′ → (a ≡ reply (sessionIn m) c) × (sessionIn m′ ≡ step (sessionIn m) c)
+pub made-is : (m m′ : Memory) (c : RawCall) (a : RawAnswer) → RawMade m c a m′ → (a ≡ reply (sessionIn m) c) × (sessionIn m′ ≡ step (sessionIn m) c)
 unfolding answerTo served against
 made-is _ _ _ _ (drew m d bs xs w′ v v′ i i′ c′ r h l) =
     let s = sessionIn m in
@@ -206,8 +206,8 @@ made-is _ _ _ _ (drew m d bs xs w′ v v′ i i′ c′ r h l) =
     let ok = accepted (length v) (length i) (s .state) in
     let t = drawVerdict e (s .state) (settingsIn bs) (patchIn bs xs) (length v) (length i) in
     let says = asked-or bs d ok t in (
-      answered-of d (h .says .number ∙ ap (λ (x : Told). x .number) says) (h .says .counts ∙ ap (λ (x : Told). twoWords (x .values)) says),
-      go r refl ∙ ap (λ (n : ℕ). unlessRefused n (served s e (runs.draw (settingsIn bs) (patchIn bs xs))) s) (h .says .number ∙ ap (λ (x : Told). x .number) says)
+      answered-of d (h .says .number ∙ ap (λ (x : AnswerCode). x .number) says) (h .says .counts ∙ ap (λ (x : AnswerCode). twoWords (x .values)) says),
+      go r refl ∙ ap (λ (n : ℕ). unlessRefused n (served s e (runs.draw (settingsIn bs) (patchIn bs xs))) s) (h .says .number ∙ ap (λ (x : AnswerCode). x .number) says)
           ∙ either (asked bs d ok done) t (served s e (runs.draw (settingsIn bs) (patchIn bs xs))) s,
     )
   where
@@ -224,8 +224,8 @@ made-is _ _ _ _ (cleared m d v i w′ r h) =
     let e = designerOf d in
     let ok = accepted v i (s .state) in
     let says = clear-or d ok in (
-      answered-of d (h .number ∙ ap (λ (x : Told). x .number) says) refl,
-      go r refl ∙ ap (λ (n : ℕ). unlessRefused n (served s e runs.clear) s) (h .number ∙ ap (λ (x : Told). x .number) says)
+      answered-of d (h .number ∙ ap (λ (x : AnswerCode). x .number) says) refl,
+      go r refl ∙ ap (λ (n : ℕ). unlessRefused n (served s e runs.clear) s) (h .number ∙ ap (λ (x : AnswerCode). x .number) says)
           ∙ either (clearSays d ok) (clearVerdict ok) (served s e runs.clear) s,
     )
   where

@@ -4,7 +4,7 @@ use mathlib.Core.Path.{_≡_, sym, ap, ap₂, _∙_}
 use mathlib.Core.List.{List}
 use lib.Ieee.{Float}
 use lib.ListN.{length}
-use Rattle.answer_codes.specs.Told.{Told}
+use Rattle.answer_codes.specs.AnswerCode.{AnswerCode}
 use Rattle.call_answers.specs.Replies.{twoWords}
 use Rattle.call_inputs.specs.Inputs.{patchIn, settingsIn}
 use Rattle.share_state.specs.Operations.{unlessRefused}
@@ -22,11 +22,11 @@ pub record SameAnswer (r s : ℕ) (c e w u : List ℕ) : Type 0 where
 pub by-lengths : (bs : List ℕ) (xs : List Float) (d : ℕ) {w w′ u′ v v′ i i′ l l′ k k′ c′ e′ : List ℕ} {r s : ℕ} → DrawCalled bs xs d w w′ v v′ i i′ c′ r
     → DrawCalled bs xs d w u′ l l′ k k′ e′ s → length v ≡ length l → length i ≡ length k → SameAnswer r s c′ e′ w′ u′
 by-lengths bs xs d {w} h g m n =
-    let says : ℕ → ℕ → Told = λ (a b : ℕ). drawSays bs d (designerOf d) (stateIn w) (settingsIn bs) (patchIn bs xs) a b in
+    let says : ℕ → ℕ → AnswerCode = λ (a b : ℕ). drawSays bs d (designerOf d) (stateIn w) (settingsIn bs) (patchIn bs xs) a b in
     let told = ap₂ says m n in
-    let number = h .says .number ∙ ap (λ (t : Told). t .number) told ∙ sym (g .says .number) in
+    let number = h .says .number ∙ ap (λ (t : AnswerCode). t .number) told ∙ sym (g .says .number) in
     record {
       number = number;
-      counts = h .says .counts ∙ ap (λ (t : Told). twoWords (t .values)) told ∙ sym (g .says .counts);
+      counts = h .says .counts ∙ ap (λ (t : AnswerCode). twoWords (t .values)) told ∙ sym (g .says .counts);
       words = h .state ∙ ap (λ (k : ℕ). unlessRefused k (stateWords (drawnState (designerOf d) (stateIn w) (settingsIn bs) (patchIn bs xs))) w) number ∙ sym (g .state);
     }

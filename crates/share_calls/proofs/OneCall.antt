@@ -13,7 +13,7 @@ use Rattle.patch.specs.declared.kinds.Patch.{Patch}
 use Rattle.patch.specs.declared.settings.Settings.{Settings}
 use Rattle.patch.specs.Subdivide.{subdivisionOf}
 use Rattle.level.specs.Top.{isTop}
-use Rattle.job_fields.specs.Settings.{choices, firstUnknown, AllBelow}
+use Rattle.job_fields.specs.Settings.{choices, firstUnknownSetting, AllBelow}
 use Rattle.job_fields.proofs.Limits.{first-none}
 use Rattle.patch_mesh.specs.Points.{points}
 use Rattle.mesh_geometry.specs.Words.{readPoints}
@@ -21,7 +21,7 @@ use Rattle.patch_mesh.specs.Demand.{Demand}
 use Rattle.patch_mesh.specs.Inside.{SpotsOnce}
 use Rattle.mesh_geometry.proofs.ReadBack.{read-points}
 use Rattle.tessellate.specs.Answers.{pointsOf, indicesOf}
-use Rattle.answer_codes.specs.Told.{Told, refused, drewBoth}
+use Rattle.answer_codes.specs.AnswerCode.{AnswerCode, refused, drewBoth}
 use Rattle.tessellate.specs.Draws.{pointWords, connectionWords}
 use Rattle.level.proofs.Top.{top-as}
 use Rattle.call_answers.specs.Replies.{unknownSetting, badTop, twoWords}
@@ -32,7 +32,7 @@ use Rattle.share_state.specs.SharedList.{firstFree, left}
 use Rattle.share_state.specs.Answers.{done, accepted}
 use Rattle.share_draw.specs.declared.answer.DrawResult.{DrawResult}
 use Rattle.share_answers.specs.declared.answer.DrawAnswer.the-variants.{Drawn}
-use Rattle.share_answers.specs.Answers.{toldDraw, roomVerdict, partVerdict, verdict, drawVerdict, pointsIn}
+use Rattle.share_answers.specs.Answers.{drawCode, roomVerdict, partVerdict, shareVerdict, drawVerdict, pointsHeld}
 use Rattle.share_draw.specs.Operations.{newIndices, drawnState, DidDraw}
 use Rattle.share_answers.proofs.Passed.{passed}
 use Rattle.share_draw.proofs.Counts.{point-words, index-words}
@@ -45,26 +45,26 @@ use Rattle.third_demand.specs.Written.{drawnPoints}
 use Rattle.third_demand.proofs.AllPoints.{AllPoints}
 
 -- the answer 0 comes from the operation
-asked-zero : (bs : List ℕ) (d : ℕ) (ok : Bool) (t : Told) → asked bs d ok t .number ≡ 0 → asked bs d ok t ≡ t
+asked-zero : (bs : List ℕ) (d : ℕ) (ok : Bool) (t : AnswerCode) → asked bs d ok t .number ≡ 0 → asked bs d ok t ≡ t
 asked-zero bs d ok t z = go (asked bs d ok done .number) refl
   where
     go : (n : ℕ) → asked bs d ok done .number ≡ n → asked bs d ok t ≡ t
     go zero e = asked-none bs d ok t e
-    go (suc n) e = let f = ap (λ (x : Told). x .number) (asked-some bs d ok t n e) in absurd (omega arith)
+    go (suc n) e = let f = ap (λ (x : AnswerCode). x .number) (asked-some bs d ok t n e) in absurd (omega arith)
 
 -- with the counts of the patch
-verdict-zero : (set : Settings) (p : Patch) (ok : Bool) (n v i : ℕ) → verdict set p ok n v i .number ≡ 0 → verdict set p ok n v i ≡ drewBoth (pointsOf set p) (indicesOf set p)
-unfolding verdict partVerdict roomVerdict
+verdict-zero : (set : Settings) (p : Patch) (ok : Bool) (n v i : ℕ) → shareVerdict set p ok n v i .number ≡ 0 → shareVerdict set p ok n v i ≡ drewBoth (pointsOf set p) (indicesOf set p)
+unfolding shareVerdict partVerdict roomVerdict
 verdict-zero set p ok n v i e =
     let h = passed set p ok n v i e in
     rw (h .top, h .state, h .drawn, le-ltb 65535 (n + pointsOf set p) (h .numbered), le-ltb v (3 * pointsOf set p) (h .vertices), le-ltb i (indicesOf set p) (h .indices))
 
 -- and all settings are in range
-settings-zero : (bs : List ℕ) (d : ℕ) (ok : Bool) (t : Told) → 0 ≡ asked bs d ok t .number → AllBelow choices bs 0
+settings-zero : (bs : List ℕ) (d : ℕ) (ok : Bool) (t : AnswerCode) → 0 ≡ asked bs d ok t .number → AllBelow choices bs 0
 unfolding asked
-settings-zero bs d ok t e = first-none choices bs 0 .0 (ltb-false (firstUnknown bs 0) 5 (go (isTop (topIn bs)) ok (ltb 1 d) (ltb (firstUnknown bs 0) 5) e))
+settings-zero bs d ok t e = first-none choices bs 0 .0 (ltb-false (firstUnknownSetting bs 0) 5 (go (isTop (topIn bs)) ok (ltb 1 d) (ltb (firstUnknownSetting bs 0) 5) e))
   where
-    go : (a b c u : Bool) → 0 ≡ cond a (cond b (cond c unknownDesigner (cond u (unknownSetting (firstUnknown bs 0)) t)) (refused 14)) badTop .number → u ≡ false
+    go : (a b c u : Bool) → 0 ≡ cond a (cond b (cond c unknownDesigner (cond u (unknownSetting (firstUnknownSetting bs 0)) t)) (refused 14)) badTop .number → u ≡ false
     go false b c u e = absurd (omega arith)
     go true false c u e = absurd (omega arith)
     go true true true u e = absurd (omega arith)
@@ -73,13 +73,13 @@ settings-zero bs d ok t e = first-none choices bs 0 .0 (ltb-false (firstUnknown 
 
 -- ---- for the operation
 module _ (d : Designer) (s : State) (set : Settings) (p : Patch) {v v′ i i′ : List ℕ} (r : DrawResult) (m k : ℕ) (h : DidDraw d s set p v v′ i i′ r)
-    (e : toldDraw (r .answer) ≡ drewBoth m k) where
+    (e : drawCode (r .answer) ≡ drewBoth m k) where
   -- both parts had room
   fits : Ready d s set p v i m k
   fits = ready d s set p v i m k (sym e ∙ h .answer)
 
-  drawn-number : toldDraw (r .answer) .number ≡ 0
-  drawn-number = ap (λ (t : Told). t .number) e
+  drawn-number : drawCode (r .answer) .number ≡ 0
+  drawn-number = ap (λ (t : AnswerCode). t .number) e
 
   -- the words that it appended are those of the patch
   pub appended-points : take (3 * m) (drop (firstFree d (s .vertices)) v′) ≡ pointWords set p
@@ -87,10 +87,10 @@ module _ (d : Designer) (s : State) (set : Settings) (p : Patch) {v v′ i i′ 
       let g = fits in
       written v (firstFree d (s .vertices)) (3 * m) (pointWords set p) (omega (arith, g .points, point-words set p)) (omega (arith, g .vertices)) (h .vertices ∙ rw drawn-number)
 
-  pub appended-indices : map (λ x. x - pointsIn d s) (take k (drop (firstFree d (s .indices)) i′)) ≡ connectionWords set p
+  pub appended-indices : map (λ x. x - pointsHeld d s) (take k (drop (firstFree d (s .indices)) i′)) ≡ connectionWords set p
   appended-indices =
       let g = fits in
-      let n = pointsIn d s in
+      let n = pointsHeld d s in
       rw (written i (firstFree d (s .indices)) k (newIndices d s set p) (omega (arith, g .words, index-words n set p)) (omega (arith, g .indices)) (h .indices ∙ rw drawn-number))
       (lowered n (connectionWords set p))
 
@@ -125,8 +125,8 @@ module _ (bs : List ℕ) (xs : List Float) (d : ℕ) {w w′ v v′ i i′ c′ 
       let ok = accepted (length v) (length i) s in
       let t = drawVerdict by s set p (length v) (length i) in
       let k = asked-zero bs d ok t (sym (h .says .number)) in
-      let z = verdict-zero set p ok (pointsIn by s) (left by (s .vertices)) (left by (s .indices)) (ap (λ (x : Told). x .number) (sym k) ∙ sym (h .says .number)) in
-      let c : c′ ≡ pointsOf set p ∷ indicesOf set p ∷ [] = h .says .counts ∙ ap (λ (x : Told). twoWords (x .values)) (k ∙ z) in
+      let z = verdict-zero set p ok (pointsHeld by s) (left by (s .vertices)) (left by (s .indices)) (ap (λ (x : AnswerCode). x .number) (sym k) ∙ sym (h .says .number)) in
+      let c : c′ ≡ pointsOf set p ∷ indicesOf set p ∷ [] = h .says .counts ∙ ap (λ (x : AnswerCode). twoWords (x .values)) (k ∙ z) in
       let first : getD c′ 0 0 ≡ pointsOf set p = ap (λ (l : List ℕ). getD l 0 0) c in
       let second : getD c′ 1 0 ≡ indicesOf set p = ap (λ (l : List ℕ). getD l 1 0) c in
       record { answer = rw (first, second) (sym z); state = refl; vertices = h .vertices; indices = h .indices }
@@ -136,19 +136,19 @@ module _ (bs : List ℕ) (xs : List Float) (d : ℕ) {w w′ v v′ i i′ c′ 
 
   -- the points and indices that it appended, read from the lists at exit; from each index the number of earlier points is subtracted
   pub called-one : Demand set p (drawnPoints (getD c′ 0 0) (drop (firstFree by (s .vertices)) v′))
-      (map (λ x. x - pointsIn by s) (take (getD c′ 1 0) (drop (firstFree by (s .indices)) i′)))
+      (map (λ x. x - pointsHeld by s) (take (getD c′ 1 0) (drop (firstFree by (s .indices)) i′)))
   called-one = one-call by s set p drawn (getD c′ 0 0) (getD c′ 1 0) draw-call refl
 
   -- exactly one triangle holds each spot
   pub called-once : SpotsOnce set p (drawnPoints (getD c′ 0 0) (drop (firstFree by (s .vertices)) v′))
-      (map (λ x. x - pointsIn by s) (take (getD c′ 1 0) (drop (firstFree by (s .indices)) i′)))
+      (map (λ x. x - pointsHeld by s) (take (getD c′ 1 0) (drop (firstFree by (s .indices)) i′)))
   called-once = once-call by s set p drawn (getD c′ 0 0) (getD c′ 1 0) draw-call refl
 
   -- the words that it appended are those of the patch
   pub called-point-words : take (3 * getD c′ 0 0) (drop (firstFree by (s .vertices)) v′) ≡ pointWords set p
   called-point-words = appended-points by s set p drawn (getD c′ 0 0) (getD c′ 1 0) draw-call refl
 
-  pub called-index-words : map (λ x. x - pointsIn by s) (take (getD c′ 1 0) (drop (firstFree by (s .indices)) i′)) ≡ connectionWords set p
+  pub called-index-words : map (λ x. x - pointsHeld by s) (take (getD c′ 1 0) (drop (firstFree by (s .indices)) i′)) ≡ connectionWords set p
   called-index-words = appended-indices by s set p drawn (getD c′ 0 0) (getD c′ 1 0) draw-call refl
 
   -- the points are all points of the patch

@@ -16,14 +16,14 @@ use Rattle.share_isolation.specs.Session.{Session, View}
 use Rattle.share_isolation.specs.Session as session
 
 -- what a call after the start asks for: drawing, with six setting bytes and six levels, or clearing
-pub data Request : Type 0 where
-  draw : List ℕ → List Float → Request
-  clear : Request
+pub data RawRequest : Type 0 where
+  draw : List ℕ → List Float → RawRequest
+  clear : RawRequest
 
 -- a call: any number for the designer, what is asked for, and the lengths of the two lists lent
-pub record Call : Type 0 where
+pub record RawCall : Type 0 where
   pub by : ℕ
-  pub request : Request
+  pub request : RawRequest
   pub vertices : ℕ
   pub indices : ℕ
 
@@ -34,49 +34,49 @@ pub record Memory : Type 0 where
   pub indices : List ℕ
 
 -- an answer: the designer, its number, and the two counts that drawing leaves in memory
-pub record Answered : Type 0 where
+pub record RawAnswer : Type 0 where
   pub to : ℕ
   pub number : ℕ
   pub counts : List ℕ
 
 -- a start with the quotas q on the lists v and i was answered with 0, and left this memory
-pub data Begun (q v i : List ℕ) : Memory → Type 0 where
-  begin : (w w′ : List ℕ) → StartCalled q (length v) (length i) w w′ 0 → Begun q v i (record { words = w′; vertices = v; indices = i })
+pub data RawBegun (q v i : List ℕ) : Memory → Type 0 where
+  begin : (w w′ : List ℕ) → StartCalled q (length v) (length i) w w′ 0 → RawBegun q v i (record { words = w′; vertices = v; indices = i })
 
 -- the lists v and i, lent to a call with this answer, are those in memory, unless the call was refused
-pub record SameLists (m : Memory) (r : ℕ) (v i : List ℕ) : Type 0 where
+pub record RawSameLists (m : Memory) (r : ℕ) (v i : List ℕ) : Type 0 where
   pub vertices : r ≡ 0 → v ≡ m .vertices
   pub indices : r ≡ 0 → i ≡ m .indices
 
 -- one call, given the ten words in memory: its answer, and the memory after it
-pub data Made : Memory → Call → Answered → Memory → Type 0 where
+pub data RawMade : Memory → RawCall → RawAnswer → Memory → Type 0 where
   drew : (m : Memory) (d : ℕ) (bs : List ℕ) (xs : List Float) (w′ v v′ i i′ c′ : List ℕ) (r : ℕ) → DrawCalled bs xs d (m .words) w′ v v′ i i′ c′ r
-      → SameLists m r v i
-      → Made m (record { by = d; request = draw bs xs; vertices = length v; indices = length i }) (record { to = d; number = r; counts = c′ })
+      → RawSameLists m r v i
+      → RawMade m (record { by = d; request = draw bs xs; vertices = length v; indices = length i }) (record { to = d; number = r; counts = c′ })
       (record { words = w′; vertices = unlessRefused r v′ (m .vertices); indices = unlessRefused r i′ (m .indices) })
   cleared : (m : Memory) (d v i : ℕ) (w′ : List ℕ) (r : ℕ) → ClearCalled d v i (m .words) w′ r
-      → Made m (record { by = d; request = clear; vertices = v; indices = i }) (record { to = d; number = r; counts = [] })
+      → RawMade m (record { by = d; request = clear; vertices = v; indices = i }) (record { to = d; number = r; counts = [] })
       (record { words = w′; vertices = m .vertices; indices = m .indices })
 
 -- calls, their answers, and the memory after them
-abbrev pub Ran : Memory → List Call → List Answered → Memory → Type 0
-Ran m cs xs m′ = steps.Ran Made m cs xs m′
+abbrev pub RawRan : Memory → List RawCall → List RawAnswer → Memory → Type 0
+RawRan m cs xs m′ = steps.RanSteps RawMade m cs xs m′
 
 -- the calls with the designer d, and the answers to them
-abbrev pub callsOf : ℕ → List Call → List Call
-callsOf d cs = those (λ c. eqb (c .by) d) cs
+abbrev pub rawCallsOf : ℕ → List RawCall → List RawCall
+rawCallsOf d cs = those (λ c. eqb (c .by) d) cs
 
-abbrev pub answersOf : ℕ → List Answered → List Answered
-answersOf d ys = those (λ a. eqb (a .to) d) ys
+abbrev pub rawAnswersOf : ℕ → List RawAnswer → List RawAnswer
+rawAnswersOf d ys = those (λ a. eqb (a .to) d) ys
 
 -- the session that the memory holds
 abbrev pub sessionIn : Memory → Session
 sessionIn m = record { state = stateIn (m .words); vertices = m .vertices; indices = m .indices }
 
 -- what designer d sees in memory: quotas, used words and the words of both parts
-abbrev pub view : ℕ → Memory → View
-view d m = session.view (designerOf d) (sessionIn m)
+abbrev pub rawView : ℕ → Memory → View
+rawView d m = session.view (designerOf d) (sessionIn m)
 
 -- the quota of designer d in the four words of a start
-abbrev pub quotaOf : ℕ → List ℕ → Quota
-quotaOf d q = session.quotaOf (designerOf d) (quotaIn q 0) (quotaIn q 2)
+abbrev pub rawQuotaOf : ℕ → List ℕ → Quota
+rawQuotaOf d q = session.quotaOf (designerOf d) (quotaIn q 0) (quotaIn q 2)

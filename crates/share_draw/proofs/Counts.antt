@@ -9,12 +9,12 @@ use Rattle.mesh_geometry.proofs.Words.{words-length}
 use Rattle.patch_mesh.specs.Points.{points}
 use Rattle.tessellate.specs.Answers.{pointsOf, indicesOf}
 use Rattle.tessellate.specs.Draws.{pointWords, connectionWords}
-use Rattle.share_draw.specs.Operations.{shifted}
+use Rattle.share_draw.specs.Operations.{shiftedIndices}
 
 -- the words of its points
 pub point-words : (set : Settings) (p : Patch) → length (pointWords set p) ≡ 3 * pointsOf set p
 point-words set p = words-length (points (subdivisionOf set p))
 
 -- the words of its indices, whatever is added to them
-pub index-words : (n : ℕ) (set : Settings) (p : Patch) → length (shifted n set p) ≡ indicesOf set p
+pub index-words : (n : ℕ) (set : Settings) (p : Patch) → length (shiftedIndices n set p) ≡ indicesOf set p
 index-words n set p = length-map (connectionWords set p) (λ x. n + x)

@@ -12,12 +12,12 @@ use Rattle.share_state.specs.declared.state.State.{State}
 use Rattle.share_answers.specs.declared.answer.DrawAnswer.{DrawAnswer}
 use Rattle.share_answers.specs.declared.answer.DrawAnswer.the-variants.{Drawn, Discarded, NoRoomForVertices, NoRoomForIndices, BadTop, TooManyPoints, BadState}
 use Rattle.share_answers.proofs.answer.DrawAnswer.{the-type}
-use Rattle.share_answers.specs.Answers.{toldDraw, drawVerdict}
+use Rattle.share_answers.specs.Answers.{drawCode, drawVerdict}
 use Rattle.share_draw.specs.Operations.{DidDraw}
 
 -- every answer but "drawn"
 pub refused-draw : {d : Designer} {s : State} {set : Settings} {p : Patch} {v i : List ℕ} (r : DrawAnswer)
-    → OneOf (1 ∷ 2 ∷ 3 ∷ 4 ∷ 5 ∷ 6 ∷ []) (tagOf the-type r) → toldDraw r ≡ drawVerdict d s set p (length v) (length i)
+    → OneOf (1 ∷ 2 ∷ 3 ∷ 4 ∷ 5 ∷ 6 ∷ []) (tagOf the-type r) → drawCode r ≡ drawVerdict d s set p (length v) (length i)
     → DidDraw d s set p v v i i (record { answer = r; state = s })
 refused-draw (Drawn m k) h e = absurd (miss (1 ∷ 2 ∷ 3 ∷ 4 ∷ 5 ∷ 6 ∷ []) 0 tt h)
 refused-draw Discarded h e = record { answer = e; state = refl; vertices = refl; indices = refl }

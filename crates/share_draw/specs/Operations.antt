@@ -11,15 +11,15 @@ use Rattle.share_state.specs.declared.state.State.{State}
 use Rattle.share_draw.specs.declared.answer.DrawResult.{DrawResult}
 use Rattle.share_state.specs.SharedList.{grown, appended}
 use Rattle.share_state.specs.Operations.{unlessRefused}
-use Rattle.share_answers.specs.Answers.{toldDraw, pointsIn, drawVerdict}
+use Rattle.share_answers.specs.Answers.{drawCode, pointsHeld, drawVerdict}
 
 -- the index words of a patch, each plus the n points that the part holds already
-abbrev pub shifted : ℕ → Settings → Patch → List ℕ
-shifted n set p = map (λ x. n + x) (connectionWords set p)
+abbrev pub shiftedIndices : ℕ → Settings → Patch → List ℕ
+shiftedIndices n set p = map (λ x. n + x) (connectionWords set p)
 
 -- the index words that drawing appends
 abbrev pub newIndices : Designer → State → Settings → Patch → List ℕ
-newIndices d s set p = shifted (pointsIn d s) set p
+newIndices d s set p = shiftedIndices (pointsHeld d s) set p
 
 -- the state after a patch is drawn
 abbrev pub drawnState : Designer → State → Settings → Patch → State
@@ -27,7 +27,7 @@ drawnState d s set p = record { vertices = grown d (pointWords set p) (s .vertic
 
 -- the contract of drawing: v and i are the lists at entry, v′ and i′ at exit
 pub record DidDraw (d : Designer) (s : State) (set : Settings) (p : Patch) (v v′ i i′ : List ℕ) (r : DrawResult) : Type 0 where
-  pub answer : toldDraw (r .answer) ≡ drawVerdict d s set p (length v) (length i)
-  pub state : r .state ≡ unlessRefused (toldDraw (r .answer) .number) (drawnState d s set p) s
-  pub vertices : v′ ≡ unlessRefused (toldDraw (r .answer) .number) (appended d (pointWords set p) (s .vertices) v) v
-  pub indices : i′ ≡ unlessRefused (toldDraw (r .answer) .number) (appended d (newIndices d s set p) (s .indices) i) i
+  pub answer : drawCode (r .answer) ≡ drawVerdict d s set p (length v) (length i)
+  pub state : r .state ≡ unlessRefused (drawCode (r .answer) .number) (drawnState d s set p) s
+  pub vertices : v′ ≡ unlessRefused (drawCode (r .answer) .number) (appended d (pointWords set p) (s .vertices) v) v
+  pub indices : i′ ≡ unlessRefused (drawCode (r .answer) .number) (appended d (newIndices d s set p) (s .indices) i) i

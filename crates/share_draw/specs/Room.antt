@@ -13,7 +13,7 @@ use Rattle.share_state.specs.declared.state.SharedList.{SharedList}
 use Rattle.share_state.specs.SharedList.{share, partStart, grown, appended}
 
 -- the patch can be drawn, and its `need` words fit between `from` and `to` in the list xs
-pub record Between (set : Settings) (p : Patch) (need from to : ℕ) (xs : List ℕ) : Type 0 where
+pub record FitsBetween (set : Settings) (p : Patch) (need from to : ℕ) (xs : List ℕ) : Type 0 where
   pub top : isTop (set .top) ≡ true
   pub drawn : discards p ≡ false
   pub room : from + need ≤ to

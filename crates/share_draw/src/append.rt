@@ -6,8 +6,8 @@ ghost use lib.ListN.{length, getD};
 ghost use Rattle.buffer.specs.Over.{over};
 ghost use Rattle.tessellate.specs.Answers.{pointsOf, indicesOf};
 ghost use Rattle.tessellate.specs.Draws.{pointWords};
-ghost use Rattle.share_draw.specs.Operations.{shifted};
-ghost use Rattle.share_draw.specs.Room.{Between, RoomFor, Appended};
+ghost use Rattle.share_draw.specs.Operations.{shiftedIndices};
+ghost use Rattle.share_draw.specs.Room.{FitsBetween, RoomFor, Appended};
 use patch::kinds::Patch;
 use patch::settings::Settings;
 use share_state::shared_list::part_start;
@@ -18,7 +18,7 @@ use share_state::state::SharedList;
 
 // Draws the points into the words from `from` to `to`.
 fn write_points(patch: Patch, settings: Settings, vertices: &mut [u32], from: usize, to: usize)
-    requires { ⌜ Between settings patch (3 * pointsOf settings patch) from to (now vertices) ⌝ }
+    requires { ⌜ FitsBetween settings patch (3 * pointsOf settings patch) from to (now vertices) ⌝ }
     ensures { λ r. ⌜ now (vertices .exit) ≡ over (now (vertices .entry)) from (pointWords settings patch) ⌝ }
 {
     tessellate::draw::draw_points(patch, settings, &mut vertices[from..to]);
@@ -46,8 +46,8 @@ fn write_indices(
     words: usize,
     base: u16,
 )
-    requires { ⌜ Between settings patch (indicesOf settings patch) from to (now indices) ⌝ ∗ ⌜ words ≡ indicesOf settings patch ⌝ ∗ ⌜ base + pointsOf settings patch ≤ 65535 ⌝ }
-    ensures { λ r. ⌜ now (indices .exit) ≡ over (now (indices .entry)) from (shifted base settings patch) ⌝ }
+    requires { ⌜ FitsBetween settings patch (indicesOf settings patch) from to (now indices) ⌝ ∗ ⌜ words ≡ indicesOf settings patch ⌝ ∗ ⌜ base + pointsOf settings patch ≤ 65535 ⌝ }
+    ensures { λ r. ⌜ now (indices .exit) ≡ over (now (indices .entry)) from (shiftedIndices base settings patch) ⌝ }
 {
     tessellate::draw::draw_indices(patch, settings, &mut indices[from..to]);
     let end = from + words;
@@ -84,7 +84,7 @@ pub(crate) fn append_indices(
     base: u16,
 ) -> SharedList
     requires { ⌜ RoomFor settings patch (indicesOf settings patch) designer list (now indices) ⌝ ∗ ⌜ words ≡ indicesOf settings patch ⌝ ∗ ⌜ base + pointsOf settings patch ≤ 65535 ⌝ }
-    ensures { λ r. ⌜ Appended designer (shifted base settings patch) list (now (indices .entry)) (now (indices .exit)) r ⌝ }
+    ensures { λ r. ⌜ Appended designer (shiftedIndices base settings patch) list (now (indices .entry)) (now (indices .exit)) r ⌝ }
 {
     let start = part_start(list, designer);
     let share = share_of(list, designer);

@@ -11,10 +11,10 @@ use lib.ListN.{length}
 use Rattle.level.specs.Top.{isTop}
 use Rattle.patch.specs.declared.kinds.Patch.{Patch}
 use Rattle.patch.specs.declared.settings.Settings.{Settings}
-use Rattle.job_fields.specs.Settings.{firstUnknown}
-use Rattle.answer_codes.specs.Told.{Told, refused}
+use Rattle.job_fields.specs.Settings.{firstUnknownSetting}
+use Rattle.answer_codes.specs.AnswerCode.{AnswerCode, refused}
 use Rattle.call_answers.specs.declared.reply.Reply.{Reply}
-use Rattle.call_answers.specs.Replies.{Tells, unknownSetting, badTop}
+use Rattle.call_answers.specs.Replies.{IsReply, unknownSetting, badTop}
 use Rattle.call_answers.proofs.Replies.{said-two, says-as}
 use Rattle.call_inputs.specs.Inputs.{topIn, patchIn, settingsIn}
 use Rattle.share_state.specs.declared.state.Designer.{Designer}
@@ -25,19 +25,19 @@ use Rattle.share_state.specs.declared.answer.StartAnswer.the-variants as starti
 use Rattle.share_state.specs.declared.answer.StartAnswer.the-variants.{QuotasTooLarge}
 use Rattle.share_draw.specs.declared.answer.DrawResult.{DrawResult}
 use Rattle.share_state.specs.declared.answer.ClearResult.{ClearResult}
-use Rattle.share_state.specs.Answers.{done, toldStart, toldClear, quotasFit, accepted, clearVerdict}
-use Rattle.share_answers.specs.Answers.{toldDraw, drawVerdict}
+use Rattle.share_state.specs.Answers.{done, startCode, clearCode, quotasFit, accepted, clearVerdict}
+use Rattle.share_answers.specs.Answers.{drawCode, drawVerdict}
 use Rattle.share_state.specs.Operations.{unlessRefused, startState, clearedState, DidStart, DidClear}
 use Rattle.share_draw.specs.Operations.{drawnState, DidDraw}
 use Rattle.share_words.specs.Words.{stateIn, stateWords, quotaIn, designerOf}
-use Rattle.share_exports.specs.Calls.{unknownDesigner, asked, Called, DrawAsked, DrawCalled, Started, StartCalled, clearSays, Cleared, ClearCalled}
+use Rattle.share_exports.specs.Calls.{unknownDesigner, asked, ShareCalled, DrawAsked, DrawCalled, Started, StartCalled, clearSays, ShareCleared, ClearCalled}
 
 -- ---- refusals that the patch does not matter for
-module _ (bs : List ℕ) (d : ℕ) (ok : Bool) (t : Told) where
+module _ (bs : List ℕ) (d : ℕ) (ok : Bool) (t : AnswerCode) where
   abbrev place : ℕ
-  place = firstUnknown bs 0
+  place = firstUnknownSetting bs 0
 
-  abbrev chosen : Bool → Bool → Bool → Bool → Told → Told
+  abbrev chosen : Bool → Bool → Bool → Bool → AnswerCode → AnswerCode
   chosen a b c e x = cond a (cond b (cond c unknownDesigner (cond e (unknownSetting place) x)) (refused 14)) badTop
 
   -- no refusal: the answer is the operation's
@@ -80,7 +80,7 @@ module _ (bs : List ℕ) (d : ℕ) (ok : Bool) where
       unfolding asked
       found-designer h = rw (top, state, lt-ltb 1 d h)
 
-      module _ (designer : d ≤ 1) {k : ℕ} (first : k ≡ firstUnknown bs 0) where
+      module _ (designer : d ≤ 1) {k : ℕ} (first : k ≡ firstUnknownSetting bs 0) where
         pub found-setting : k < 5 → asked bs d ok done ≡ unknownSetting k
         unfolding asked
         found-setting h = rw (top, state, le-ltb 1 d designer, ← first, lt-ltb k 5 h)
@@ -97,14 +97,14 @@ stored (suc n) a b s w e = rw (ne-eqb (suc n) 0 (λ h. omega (arith, h)))
 
 -- what the operation did, answered and stored
 pub drew-known : {e : Designer} {s : State} {set : Settings} {p : Patch} {w w′ v v′ i i′ c′ : List ℕ} {r : DrawResult} {reply : Reply} {n : ℕ}
-    → DidDraw e s set p v v′ i i′ r → Tells (toldDraw (r .answer)) reply → w′ ≡ cond (eqb (reply .number) 0) (stateWords (r .state)) w
+    → DidDraw e s set p v v′ i i′ r → IsReply (drawCode (r .answer)) reply → w′ ≡ cond (eqb (reply .number) 0) (stateWords (r .state)) w
     → (n ≡ reply .number) × (c′ ≡ reply .first ∷ reply .second ∷ [])
-    → Called (drawVerdict e s set p (length v) (length i)) e s set p w w′ v v′ i i′ c′ n
+    → ShareCalled (drawVerdict e s set p (length v) (length i)) e s set p w w′ v v′ i i′ c′ n
 drew-known {e} {s} {set} {p} {w} {r = r} {reply = reply} h is k said =
     let told = said-two is said in
     record {
       says = says-as (sym (h .answer)) told;
-      state = rw (told .number) (k ∙ ap (λ (m : ℕ). cond (eqb m 0) (stateWords (r .state)) w) (is .number) ∙ stored (toldDraw (r .answer) .number) (r .state) (drawnState e s set p) s w (h .state));
+      state = rw (told .number) (k ∙ ap (λ (m : ℕ). cond (eqb m 0) (stateWords (r .state)) w) (is .number) ∙ stored (drawCode (r .answer) .number) (r .state) (drawnState e s set p) s w (h .state));
       vertices = rw (told .number) (h .vertices);
       indices = rw (told .number) (h .indices);
     }
@@ -114,7 +114,7 @@ called-as : (bs : List ℕ) (d : ℕ) {e e′ : Designer} {s s′ : State} {set 
     → e ≡ e′ → s ≡ s′ → set ≡ set′ → p ≡ p′ → DrawAsked bs d e s set p w w′ v v′ i i′ c′ r → DrawAsked bs d e′ s′ set′ p′ w w′ v v′ i i′ c′ r
 called-as bs d a b c f h = rw (← a, ← b, ← c, ← f) h
 
-module _ (bs : List ℕ) (xs : List Float) (d : ℕ) (w v i : List ℕ) {s : State} (state : s ≡ stateIn w) {reply : Reply} (is : Tells (asked bs d (accepted (length v) (length i) s) done) reply) {c′ : List ℕ} {r : ℕ} where
+module _ (bs : List ℕ) (xs : List Float) (d : ℕ) (w v i : List ℕ) {s : State} (state : s ≡ stateIn w) {reply : Reply} (is : IsReply (asked bs d (accepted (length v) (length i) s) done) reply) {c′ : List ℕ} {r : ℕ} where
   -- a refusal leaves everything as it was
   pub draw-refused : 0 < reply .number → (r ≡ reply .number) × (c′ ≡ reply .first ∷ reply .second ∷ []) → DrawCalled bs xs d w w v v i i c′ r
   draw-refused h said = called-as bs d refl state refl refl (go (asked bs d (accepted (length v) (length i) s) done .number) refl)
@@ -129,7 +129,7 @@ module _ (bs : List ℕ) (xs : List Float) (d : ℕ) (w v i : List ℕ) {s : Sta
 
   -- a designer and settings that are known
   pub draw-known : reply .number ≤ 0 → {e : Designer} {set : Settings} {p : Patch} → e ≡ designerOf d → set ≡ settingsIn bs → p ≡ patchIn bs xs → {w′ v′ i′ : List ℕ}
-      → Called (drawVerdict e s set p (length v) (length i)) e s set p w w′ v v′ i i′ c′ r → DrawCalled bs xs d w w′ v v′ i i′ c′ r
+      → ShareCalled (drawVerdict e s set p (length v) (length i)) e s set p w w′ v v′ i i′ c′ r → DrawCalled bs xs d w w′ v v′ i i′ c′ r
   draw-known low ed es ep h =
       let ok = accepted (length v) (length i) s in
       let none : asked bs d ok done .number ≡ 0 = omega (arith, is .number) in
@@ -143,18 +143,18 @@ started-as e f h = rw (← e, ← f) h
 module _ (q : List ℕ) (v i : ℕ) (w : List ℕ) {a b : Quota} (first : a ≡ quotaIn q 0) (second : b ≡ quotaIn q 2) {r : StartAnswer} (h : DidStart v i a b r) where
   pub start-refused : r ≡ QuotasTooLarge → StartCalled q v i w w 12
   start-refused e =
-      started-as first second (record { number = ap (λ (x : StartAnswer). toldStart x .number) (sym e) ∙ ap (λ (t : Told). t .number) (h .answer); state = refl })
+      started-as first second (record { number = ap (λ (x : StartAnswer). startCode x .number) (sym e) ∙ ap (λ (t : AnswerCode). t .number) (h .answer); state = refl })
 
   pub start-done : {s : State} {w′ : List ℕ} → r ≡ starting.Started s → w′ ≡ stateWords s → StartCalled q v i w w′ 0
-  start-done {s} {w′} e k = started-as first second (go (quotasFit v i a b) refl (ap toldStart (sym e) ∙ h .answer) (sym e ∙ h .is))
+  start-done {s} {w′} e k = started-as first second (go (quotasFit v i a b) refl (ap startCode (sym e) ∙ h .answer) (sym e ∙ h .is))
     where
       go : (x : Bool) → quotasFit v i a b ≡ x → done ≡ cond x done (refused 12) → starting.Started s ≡ cond x (starting.Started (startState v i a b)) QuotasTooLarge
           → Started v i a b w w′ 0
       go true f m n = let same : s ≡ startState v i a b = cc in record { number = rw f; state = k ∙ ap stateWords same }
-      go false f m n = let z : _≡_ {A = ℕ} 0 12 = ap (λ (t : Told). t .number) m in absurd (omega arith)
+      go false f m n = let z : _≡_ {A = ℕ} 0 12 = ap (λ (t : AnswerCode). t .number) m in absurd (omega arith)
 
 -- ---- clearing
-cleared-as : {d v i : ℕ} {e e′ : Designer} {s s′ : State} {w w′ : List ℕ} {r : ℕ} → e ≡ e′ → s ≡ s′ → Cleared d v i e s w w′ r → Cleared d v i e′ s′ w w′ r
+cleared-as : {d v i : ℕ} {e e′ : Designer} {s s′ : State} {w w′ : List ℕ} {r : ℕ} → e ≡ e′ → s ≡ s′ → ShareCleared d v i e s w w′ r → ShareCleared d v i e′ s′ w w′ r
 cleared-as a b h = rw (← a, ← b) h
 
 module _ (d v i : ℕ) (w : List ℕ) {s : State} (state : s ≡ stateIn w) where
@@ -170,9 +170,9 @@ module _ (d v i : ℕ) (w : List ℕ) {s : State} (state : s ≡ stateIn w) wher
     pub clear-done : d ≤ 1 → {e : Designer} → e ≡ designerOf d → {r : ClearResult} → DidClear e s v i r → {w′ : List ℕ} → w′ ≡ stateWords (r .state) → ClearCalled d v i w w′ 0
     unfolding clearSays clearVerdict
     clear-done h {e} ed {r} c k =
-        let told : toldClear (r .answer) ≡ done = c .answer ∙ rw ok in
+        let told : clearCode (r .answer) ≡ done = c .answer ∙ rw ok in
         cleared-as ed state
         (record {
           number = rw (ok, le-ltb 1 d h);
-          state = k ∙ ap stateWords (c .state ∙ ap (λ (t : Told). unlessRefused (t .number) (clearedState e s) s) told);
+          state = k ∙ ap stateWords (c .state ∙ ap (λ (t : AnswerCode). unlessRefused (t .number) (clearedState e s) s) told);
         })

@@ -13,10 +13,10 @@ use Rattle.level.specs.Top.{Top, isTop}
 use Rattle.patch.specs.declared.kinds.Patch.{Patch}
 use Rattle.patch.specs.declared.settings.Settings.{Settings}
 use Rattle.patch.specs.Subdivide.{discards}
-use Rattle.job_fields.specs.Settings.{choices, firstUnknown, AllBelow}
+use Rattle.job_fields.specs.Settings.{choices, firstUnknownSetting, AllBelow}
 use Rattle.job_fields.proofs.Limits.{first-is, first-none, first-all}
 use Rattle.tessellate.specs.Answers.{pointsOf, indicesOf}
-use Rattle.answer_codes.specs.Told.{Told, refused, drewBoth}
+use Rattle.answer_codes.specs.AnswerCode.{AnswerCode, refused, drewBoth}
 use Rattle.level.proofs.Top.{top-as, is-top, no-top, top-no}
 use Rattle.call_answers.specs.Replies.{unknownSetting, badTop, twoWords}
 use Rattle.call_inputs.specs.Inputs.{topIn, patchIn, settingsIn}
@@ -26,10 +26,10 @@ use Rattle.share_state.specs.declared.state.Quota.{Quota}
 use Rattle.share_state.specs.SharedList.{left}
 use Rattle.share_state.specs.Answers.{done, quotasFit, accepted}
 use Rattle.share_answers.specs.declared.answer.DrawAnswer.the-variants as drawing
-use Rattle.share_answers.specs.Answers.{roomVerdict, partVerdict, verdict, pointsIn}
+use Rattle.share_answers.specs.Answers.{roomVerdict, partVerdict, shareVerdict, pointsHeld}
 use Rattle.share_words.specs.Words.{stateIn, quotaIn, designerOf}
 use Rattle.share_exports.specs.Calls.{unknownDesigner, asked, DrawCalled, StartCalled, clearSays, ClearCalled}
-use Rattle.share_exports.specs.Exactly.{Fit, StartExactly, ClearExactly, ShareAnswer, no-designer, unknown, found, toldShare, ShareMeans, DrawExactly}
+use Rattle.share_exports.specs.Exactly.{Fit, StartExactly, ClearExactly, ShareAnswer, no-designer, unknown, found, shareCode, ShareMeans, DrawExactly}
 
 -- ---- starting
 fit-is : (v i : ℕ) (a b : Quota) → quotasFit v i a b ≡ true → Fit v i a b
@@ -91,7 +91,7 @@ module _ (bs : List ℕ) (d : ℕ) (ok : Bool) (p : Patch) (n v i : ℕ) where
   k = indicesOf set p
 
   abbrev place : ℕ
-  place = firstUnknown bs 0
+  place = firstUnknownSetting bs 0
 
   abbrev Right : ShareAnswer → Type 0
   Right x = ShareMeans bs d ok p n v i m k x
@@ -105,14 +105,14 @@ module _ (bs : List ℕ) (d : ℕ) (ok : Bool) (p : Patch) (n v i : ℕ) where
   abbrev right : ShareAnswer
   right = named (isTop (topIn bs)) ok (ltb 1 d) (ltb place 5) (discards p) (ltb 65535 (n + m)) (ltb v (3 * m)) (ltb i k)
 
-  right-told : asked bs d ok (verdict set p ok n v i) ≡ toldShare right
-  unfolding asked verdict partVerdict roomVerdict
+  right-told : asked bs d ok (shareVerdict set p ok n v i) ≡ shareCode right
+  unfolding asked shareVerdict partVerdict roomVerdict
   right-told = go (isTop (topIn bs)) ok (ltb 1 d) (ltb place 5) (discards p) (ltb 65535 (n + m)) (ltb v (3 * m)) (ltb i k)
     where
       go : (t o e u g a b c : Bool)
           → cond t (cond o (cond e unknownDesigner (cond u (unknownSetting place)
           (cond t (cond o (cond g (refused 1) (cond a (refused 13) (cond b (refused 3) (cond c (refused 4) (drewBoth m k))))) (refused 14)) (refused 11)))) (refused 14)) badTop
-          ≡ toldShare (named t o e u g a b c)
+          ≡ shareCode (named t o e u g a b c)
       go false o e u g a b c = refl
       go true false e u g a b c = refl
       go true true true u g a b c = refl
@@ -159,10 +159,10 @@ module _ (bs : List ℕ) (d : ℕ) (ok : Bool) (p : Patch) (n v i : ℕ) where
       rw (is-top (topIn bs) t, o, le-ltb 1 d e, first-all choices bs 0 f, g, le-ltb 65535 (n + m) a, le-ltb v (3 * m) b, le-ltb i k c, s, r)
 
 abbrev numberOf : ShareAnswer → ℕ
-numberOf a = toldShare a .number
+numberOf a = shareCode a .number
 
 abbrev wordsOf : ShareAnswer → List ℕ
-wordsOf a = twoWords (toldShare a .values)
+wordsOf a = twoWords (shareCode a .values)
 
 abbrev answerIn : ℕ → List ℕ → ShareAnswer
 answerIn n c =
@@ -191,11 +191,11 @@ draw-call-exactly bs xs d w {v = v} {i = i} {c′ = c′} {r = r} h =
     let p = patchIn bs xs in
     let s = stateIn w in
     let ok = accepted (length v) (length i) s in
-    let n = pointsIn (designerOf d) s in
+    let n = pointsHeld (designerOf d) s in
     let x = left (designerOf d) (s .vertices) in
     let y = left (designerOf d) (s .indices) in
     let a = right bs d ok p n x y in
     let q = right-told bs d ok p n x y in
     let t : Reports numberOf wordsOf a c′ r =
-    record { number = h .says .number ∙ ap (λ (e : Told). e .number) q; words = h .says .counts ∙ ap (λ (e : Told). twoWords (e .values)) q } in
+    record { number = h .says .number ∙ ap (λ (e : AnswerCode). e .number) q; words = h .says .counts ∙ ap (λ (e : AnswerCode). twoWords (e .values)) q } in
     answered-exactly answerIn (same-answer a) t same-answer (λ b. (λ f. subst (Right bs d ok p n x y) f (right-means bs d ok p n x y), means-right bs d ok p n x y b))

@@ -10,8 +10,8 @@ use lib.ListN.{length}
 use Rattle.level.specs.Top.{isTop}
 use Rattle.patch.specs.declared.kinds.Patch.{Patch}
 use Rattle.patch.specs.declared.settings.Settings.{Settings}
-use Rattle.job_fields.specs.Settings.{firstUnknown}
-use Rattle.answer_codes.specs.Told.{Told, refused}
+use Rattle.job_fields.specs.Settings.{firstUnknownSetting}
+use Rattle.answer_codes.specs.AnswerCode.{AnswerCode, refused}
 use Rattle.tessellate.specs.Draws.{pointWords}
 use Rattle.call_answers.specs.Replies.{unknownSetting, badTop, twoWords, Says}
 use Rattle.call_inputs.specs.Inputs.{topIn, patchIn, settingsIn}
@@ -26,18 +26,18 @@ use Rattle.share_draw.specs.Operations.{newIndices, drawnState}
 use Rattle.share_words.specs.Words.{stateIn, stateWords, quotaIn, designerOf}
 
 -- answer 15: the designer is neither 0 nor 1
-abbrev pub unknownDesigner : Told
+abbrev pub unknownDesigner : AnswerCode
 unknownDesigner = refused 15
 
 -- the answer t if designer and settings are known; refusals in the order 11, 14, 15, 8
-unfoldable pub asked : List ℕ → ℕ → Bool → Told → Told
+unfoldable pub asked : List ℕ → ℕ → Bool → AnswerCode → AnswerCode
 asked bs d ok t =
     cond (isTop (topIn bs))
-    (cond ok (cond (ltb 1 d) unknownDesigner (cond (ltb (firstUnknown bs 0) 5) (unknownSetting (firstUnknown bs 0)) t)) (refused 14))
+    (cond ok (cond (ltb 1 d) unknownDesigner (cond (ltb (firstUnknownSetting bs 0) 5) (unknownSetting (firstUnknownSetting bs 0)) t)) (refused 14))
     badTop
 
 -- the contract of a drawing call with the answer t, for a designer, a state, settings and a patch
-pub record Called (t : Told) (e : Designer) (s : State) (set : Settings) (p : Patch) (w w′ v v′ i i′ c′ : List ℕ) (r : ℕ) : Type 0 where
+pub record ShareCalled (t : AnswerCode) (e : Designer) (s : State) (set : Settings) (p : Patch) (w w′ v v′ i i′ c′ : List ℕ) (r : ℕ) : Type 0 where
   pub says : Says twoWords t c′ r
   -- if drawn, the state and both lists are those of the operation; otherwise all are unchanged
   pub state : w′ ≡ unlessRefused r (stateWords (drawnState e s set p)) w
@@ -45,11 +45,11 @@ pub record Called (t : Told) (e : Designer) (s : State) (set : Settings) (p : Pa
   pub indices : i′ ≡ unlessRefused r (appended e (newIndices e s set p) (s .indices) i) i
 
 -- the answer to drawing, for the setting bytes bs and the designer's number d
-abbrev pub drawSays : List ℕ → ℕ → Designer → State → Settings → Patch → ℕ → ℕ → Told
+abbrev pub drawSays : List ℕ → ℕ → Designer → State → Settings → Patch → ℕ → ℕ → AnswerCode
 drawSays bs d e s set p v i = asked bs d (accepted v i s) (drawVerdict e s set p v i)
 
 abbrev pub DrawAsked : List ℕ → ℕ → Designer → State → Settings → Patch → List ℕ → List ℕ → List ℕ → List ℕ → List ℕ → List ℕ → List ℕ → ℕ → Type 0
-DrawAsked bs d e s set p w w′ v v′ i i′ c′ r = Called (drawSays bs d e s set p (length v) (length i)) e s set p w w′ v v′ i i′ c′ r
+DrawAsked bs d e s set p w w′ v v′ i i′ c′ r = ShareCalled (drawSays bs d e s set p (length v) (length i)) e s set p w w′ v v′ i i′ c′ r
 
 -- the contract of drawing
 abbrev pub DrawCalled : List ℕ → List Float → ℕ → List ℕ → List ℕ → List ℕ → List ℕ → List ℕ → List ℕ → List ℕ → ℕ → Type 0
@@ -65,13 +65,13 @@ abbrev pub StartCalled : List ℕ → ℕ → ℕ → List ℕ → List ℕ → 
 StartCalled q v i w w′ r = Started v i (quotaIn q 0) (quotaIn q 2) w w′ r
 
 -- the answer to clearing: 14 first, then 15
-unfoldable pub clearSays : ℕ → Bool → Told
+unfoldable pub clearSays : ℕ → Bool → AnswerCode
 clearSays d ok = cond ok (cond (ltb 1 d) unknownDesigner done) (refused 14)
 
 -- clearing for the designer's number d, with lists of v and i words lent
-pub record Cleared (d v i : ℕ) (e : Designer) (s : State) (w w′ : List ℕ) (r : ℕ) : Type 0 where
+pub record ShareCleared (d v i : ℕ) (e : Designer) (s : State) (w w′ : List ℕ) (r : ℕ) : Type 0 where
   pub number : r ≡ clearSays d (accepted v i s) .number
   pub state : w′ ≡ unlessRefused r (stateWords (clearedState e s)) w
 
 abbrev pub ClearCalled : ℕ → ℕ → ℕ → List ℕ → List ℕ → ℕ → Type 0
-ClearCalled d v i w w′ r = Cleared d v i (designerOf d) (stateIn w) w w′ r
+ClearCalled d v i w w′ r = ShareCleared d v i (designerOf d) (stateIn w) w w′ r

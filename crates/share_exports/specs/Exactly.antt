@@ -10,7 +10,7 @@ use Rattle.patch.specs.declared.kinds.Patch.{Patch}
 use Rattle.patch.specs.Subdivide.{discards}
 use Rattle.job_fields.specs.Settings.{choices, FirstOver, AllBelow}
 use Rattle.tessellate.specs.Answers.{pointsOf, indicesOf}
-use Rattle.answer_codes.specs.Told.{Told}
+use Rattle.answer_codes.specs.AnswerCode.{AnswerCode}
 use Rattle.call_answers.specs.Replies.{unknownSetting, twoWords}
 use Rattle.call_inputs.specs.Inputs.{topIn, patchIn, settingsIn}
 use Rattle.answer_codes.specs.Reports.{AnsweredExactly}
@@ -19,7 +19,7 @@ use Rattle.share_state.specs.SharedList.{left}
 use Rattle.share_state.specs.Answers.{accepted}
 use Rattle.share_answers.specs.declared.answer.DrawAnswer.{DrawAnswer}
 use Rattle.share_answers.specs.declared.answer.DrawAnswer.the-variants as drawing
-use Rattle.share_answers.specs.Answers.{toldDraw, pointsIn}
+use Rattle.share_answers.specs.Answers.{drawCode, pointsHeld}
 use Rattle.share_words.specs.Words.{stateIn, quotaIn, designerOf}
 use Rattle.share_exports.specs.Calls.{unknownDesigner}
 
@@ -44,18 +44,18 @@ pub data ShareAnswer : Type 0 where
   unknown : ℕ → ShareAnswer
   found : DrawAnswer → ShareAnswer
 
-abbrev pub toldShare : ShareAnswer → Told
-toldShare no-designer = unknownDesigner
-toldShare (unknown place) = unknownSetting place
-toldShare (found a) = toldDraw a
+abbrev pub shareCode : ShareAnswer → AnswerCode
+shareCode no-designer = unknownDesigner
+shareCode (unknown place) = unknownSetting place
+shareCode (found a) = drawCode a
 
 -- the settings and the designer are known, and the state is good; `ok` says whether the state and the lists are accepted
-abbrev pub Known : List ℕ → ℕ → Bool → Type 0
-Known bs d ok = Top (topIn bs) × (ok ≡ true) × (d ≤ 1) × AllBelow choices bs 0
+abbrev pub ShareKnown : List ℕ → ℕ → Bool → Type 0
+ShareKnown bs d ok = Top (topIn bs) × (ok ≡ true) × (d ≤ 1) × AllBelow choices bs 0
 
 -- the same, and the patch is not discarded
-abbrev pub Drawable : List ℕ → ℕ → Bool → Patch → Type 0
-Drawable bs d ok p = Known bs d ok × (discards p ≡ false)
+abbrev pub ShareDrawable : List ℕ → ℕ → Bool → Patch → Type 0
+ShareDrawable bs d ok p = ShareKnown bs d ok × (discards p ≡ false)
 
 -- when each answer is right, in the order of finding, for m points and k indices and a part that holds n points and has v and i words left
 abbrev pub ShareMeans : List ℕ → ℕ → Bool → Patch → ℕ → ℕ → ℕ → ℕ → ℕ → ShareAnswer → Type 0
@@ -63,16 +63,16 @@ ShareMeans bs d ok p n v i m k (found drawing.BadTop) = Top (topIn bs) → ⊥
 ShareMeans bs d ok p n v i m k (found drawing.BadState) = Top (topIn bs) × (ok ≡ false)
 ShareMeans bs d ok p n v i m k no-designer = Top (topIn bs) × (ok ≡ true) × (1 < d)
 ShareMeans bs d ok p n v i m k (unknown place) = Top (topIn bs) × (ok ≡ true) × (d ≤ 1) × FirstOver choices bs 0 place
-ShareMeans bs d ok p n v i m k (found drawing.Discarded) = Known bs d ok × (discards p ≡ true)
-ShareMeans bs d ok p n v i m k (found drawing.TooManyPoints) = Drawable bs d ok p × (65535 < n + m)
-ShareMeans bs d ok p n v i m k (found drawing.NoRoomForVertices) = Drawable bs d ok p × (n + m ≤ 65535) × (v < 3 * m)
-ShareMeans bs d ok p n v i m k (found drawing.NoRoomForIndices) = Drawable bs d ok p × (n + m ≤ 65535) × (3 * m ≤ v) × (i < k)
-ShareMeans bs d ok p n v i m k (found (drawing.Drawn x y)) = Drawable bs d ok p × (n + m ≤ 65535) × (3 * m ≤ v) × (k ≤ i) × (x ≡ m) × (y ≡ k)
+ShareMeans bs d ok p n v i m k (found drawing.Discarded) = ShareKnown bs d ok × (discards p ≡ true)
+ShareMeans bs d ok p n v i m k (found drawing.TooManyPoints) = ShareDrawable bs d ok p × (65535 < n + m)
+ShareMeans bs d ok p n v i m k (found drawing.NoRoomForVertices) = ShareDrawable bs d ok p × (n + m ≤ 65535) × (v < 3 * m)
+ShareMeans bs d ok p n v i m k (found drawing.NoRoomForIndices) = ShareDrawable bs d ok p × (n + m ≤ 65535) × (3 * m ≤ v) × (i < k)
+ShareMeans bs d ok p n v i m k (found (drawing.Drawn x y)) = ShareDrawable bs d ok p × (n + m ≤ 65535) × (3 * m ≤ v) × (k ≤ i) × (x ≡ m) × (y ≡ k)
 
 -- each answer is given, by number and words, exactly if it is right: w are the words of the state at entry, c′ the counts at exit
 abbrev pub DrawExactly : List ℕ → List Float → ℕ → List ℕ → ℕ → ℕ → List ℕ → ℕ → Type 0
 DrawExactly bs xs d w v i c′ r =
-    AnsweredExactly (λ a. toldShare a .number) (λ a. twoWords (toldShare a .values))
-    (ShareMeans bs d (accepted v i (stateIn w)) (patchIn bs xs) (pointsIn (designerOf d) (stateIn w))
+    AnsweredExactly (λ a. shareCode a .number) (λ a. twoWords (shareCode a .values))
+    (ShareMeans bs d (accepted v i (stateIn w)) (patchIn bs xs) (pointsHeld (designerOf d) (stateIn w))
     (left (designerOf d) (stateIn w .vertices)) (left (designerOf d) (stateIn w .indices)) (pointsOf (settingsIn bs) (patchIn bs xs)) (indicesOf (settingsIn bs) (patchIn bs xs)))
     c′ r

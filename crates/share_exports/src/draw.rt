@@ -1,9 +1,9 @@
 // Drawing into a designer's part.
 ghost use lib.ListN.{length};
-ghost use Rattle.call_answers.specs.Replies.{Tells};
+ghost use Rattle.call_answers.specs.Replies.{IsReply};
 ghost use Rattle.share_state.specs.Answers.{done, accepted};
 ghost use Rattle.share_answers.specs.Answers.{drawVerdict};
-ghost use Rattle.share_exports.specs.Calls.{asked, DrawCalled, Called};
+ghost use Rattle.share_exports.specs.Calls.{asked, DrawCalled, ShareCalled};
 use call_answers::reply::Reply;
 use call_answers::reply::bad_top;
 use call_answers::reply::refusal;
@@ -20,7 +20,7 @@ use share_words::words::state_in;
 
 // Returns the refusal of a call that its patch does not matter for, or the number 0.
 fn objection(state: State, designer: u32, settings: &[u8; 6], v: usize, i: usize) -> Reply
-    ensures { λ r. ⌜ Tells (asked (now (settings .entry)) designer (accepted v i state) done) r ⌝ }
+    ensures { λ r. ⌜ IsReply (asked (now (settings .entry)) designer (accepted v i state) done) r ⌝ }
 {
     let top = call_inputs::input::top_in(settings);
     if !level::is_top(top) {
@@ -50,7 +50,7 @@ fn draw_known(
     indices: &mut [u16],
     counts: &mut [u32; 2],
 ) -> u32
-    ensures { λ r. ⌜ Called (drawVerdict designer state settings patch (length (now (vertices .entry))) (length (now (indices .entry)))) designer state settings patch (now (words .entry)) (now (words .exit)) (now (vertices .entry)) (now (vertices .exit)) (now (indices .entry)) (now (indices .exit)) (now (counts .exit)) r ⌝ }
+    ensures { λ r. ⌜ ShareCalled (drawVerdict designer state settings patch (length (now (vertices .entry))) (length (now (indices .entry)))) designer state settings patch (now (words .entry)) (now (words .exit)) (now (vertices .entry)) (now (vertices .exit)) (now (indices .entry)) (now (indices .exit)) (now (counts .exit)) r ⌝ }
 {
     let result = share_draw::draw::draw(state, designer, patch, settings, vertices, indices);
     let answer = result.answer;

@@ -8,12 +8,12 @@ use native.Mathlib.Omega.{arith}
 use borrow.Author.Tests.{leb-true}
 use lib.Dec.{leb}
 use lib.ListN.{length}
-use Rattle.answer_codes.specs.Told.{Told}
+use Rattle.answer_codes.specs.AnswerCode.{AnswerCode}
 use Rattle.share_state.specs.declared.state.Designer.{Designer}
 use Rattle.share_state.specs.declared.state.Designer.the-variants.{First, Second}
 use Rattle.share_state.specs.declared.state.Quota.{Quota}
 use Rattle.share_state.specs.Answers.{quotasFit}
-use Rattle.share_isolation.specs.Session.{Call, Session, Answered, answers, play, reply, next, same, callsOf, answersOf, ownState, OwnState, View, view, quotaOf, begun}
+use Rattle.share_isolation.specs.Session.{Call, Session, DesignerAnswer, answers, play, reply, sessionAfter, sameDesigner, callsOf, answersOf, ownState, OwnState, View, view, quotaOf, begun}
 use Rattle.share_state.proofs.Sound.{both}
 use Rattle.share_isolation.proofs.Steps.{those-twice, seen, answered, kept-after}
 use Rattle.share_isolation.proofs.Seen.{same-is}
@@ -35,21 +35,21 @@ begun-good a b v i e =
 
 module _ (d : Designer) where
   abbrev mine : Call → Bool
-  mine c = same d (c .by)
+  mine c = sameDesigner d (c .by)
 
-  abbrev its : Answered → Bool
-  its a = same d (a .to)
+  abbrev its : DesignerAnswer → Bool
+  its a = sameDesigner d (a .to)
 
   -- the view after calls is that after the designer's own calls
   own-view : (s : Session) → Good s → (cs : List Call) → view d (play s cs) ≡ viewAfter (view d s) (callsOf d cs)
-  own-view = seen next Good good-next mine (view d) viewNext (λ s g c e. own-next s g d c (same-is d (c .by) e)) (λ s g c e. other-next s g d c e)
+  own-view = seen sessionAfter Good good-next mine (view d) viewNext (λ s g c e. own-next s g d c (same-is d (c .by) e)) (λ s g c e. other-next s g d c e)
 
   -- so are the answers
   own-answers : (s : Session) → Good s → (cs : List Call) → answersOf d (answers s cs) ≡ ownStateAnswers (ownState d (s .state)) (callsOf d cs)
   own-answers =
-      answered next Good good-next mine (λ (s : Session). ownState d (s .state)) ownStateNext (λ s g c e. own-state-next s g d c (same-is d (c .by) e))
+      answered sessionAfter Good good-next mine (λ (s : Session). ownState d (s .state)) ownStateNext (λ s g c e. own-state-next s g d c (same-is d (c .by) e))
       (λ s g c e. ap (λ (w : View). w .state) (other-next s g d c e)) its reply ownReply (λ s c. refl)
-      (λ s g c e. ap (λ (t : Told). record { to = c .by; told = t }) (own-answer s g d c (same-is d (c .by) e)))
+      (λ s g c e. ap (λ (t : AnswerCode). record { to = c .by; code = t }) (own-answer s g d c (same-is d (c .by) e)))
 
   -- selecting a designer's calls twice changes nothing
   own-calls : (cs : List Call) → callsOf d (callsOf d cs) ≡ callsOf d cs
@@ -58,8 +58,8 @@ module _ (d : Designer) where
 -- calls keep the lengths of the lists
 pub kept-lengths : (s : Session) → Good s → (cs : List Call) → (length (play s cs .vertices) ≡ length (s .vertices)) × (length (play s cs .indices) ≡ length (s .indices))
 kept-lengths s g cs = (
-  kept-after next Good good-next (λ (x : Session). length (x .vertices)) (λ x h c. length-next x h c .0) s g cs,
-  kept-after next Good good-next (λ (x : Session). length (x .indices)) (λ x h c. length-next x h c .1) s g cs,
+  kept-after sessionAfter Good good-next (λ (x : Session). length (x .vertices)) (λ x h c. length-next x h c .0) s g cs,
+  kept-after sessionAfter Good good-next (λ (x : Session). length (x .indices)) (λ x h c. length-next x h c .1) s g cs,
 )
 
 -- what one designer gets from all calls is the same as from the designer's own calls alone

@@ -15,14 +15,14 @@ use Rattle.patch_mesh.specs.Inside.{SpotsOnce}
 use Rattle.mesh_geometry.proofs.ReadBack.{read-points}
 use Rattle.patch_mesh.proofs.Demand.{demand}
 use Rattle.patch_mesh.proofs.Once.{demand-once}
-use Rattle.answer_codes.specs.Told.{Told, drewBoth}
+use Rattle.answer_codes.specs.AnswerCode.{AnswerCode, drewBoth}
 use Rattle.tessellate.specs.Draws.{pointWords, connectionWords}
 use Rattle.level.proofs.Top.{top-as}
 use Rattle.share_state.specs.declared.state.Designer.{Designer}
 use Rattle.share_state.specs.declared.state.State.{State}
 use Rattle.share_draw.specs.declared.answer.DrawResult.{DrawResult}
 use Rattle.share_state.specs.SharedList.{firstFree}
-use Rattle.share_answers.specs.Answers.{toldDraw, pointsIn}
+use Rattle.share_answers.specs.Answers.{drawCode, pointsHeld}
 use Rattle.share_draw.specs.Operations.{newIndices, DidDraw}
 use Rattle.share_draw.proofs.Parts.{lent-words}
 use Rattle.share_draw.proofs.Counts.{point-words, index-words}
@@ -43,13 +43,13 @@ written xs {xs′} a m ws e h is =
 
 -- the points and indices that a call appended, read from the lists at exit; from each index the number of earlier points is subtracted
 pub one-call : (d : Designer) (s : State) (set : Settings) (p : Patch) {v v′ i i′ : List ℕ} (r : DrawResult) (m k : ℕ) → DidDraw d s set p v v′ i i′ r
-    → toldDraw (r .answer) ≡ drewBoth m k
-    → Demand set p (readPoints (take (3 * m) (drop (firstFree d (s .vertices)) v′))) (map (λ x. x - pointsIn d s) (take k (drop (firstFree d (s .indices)) i′)))
+    → drawCode (r .answer) ≡ drewBoth m k
+    → Demand set p (readPoints (take (3 * m) (drop (firstFree d (s .vertices)) v′))) (map (λ x. x - pointsHeld d s) (take k (drop (firstFree d (s .indices)) i′)))
 one-call d s set p {v} {v′} {i} {i′} r m k h e =
     let c = subdivisionOf set p in
     let g = ready d s set p v i m k (sym e ∙ h .answer) in
-    let n = pointsIn d s in
-    let drawn : toldDraw (r .answer) .number ≡ 0 = ap (λ (t : Told). t .number) e in
+    let n = pointsHeld d s in
+    let drawn : drawCode (r .answer) .number ≡ 0 = ap (λ (t : AnswerCode). t .number) e in
     let vs : v′ ≡ over v (firstFree d (s .vertices)) (pointWords set p) = h .vertices ∙ rw drawn in
     let is : i′ ≡ over i (firstFree d (s .indices)) (newIndices d s set p) = h .indices ∙ rw drawn in
     let ps = written v (firstFree d (s .vertices)) (3 * m) (pointWords set p) (omega (arith, g .points, point-words set p)) (omega (arith, g .vertices)) vs in
@@ -58,7 +58,7 @@ one-call d s set p {v} {v′} {i} {i′} r m k h e =
 
 -- exactly one triangle holds each spot
 pub once-call : (d : Designer) (s : State) (set : Settings) (p : Patch) {v v′ i i′ : List ℕ} (r : DrawResult) (m k : ℕ) → DidDraw d s set p v v′ i i′ r
-    → toldDraw (r .answer) ≡ drewBoth m k
-    → SpotsOnce set p (readPoints (take (3 * m) (drop (firstFree d (s .vertices)) v′))) (map (λ x. x - pointsIn d s) (take k (drop (firstFree d (s .indices)) i′)))
+    → drawCode (r .answer) ≡ drewBoth m k
+    → SpotsOnce set p (readPoints (take (3 * m) (drop (firstFree d (s .vertices)) v′))) (map (λ x. x - pointsHeld d s) (take k (drop (firstFree d (s .indices)) i′)))
 once-call d s set p {v} {i = i} r m k h e =
     demand-once set (top-as (set .top) (ready d s set p v i m k (sym e ∙ h .answer) .vertices .top)) p (one-call d s set p r m k h e)

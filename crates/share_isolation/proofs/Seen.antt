@@ -11,12 +11,12 @@ use Rattle.share_state.specs.declared.state.Designer.{Designer}
 use Rattle.share_state.specs.declared.state.Designer.the-variants.{First, Second}
 use Rattle.share_state.specs.declared.state.SharedList.{SharedList}
 use Rattle.share_state.specs.SharedList.{share, partStart, firstFree, part, usedTo, withUsed, appended}
-use Rattle.share_isolation.specs.Session.{same}
+use Rattle.share_isolation.specs.Session.{sameDesigner}
 use Rattle.share_isolation.proofs.Beside.{inside, behind, before}
 use Rattle.share_state.proofs.Sound.{Sound, lies}
 
--- two designers are equal if `same` says so
-pub same-is : (d e : Designer) → same d e ≡ true → e ≡ d
+-- two designers are equal if `sameDesigner` says so
+pub same-is : (d e : Designer) → sameDesigner d e ≡ true → e ≡ d
 same-is First First h = refl
 same-is First Second h = absurd (true≢false (sym h))
 same-is Second First h = absurd (true≢false (sym h))
@@ -27,7 +27,7 @@ pub own-share : (d : Designer) (n : ℕ) (t : SharedList) → share d (withUsed 
 own-share First n t = refl
 own-share Second n t = refl
 
-pub other-share : (d e : Designer) → same d e ≡ false → (n : ℕ) (t : SharedList) → share d (withUsed e n t) ≡ share d t
+pub other-share : (d e : Designer) → sameDesigner d e ≡ false → (n : ℕ) (t : SharedList) → share d (withUsed e n t) ≡ share d t
 other-share First First h n t = absurd (true≢false h)
 other-share First Second h n t = refl
 other-share Second First h n t = refl
@@ -56,7 +56,7 @@ module _ (t : SharedList) (xs : List ℕ) (s : Sound t) (fits : length xs ≡ t 
   append-own d ws h = inside xs (partStart d t) (share d t .quota) (share d t .used) ws h (omega (arith, lies d s))
 
   -- appending to the other's part: nothing changes
-  pub append-other : (d e : Designer) → same d e ≡ false → (ws : List ℕ) → share e t .used + length ws ≤ share e t .quota
+  pub append-other : (d e : Designer) → sameDesigner d e ≡ false → (ws : List ℕ) → share e t .used + length ws ≤ share e t .quota
       → part d t (appended e ws t xs) ≡ part d t xs
   append-other First First h ws k = absurd (true≢false h)
   append-other First Second h ws k = behind xs 0 (t .first .quota) (firstFree Second t) ws (omega arith) (omega arith)

@@ -7,17 +7,17 @@ use native.Mathlib.Omega.{arith}
 use lib.ListN.{length}
 use Rattle.patch.specs.declared.kinds.Patch.{Patch}
 use Rattle.patch.specs.declared.settings.Settings.{Settings}
-use Rattle.answer_codes.specs.Told.{Told}
+use Rattle.answer_codes.specs.AnswerCode.{AnswerCode}
 use Rattle.tessellate.specs.Draws.{pointWords}
 use Rattle.share_state.specs.declared.state.Designer.{Designer}
 use Rattle.share_state.specs.declared.state.Share.{Share}
 use Rattle.share_state.specs.declared.state.State.{State}
 use Rattle.share_state.specs.SharedList.{share, left}
 use Rattle.share_state.specs.Answers.{lent, accepted}
-use Rattle.share_answers.specs.Answers.{pointsIn}
+use Rattle.share_answers.specs.Answers.{pointsHeld}
 use Rattle.share_state.specs.Operations.{unlessRefused}
 use Rattle.share_draw.specs.Operations.{newIndices}
-use Rattle.share_isolation.specs.Session.{Request, draw, clear, Call, Session, answerTo, served, next, answer, same, ownState, View, view}
+use Rattle.share_isolation.specs.Session.{Request, draw, clear, Call, Session, answerTo, served, sessionAfter, answer, sameDesigner, ownState, View, view}
 use Rattle.share_state.proofs.Sound.{and-true, SoundState, state-test, lies, still-sound, still-whole, whole-points}
 use Rattle.share_answers.proofs.Passed.{passed}
 use Rattle.share_draw.proofs.Counts.{point-words, index-words}
@@ -45,12 +45,12 @@ module _ (s : State) (f : SoundState s) where
   has-room : (d : Designer) (r : Request) (v i : ℕ) → answerTo s d r v i .number ≡ 0 → Served s d r
   unfolding answerTo
   has-room d (draw set p) v i h =
-      let k = passed set p (accepted v i s) (pointsIn d s) (left d (s .vertices)) (left d (s .indices)) h in
+      let k = passed set p (accepted v i s) (pointsHeld d s) (left d (s .vertices)) (left d (s .indices)) h in
       let a = lies d (f .vertices) in
       let b = lies d (f .indices) in
       record {
         vertices = omega (arith, point-words set p);
-        indices = omega (arith, index-words (pointsIn d s) set p);
+        indices = omega (arith, index-words (pointsHeld d s) set p);
         whole = omega (arith, point-words set p, whole-points d (f .whole));
       }
   has-room d clear v i h = tt
@@ -113,7 +113,7 @@ module _ (s : Session) (g : Good s) where
       same-view (same-length d _ _) (same-length d _ _) (own-share d _ _) (own-share d _ _) (same-part d d 0 (s .state .vertices) _) (same-part d d 0 (s .state .indices) _)
 
   -- the other's request keeps the view
-  other-served : (d e : Designer) → same d e ≡ false → (r : Request) → Served (s .state) e r → view d (served s e r) ≡ view d s
+  other-served : (d e : Designer) → sameDesigner d e ≡ false → (r : Request) → Served (s .state) e r → view d (served s e r) ≡ view d s
   unfolding served made
   other-served d e n (draw set p) h =
       same-view (same-length e _ _) (same-length e _ _) (other-share d e n _ _) (other-share d e n _ _)
@@ -123,7 +123,7 @@ module _ (s : Session) (g : Good s) where
       same-view (same-length e _ _) (same-length e _ _) (other-share d e n _ _) (other-share d e n _ _) (same-part d e 0 (s .state .vertices) _) (same-part d e 0 (s .state .indices) _)
 
   -- ---- the same for a call, refused or not
-  pub good-next : (c : Call) → Good (next s c)
+  pub good-next : (c : Call) → Good (sessionAfter s c)
   good-next c = go (answer s c .number) refl
     where
       go : (n : ℕ) → answer s c .number ≡ n → Good (unlessRefused n (served s (c .by) (c .request)) s)
@@ -131,7 +131,7 @@ module _ (s : Session) (g : Good s) where
       go (suc n) e = g
 
   -- the lists keep their lengths
-  pub length-next : (c : Call) → (length (next s c .vertices) ≡ length (s .vertices)) × (length (next s c .indices) ≡ length (s .indices))
+  pub length-next : (c : Call) → (length (sessionAfter s c .vertices) ≡ length (s .vertices)) × (length (sessionAfter s c .indices) ≡ length (s .indices))
   length-next c = go (answer s c .number) refl
     where
       go : (n : ℕ) → answer s c .number ≡ n
@@ -140,7 +140,7 @@ module _ (s : Session) (g : Good s) where
       go zero e = length-served (c .by) (c .request) (has-room (s .state) (g .sound) (c .by) (c .request) (c .vertices) (c .indices) e)
       go (suc n) e = (refl, refl)
 
-  pub other-next : (d : Designer) (c : Call) → same d (c .by) ≡ false → view d (next s c) ≡ view d s
+  pub other-next : (d : Designer) (c : Call) → sameDesigner d (c .by) ≡ false → view d (sessionAfter s c) ≡ view d s
   other-next d c n = go (answer s c .number) refl
     where
       go : (k : ℕ) → answer s c .number ≡ k → view d (unlessRefused k (served s (c .by) (c .request)) s) ≡ view d s
@@ -151,9 +151,9 @@ module _ (s : Session) (g : Good s) where
   pub own-answer : (d : Designer) (c : Call) → c .by ≡ d → answer s c ≡ callAnswer (ownState d (s .state)) c
   own-answer d c e = answer-own (s .state) (g .sound) (c .by) (c .request) (c .vertices) (c .indices) ∙ ap (λ (x : Designer). callAnswer (ownState x (s .state)) c) e
 
-  pub own-next : (d : Designer) (c : Call) → c .by ≡ d → view d (next s c) ≡ viewNext (view d s) c
+  pub own-next : (d : Designer) (c : Call) → c .by ≡ d → view d (sessionAfter s c) ≡ viewNext (view d s) c
   own-next d c e =
-      go (answer s c .number) refl ∙ ap (λ (t : Told). unlessRefused (t .number) (viewServed (view d s) (c .request)) (view d s)) (own-answer d c e)
+      go (answer s c .number) refl ∙ ap (λ (t : AnswerCode). unlessRefused (t .number) (viewServed (view d s) (c .request)) (view d s)) (own-answer d c e)
     where
       go : (k : ℕ) → answer s c .number ≡ k
           → view d (unlessRefused k (served s (c .by) (c .request)) s) ≡ unlessRefused k (viewServed (view d s) (c .request)) (view d s)
@@ -165,7 +165,7 @@ module _ (s : Session) (g : Good s) where
       go (suc k) h = refl
 
   -- the own part of the state changes by itself
-  pub own-state-next : (d : Designer) (c : Call) → c .by ≡ d → ownState d (next s c .state) ≡ ownStateNext (ownState d (s .state)) c
+  pub own-state-next : (d : Designer) (c : Call) → c .by ≡ d → ownState d (sessionAfter s c .state) ≡ ownStateNext (ownState d (s .state)) c
   unfolding viewServed
   own-state-next d c e = ap (λ (w : View). w .state) (own-next d c e) ∙ go (callAnswer (ownState d (s .state)) c .number) (c .request)
     where

@@ -5,7 +5,7 @@ use mathlib.Core.List.{List}
 use lib.ListN.{length}
 use Rattle.patch.specs.declared.kinds.Patch.{Patch}
 use Rattle.patch.specs.declared.settings.Settings.{Settings}
-use Rattle.answer_codes.specs.Told.{Told}
+use Rattle.answer_codes.specs.AnswerCode.{AnswerCode}
 use Rattle.tessellate.specs.Draws.{pointWords}
 use Rattle.share_state.specs.declared.state.Designer.{Designer}
 use Rattle.share_state.specs.declared.state.Designer.the-variants.{First, Second}
@@ -17,7 +17,7 @@ use Rattle.share_state.specs.Answers.{accepted, clearVerdict}
 use Rattle.share_answers.specs.Answers.{drawVerdict}
 use Rattle.share_state.specs.Operations.{unlessRefused, startState, clearedState}
 use Rattle.share_draw.specs.Operations.{newIndices, drawnState}
-use Rattle.share_isolation.specs.Steps.{those, after, replies}
+use Rattle.share_isolation.specs.Steps.{those, stateAfter, replies}
 
 -- what a designer can ask for after the start
 pub data Request : Type 0 where
@@ -38,7 +38,7 @@ pub record Session : Type 0 where
   pub indices : List ℕ
 
 -- the answer to a call; of the lists only the lengths matter
-unfoldable pub answerTo : State → Designer → Request → ℕ → ℕ → Told
+unfoldable pub answerTo : State → Designer → Request → ℕ → ℕ → AnswerCode
 answerTo s d (draw set p) v i = drawVerdict d s set p v i
 answerTo s d clear v i = clearVerdict (accepted v i s)
 
@@ -52,41 +52,41 @@ served s d (draw set p) = record {
 served s d clear = record { state = clearedState d (s .state); vertices = s .vertices; indices = s .indices }
 
 -- the answer to a call, and the session after it
-abbrev pub answer : Session → Call → Told
+abbrev pub answer : Session → Call → AnswerCode
 answer s c = answerTo (s .state) (c .by) (c .request) (c .vertices) (c .indices)
 
-abbrev pub next : Session → Call → Session
-next s c = unlessRefused (answer s c .number) (served s (c .by) (c .request)) s
+abbrev pub sessionAfter : Session → Call → Session
+sessionAfter s c = unlessRefused (answer s c .number) (served s (c .by) (c .request)) s
 
 -- an answer, and the designer who gets it
-pub record Answered : Type 0 where
+pub record DesignerAnswer : Type 0 where
   pub to : Designer
-  pub told : Told
+  pub code : AnswerCode
 
 -- the answer to a call, with its designer
-abbrev pub reply : Session → Call → Answered
-reply s c = record { to = c .by; told = answer s c }
+abbrev pub reply : Session → Call → DesignerAnswer
+reply s c = record { to = c .by; code = answer s c }
 
 -- the answers to calls, and the session after them
-abbrev pub answers : Session → List Call → List Answered
-answers s cs = replies next reply s cs
+abbrev pub answers : Session → List Call → List DesignerAnswer
+answers s cs = replies sessionAfter reply s cs
 
 abbrev pub play : Session → List Call → Session
-play s cs = after next s cs
+play s cs = stateAfter sessionAfter s cs
 
 -- whether two designers are the same
-abbrev pub same : Designer → Designer → Bool
-same First First = true
-same First Second = false
-same Second First = false
-same Second Second = true
+abbrev pub sameDesigner : Designer → Designer → Bool
+sameDesigner First First = true
+sameDesigner First Second = false
+sameDesigner Second First = false
+sameDesigner Second Second = true
 
 -- the calls of one designer, and the answers to them
 abbrev pub callsOf : Designer → List Call → List Call
-callsOf d cs = those (λ c. same d (c .by)) cs
+callsOf d cs = those (λ c. sameDesigner d (c .by)) cs
 
-abbrev pub answersOf : Designer → List Answered → List Answered
-answersOf d xs = those (λ a. same d (a .to)) xs
+abbrev pub answersOf : Designer → List DesignerAnswer → List DesignerAnswer
+answersOf d xs = those (λ a. sameDesigner d (a .to)) xs
 
 -- a designer's part of the state, with the lengths of the lists
 pub record OwnState : Type 0 where

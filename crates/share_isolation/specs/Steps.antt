@@ -8,9 +8,9 @@ those test [] = []
 those test (x ∷ xs) = cond (test x) (x ∷ those test xs) (those test xs)
 
 -- the state after calls
-unfoldable pub after : {S C : Type 0} → (S → C → S) → S → List C → S
-after step s [] = s
-after step s (c ∷ cs) = after step (step s c) cs
+unfoldable pub stateAfter : {S C : Type 0} → (S → C → S) → S → List C → S
+stateAfter step s [] = s
+stateAfter step s (c ∷ cs) = stateAfter step (step s c) cs
 
 -- the answers to calls
 unfoldable pub replies : {S C A : Type 0} → (S → C → S) → (S → C → A) → S → List C → List A
@@ -18,6 +18,6 @@ replies step reply s [] = []
 replies step reply s (c ∷ cs) = reply s c ∷ replies step reply (step s c) cs
 
 -- calls, their answers and the state after them; `Made s c a s₁` says that the call c in state s was answered with a and left s₁
-pub data Ran {S C A : Type 0} (Made : S → C → A → S → Type 0) : S → List C → List A → S → Type 0 where
-  none : (s : S) → Ran Made s [] [] s
-  more : (s s₁ s₂ : S) (c : C) (a : A) (cs : List C) (xs : List A) → Made s c a s₁ → Ran Made s₁ cs xs s₂ → Ran Made s (c ∷ cs) (a ∷ xs) s₂
+pub data RanSteps {S C A : Type 0} (Made : S → C → A → S → Type 0) : S → List C → List A → S → Type 0 where
+  none : (s : S) → RanSteps Made s [] [] s
+  more : (s s₁ s₂ : S) (c : C) (a : A) (cs : List C) (xs : List A) → Made s c a s₁ → RanSteps Made s₁ cs xs s₂ → RanSteps Made s (c ∷ cs) (a ∷ xs) s₂

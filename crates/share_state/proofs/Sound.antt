@@ -9,7 +9,7 @@ use Rattle.share_state.specs.declared.state.Designer.{Designer}
 use Rattle.share_state.specs.declared.state.Designer.the-variants.{First, Second}
 use Rattle.share_state.specs.declared.state.SharedList.{SharedList}
 use Rattle.share_state.specs.declared.state.State.{State}
-use Rattle.share_state.specs.SharedList.{share, partStart, within, sound, whole, withUsed}
+use Rattle.share_state.specs.SharedList.{share, partStart, within, sound, wholePoints, withUsed}
 use Rattle.share_state.specs.Answers.{soundState, clearVerdict}
 
 -- two tests that both hold
@@ -48,14 +48,14 @@ pub record Whole (t : SharedList) : Type 0 where
   pub first : t .first .used % 3 ≡ 0
   pub second : t .second .used % 3 ≡ 0
 
-pub whole-facts : (t : SharedList) → whole t ≡ true → Whole t
-unfolding whole
+pub whole-facts : (t : SharedList) → wholePoints t ≡ true → Whole t
+unfolding wholePoints
 whole-facts t e =
     let h = both (eqb (t .first .used % 3) 0) (eqb (t .second .used % 3) 0) e in
     record { first = eqb-true _ _ (h .0); second = eqb-true _ _ (h .1) }
 
-pub whole-test : (t : SharedList) → Whole t → whole t ≡ true
-unfolding whole
+pub whole-test : (t : SharedList) → Whole t → wholePoints t ≡ true
+unfolding wholePoints
 whole-test t w = and (eq-eqb _ _ (w .first)) (eq-eqb _ _ (w .second))
 
 -- the whole state
@@ -67,7 +67,7 @@ pub record SoundState (s : State) : Type 0 where
 pub state-facts : (s : State) → soundState s ≡ true → SoundState s
 unfolding soundState
 state-facts s e =
-    let h = both (sound (s .vertices) && sound (s .indices)) (whole (s .vertices)) e in
+    let h = both (sound (s .vertices) && sound (s .indices)) (wholePoints (s .vertices)) e in
     let k = both (sound (s .vertices)) (sound (s .indices)) (h .0) in
     record { vertices = sound-facts _ (k .0); indices = sound-facts _ (k .1); whole = whole-facts _ (h .1) }
 

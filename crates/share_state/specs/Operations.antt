@@ -11,7 +11,7 @@ use Rattle.share_state.specs.declared.answer.StartAnswer.{StartAnswer}
 use Rattle.share_state.specs.declared.answer.StartAnswer.the-variants.{Started, QuotasTooLarge}
 use Rattle.share_state.specs.declared.answer.ClearResult.{ClearResult}
 use Rattle.share_state.specs.SharedList.{withUsed}
-use Rattle.share_state.specs.Answers.{toldStart, toldClear, quotasFit, startVerdict, accepted, clearVerdict}
+use Rattle.share_state.specs.Answers.{startCode, clearCode, quotasFit, startVerdict, accepted, clearVerdict}
 
 -- a value after an answer with this number: the new one for 0, else the old one
 abbrev pub unlessRefused : {A : Type 0} → ℕ → A → A → A
@@ -32,7 +32,7 @@ startState v i a b = record { vertices = unusedList v (a .vertices) (b .vertices
 
 -- the contract of starting
 pub record DidStart (v i : ℕ) (a b : Quota) (r : StartAnswer) : Type 0 where
-  pub answer : toldStart r ≡ startVerdict v i a b
+  pub answer : startCode r ≡ startVerdict v i a b
   pub is : r ≡ cond (quotasFit v i a b) (Started (startState v i a b)) QuotasTooLarge
 
 -- the state after a designer's part is cleared
@@ -41,5 +41,5 @@ clearedState d s = record { vertices = withUsed d 0 (s .vertices); indices = wit
 
 -- the contract of clearing, with lists of v and i words lent
 pub record DidClear (d : Designer) (s : State) (v i : ℕ) (r : ClearResult) : Type 0 where
-  pub answer : toldClear (r .answer) ≡ clearVerdict (accepted v i s)
-  pub state : r .state ≡ unlessRefused (toldClear (r .answer) .number) (clearedState d s) s
+  pub answer : clearCode (r .answer) ≡ clearVerdict (accepted v i s)
+  pub state : r .state ≡ unlessRefused (clearCode (r .answer) .number) (clearedState d s) s

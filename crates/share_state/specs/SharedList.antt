@@ -57,5 +57,5 @@ unfoldable pub sound : SharedList → Bool
 sound t = leb (t .first .quota + t .second .quota) (t .length) && within (t .first) && within (t .second)
 
 -- each share uses a multiple of three words
-unfoldable pub whole : SharedList → Bool
-whole t = eqb (t .first .used % 3) 0 && eqb (t .second .used % 3) 0
+unfoldable pub wholePoints : SharedList → Bool
+wholePoints t = eqb (t .first .used % 3) 0 && eqb (t .second .used % 3) 0

@@ -2,7 +2,7 @@
 ghost use mathlib.Core.Path.{_≡_};
 ghost use Prim.Native.Nat.{_+_};
 ghost use lib.Dec.{leb};
-ghost use Rattle.share_state.specs.SharedList.{share, partStart, withUsed, sound, whole};
+ghost use Rattle.share_state.specs.SharedList.{share, partStart, withUsed, sound, wholePoints};
 ghost use Rattle.share_state.specs.Answers.{accepted};
 use crate::state::Designer;
 use crate::state::Share;
@@ -81,7 +81,7 @@ fn is_sound(list: SharedList) -> bool
 
 // Whether both designers use whole points.
 fn is_whole(list: SharedList) -> bool
-    ensures { λ r. ⌜ r ≡ whole list ⌝ }
+    ensures { λ r. ⌜ r ≡ wholePoints list ⌝ }
 {
     let first = list.first;
     let second = list.second;

@@ -1,6 +1,6 @@
 // Answers as numbers.
-ghost use Rattle.call_answers.specs.Replies.{Tells};
-ghost use Rattle.share_answers.specs.Answers.{toldDraw};
+ghost use Rattle.call_answers.specs.Replies.{IsReply};
+ghost use Rattle.share_answers.specs.Answers.{drawCode};
 use call_answers::reply::Reply;
 use call_answers::reply::bad_top;
 use call_answers::reply::refusal;
@@ -8,7 +8,7 @@ use call_answers::reply::success;
 use share_answers::answer::DrawAnswer;
 
 pub fn of_draw(answer: DrawAnswer) -> Reply
-    ensures { λ r. ⌜ Tells (toldDraw answer) r ⌝ }
+    ensures { λ r. ⌜ IsReply (drawCode answer) r ⌝ }
 {
     match answer {
         DrawAnswer::Drawn { points, indices } => success(points, indices),

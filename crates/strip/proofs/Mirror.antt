@@ -10,7 +10,7 @@ use lib.ListN.{getD}
 use Rattle.strip.specs.declared.triangle.Triangle.{Triangle}
 use Rattle.strip.specs.Rule.{outerNext, stepOuter, stepInner}
 use Rattle.strip.specs.Strips.{stepTriangle, strip}
-use Rattle.strip.specs.Mirror.{fromEnd, mirror, SameCorners, BothOdd, Cut}
+use Rattle.strip.specs.Mirror.{fromEnd, mirror, SameCorners, BothOdd, SplitsQuad}
 use Rattle.strip.proofs.Rule.{outer-ended, inner-ended, step-sum}
 use Rattle.strip.proofs.Order.{outer-sooner, mirror-outer, mirror-inner, middle-outer, middle-inner, before-middle}
 use Rattle.strip.proofs.Reached.{Reached, step-by, step-on, after, triangle-at}
@@ -104,7 +104,7 @@ to-middle a b = record {
 }
 
 -- from there the outer line advances, then the inner line
-pub middle : (A B : ℕ → ℕ) (a b : ℕ) → Cut (strip A B (2 * a + 1) (2 * b + 1)) (a + b) (A a) (A (suc a)) (B b) (B (suc b))
+pub middle : (A B : ℕ → ℕ) (a b : ℕ) → SplitsQuad (strip A B (2 * a + 1) (2 * b + 1)) (a + b) (A a) (A (suc a)) (B b) (B (suc b))
 middle A B a b =
     let p = 2 * a + 1 in
     let r = 2 * b + 1 in
@@ -114,7 +114,7 @@ middle A B a b =
     record { first = λ d. triangle-at p r A B d true a b (to-middle a b) on; second = λ d. rw e at (triangle-at p r A B d false (suc a) b on past) }
 
 -- from the other end the same four corners are split along the other diagonal
-pub middle-mirrored : (A B : ℕ → ℕ) (a b : ℕ) → Cut (mirror A B (2 * a + 1) (2 * b + 1)) (a + b) (A (suc a)) (A a) (B (suc b)) (B b)
+pub middle-mirrored : (A B : ℕ → ℕ) (a b : ℕ) → SplitsQuad (mirror A B (2 * a + 1) (2 * b + 1)) (a + b) (A (suc a)) (A a) (B (suc b)) (B b)
 middle-mirrored A B a b =
     let x : 2 * a + 1 - a ≡ suc a = omega arith in
     let u : 2 * a + 1 - suc a ≡ a = omega arith in

@@ -24,6 +24,6 @@ abbrev pub BothOdd : ℕ → ℕ → Type 0
 BothOdd p r = (p % 2 ≡ 1) × (r % 2 ≡ 1)
 
 -- triangles k and k + 1 of ts split the quadrilateral between the segments x to u and y to v along the diagonal from u to y
-pub record Cut (ts : List Triangle) (k x u y v : ℕ) : Type 0 where
+pub record SplitsQuad (ts : List Triangle) (k x u y v : ℕ) : Type 0 where
   pub first : (d : Triangle) → getD ts k d ≡ record { a = x; b = u; c = y }
   pub second : (d : Triangle) → getD ts (suc k) d ≡ record { a = u; b = v; c = y }

@@ -34,7 +34,7 @@ stepOf s =
     record { outer = t; next = record { a = stepOuter t (s .a); b = stepInner t (s .b); p = s .p; r = s .r } }
 
 -- a state whose points lie on the two lines, which have at most 64 segments
-pub record Within (s : Strip) : Type 0 where
+pub record OnTwoLines (s : Strip) : Type 0 where
   pub outer : s .a ≤ s .p
   pub inner : s .b ≤ s .r
   pub outer-few : s .p ≤ 64

@@ -1,6 +1,6 @@
 // The state of a strip, and the test of which line advances next.
 ghost use mathlib.Core.Path.{_≡_};
-ghost use Rattle.strip.specs.Rule.{Within, stepOf};
+ghost use Rattle.strip.specs.Rule.{OnTwoLines, stepOf};
 
 // The strip has reached point a of the outer line, of p segments, and point b of the inner line, of r segments.
 pub struct Strip {
@@ -18,7 +18,7 @@ pub struct Step {
 
 impl Strip {
     pub fn step(mut self) -> Step
-        requires { ⌜ Within self ⌝ }
+        requires { ⌜ OnTwoLines self ⌝ }
         ensures { λ r. ⌜ r ≡ stepOf self ⌝ }
     {
         let a = self.a;

@@ -20,7 +20,7 @@ use Rattle.shifted_copies.specs.Copies.{shifted, copy}
 use Rattle.shifted_copies.proofs.Shifts.{shifted-twice, shifted-length, shifted-append, flat-split, flat-below, flat-shifted}
 use Rattle.strip_pairs.specs.Pairs.{pair, pairWords}
 use Rattle.strip_pairs.proofs.Pairs.{pairs-length, alternates, halves}
-use Rattle.strip_blocks.specs.Blocks.{on, pairOn, patternOf, lineOf}
+use Rattle.strip_blocks.specs.Blocks.{on, pairOn, blockPattern, lineOf}
 
 -- ---- the loop that adds `by` to each word of xs; it has done the first i words
 pub record Raised (by : ℕ) (xs : List ℕ) (i : ℕ) (ys : List ℕ) : Type 0 where
@@ -138,8 +138,8 @@ outer-on d x k = ap (λ (j : ℕ). j % 65536) (omega arith)
 inner-on : (d x y k : ℕ) → x + d ≡ y → (1 * d + k + x) % 65536 ≡ on y k
 inner-on d x y k e = ap (λ (j : ℕ). j % 65536) (omega arith)
 
-pub block-laid : (positive : Bool) (p : List ℕ) (d x y : ℕ) → p ≡ patternOf positive → x + d ≡ y → flat (laid p d x) 0 24 ≡ flat (pairOn positive x y) 0 4
-unfolding flat pairOn patternOf indices
+pub block-laid : (positive : Bool) (p : List ℕ) (d x y : ℕ) → p ≡ blockPattern positive → x + d ≡ y → flat (laid p d x) 0 24 ≡ flat (pairOn positive x y) 0 4
+unfolding flat pairOn blockPattern indices
 block-laid true p d x y e h =
     rw (e, outer-on d x 0, outer-on d x 1, outer-on d x 2, outer-on d x 3, outer-on d x 4, inner-on d x y 0 h, inner-on d x y 1 h, inner-on d x y 2 h, inner-on d x y 3 h, inner-on d x y 4 h)
 block-laid false p d x y e h =

@@ -10,7 +10,7 @@ ghost use Rattle.shifted_copies.specs.Copies.{shifted, copy};
 ghost use Rattle.strip.specs.Triangles.{indices};
 ghost use Rattle.strip.specs.Lines.{vertex};
 ghost use Rattle.strip.specs.Strips.{strip, stepTriangle};
-ghost use Rattle.strip_blocks.specs.Blocks.{on, pairOn, patternOf, lineOf};
+ghost use Rattle.strip_blocks.specs.Blocks.{on, pairOn, blockPattern, lineOf};
 use strip::line::Line;
 
 // For each of the 24 words, 1 if it is on the inner line, else 0; then, for each word, how far along its line it is.
@@ -120,7 +120,7 @@ const NEGATIVE: [u16; 48] = [
 // Returns the pattern of four pairs. A writer of many strips makes it once and passes a reference: where LLVM sees the numbers,
 // it splits the vectors up again.
 pub fn pattern_of(positive: bool) -> [u16; 48]
-    ensures { λ r. ⌜ r ≡ patternOf positive ⌝ }
+    ensures { λ r. ⌜ r ≡ blockPattern positive ⌝ }
 {
     if positive { POSITIVE } else { NEGATIVE }
 }
@@ -133,7 +133,7 @@ fn wide(x: u16) -> u32
 
 // Returns the four pairs between the lines of consecutive vertices from x and from y on.
 fn block(pattern: &[u16; 48], x: u16, y: u16, positive: bool) -> [u16; 24]
-    requires { ⌜ now pattern ≡ patternOf positive ⌝ ∗ ⌜ x ≤ y ⌝ }
+    requires { ⌜ now pattern ≡ blockPattern positive ⌝ ∗ ⌜ x ≤ y ⌝ }
     ensures { λ r. ⌜ r ≡ flat (pairOn positive x y) 0 4 ⌝ }
 {
     let d = wide(y - x);
@@ -202,7 +202,7 @@ pub fn write_run(
     pattern: &[u16; 48],
     positive: bool,
 ) -> usize
-    requires { ⌜ now pattern ≡ patternOf positive ⌝ ∗ ⌜ (x ≤ y) × (4 ≤ n) × (n ≤ 64) ⌝ ∗ ⌜ at + 6 * n ≤ length (now out) ⌝ }
+    requires { ⌜ now pattern ≡ blockPattern positive ⌝ ∗ ⌜ (x ≤ y) × (4 ≤ n) × (n ≤ 64) ⌝ ∗ ⌜ at + 6 * n ≤ length (now out) ⌝ }
     ensures { λ w. ⌜ Wrote (now (out .entry)) at (flat (pairOn positive x y) 0 n) (now (out .exit)) w ⌝ }
 {
     let k = (n - 1) / 4;
@@ -225,7 +225,7 @@ pub fn write_open(
     pattern: &[u16; 48],
     positive: bool,
 ) -> usize
-    requires { ⌜ now pattern ≡ patternOf positive ⌝ ∗ ⌜ (10 ≤ r) × (r ≤ 62) × (x + 2 ≤ y) × (y + r < 65536) ⌝ ∗ ⌜ at + 6 * r + 9 ≤ length (now out) ⌝ }
+    requires { ⌜ now pattern ≡ blockPattern positive ⌝ ∗ ⌜ (10 ≤ r) × (r ≤ 62) × (x + 2 ≤ y) × (y + r < 65536) ⌝ ∗ ⌜ at + 6 * r + 9 ≤ length (now out) ⌝ }
     ensures { λ w. ⌜ Wrote (now (out .entry)) at (indices positive (strip (on x) (on y) (r + 2) r) ++ indices positive (stepTriangle (on x) (on y) false (r + 2) r ∷ [])) (now (out .exit)) (w + 3) ⌝ }
 {
     let h = r / 2;
@@ -257,7 +257,7 @@ pub fn write_long(
     pattern: &[u16; 48],
     positive: bool,
 ) -> usize
-    requires { ⌜ now pattern ≡ patternOf positive ⌝ ∗ ⌜ (10 ≤ r) × (r ≤ 62) × (x + 2 ≤ y) × (y + r < 65536) ⌝ ∗ ⌜ at + 6 * r + 6 ≤ length (now out) ⌝ }
+    requires { ⌜ now pattern ≡ blockPattern positive ⌝ ∗ ⌜ (10 ≤ r) × (r ≤ 62) × (x + 2 ≤ y) × (y + r < 65536) ⌝ ∗ ⌜ at + 6 * r + 6 ≤ length (now out) ⌝ }
     ensures { λ w. ⌜ Wrote (now (out .entry)) at (indices positive (strip (vertex (lineOf x (r + 2) e)) (vertex (lineOf y r f)) (r + 2) r)) (now (out .exit)) w ⌝ }
 {
     let h = r / 2;

@@ -1,6 +1,6 @@
 // The walk along a strip, one triangle per step.
 ghost use Prim.Native.Nat.{_+_, _≤_, _<_};
-ghost use Rattle.strip_walk.specs.Walks.{Standing, Advanced, Begun};
+ghost use Rattle.strip_walk.specs.Walks.{Standing, Advanced, AtStart};
 use strip::line::Line;
 use strip::state::Strip;
 use strip::triangle::Triangle;
@@ -20,7 +20,7 @@ pub struct Progress {
 
 pub fn begin(outer: Line, inner: Line) -> Walk
     requires { ⌜ outer .count ≤ 64 ⌝ ∗ ⌜ inner .count ≤ 64 ⌝ }
-    ensures { λ r. ⌜ Begun outer inner r ⌝ }
+    ensures { λ r. ⌜ AtStart outer inner r ⌝ }
 {
     let p = outer.count;
     let r = inner.count;

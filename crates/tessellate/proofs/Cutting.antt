@@ -17,8 +17,8 @@ use Rattle.patch_mesh.specs.Counts.{pointCount, countIn}
 use Rattle.patch_mesh.specs.Valid.{ValidCut}
 use Rattle.tessellate.specs.declared.cut.Cut.{Cut}
 use Rattle.tessellate.specs.declared.cut.Cut.the-variants.{BadTop, Discarded, Ready}
-use Rattle.tessellate.specs.Answers.{pointsOf, indicesOf, verdict}
-use Rattle.answer_codes.specs.Told.{Told, refused, drew}
+use Rattle.tessellate.specs.Answers.{pointsOf, indicesOf, listVerdict}
+use Rattle.answer_codes.specs.AnswerCode.{AnswerCode, refused, drew}
 use Rattle.tessellate.specs.Cuts.{cutOf}
 use Rattle.answer_codes.specs.Drew.{Drew}
 use Rattle.tessellate.proofs.Counted.{valid, few, many-points, many-indices}
@@ -92,21 +92,21 @@ module _ (set : Settings) (p : Patch) where
       cut-indices h = let i = is-cut e in many-indices set (top-as (set .top) (i .top)) p c (i .cut) h
 
     -- ---- drawing: a refusal leaves the list as it was
-    module _ (short need have count : ℕ) {t : Told} {words xs : List ℕ} where
-      pub draw-bad : a ≡ BadTop → t ≡ refused 11 → Drew t (verdict set p short need have count) words xs xs
+    module _ (short need have count : ℕ) {t : AnswerCode} {words xs : List ℕ} where
+      pub draw-bad : a ≡ BadTop → t ≡ refused 11 → Drew t (listVerdict set p short need have count) words xs xs
       draw-bad e h = untouched 10 h (told-bad set p short need have count (bad-top e))
 
-      pub draw-discarded : a ≡ Discarded → t ≡ refused 1 → Drew t (verdict set p short need have count) words xs xs
+      pub draw-discarded : a ≡ Discarded → t ≡ refused 1 → Drew t (listVerdict set p short need have count) words xs xs
       draw-discarded e h = let d = is-discarded e in untouched 0 h (told-discarded set p short need have count (d .0) (d .1))
 
-      pub draw-short : {c : Subdivision} (k : ℕ) → a ≡ Ready c → short ≡ suc k → have < need → t ≡ refused short → Drew t (verdict set p short need have count) words xs xs
+      pub draw-short : {c : Subdivision} (k : ℕ) → a ≡ Ready c → short ≡ suc k → have < need → t ≡ refused short → Drew t (listVerdict set p short need have count) words xs xs
       draw-short k e s h f =
           let i = is-cut e in
           untouched k (f ∙ ap refused s) (told-short set p short need have count (i .top) (i .drawn) h ∙ ap refused s)
 
       -- otherwise the list begins with the words
       pub draw-done : {c : Subdivision} {n : ℕ} {xs′ : List ℕ} → a ≡ Ready c → need ≤ have → n ≡ count → t ≡ drew n → xs′ ≡ over xs 0 words
-          → Drew t (verdict set p short need have count) words xs xs′
+          → Drew t (listVerdict set p short need have count) words xs xs′
       draw-done {n = n} e h m f l =
           let i = is-cut e in
           written n f (told-drawn set p short need have count (i .top) (i .drawn) h ∙ ap drew (sym m)) l

@@ -12,7 +12,7 @@ use Rattle.level_clamps.specs.Clamps.{clampsOf}
 use Rattle.level_clamps.specs.Numbers.{clampNumbers}
 use Rattle.patch_mesh.specs.Points.{points}
 use Rattle.patch_mesh.specs.Primitives.{indexWords}
-use Rattle.answer_codes.specs.Told.{Told, refused, drew}
+use Rattle.answer_codes.specs.AnswerCode.{AnswerCode, refused, drew}
 use Rattle.tessellate.specs.declared.answer.PointsAnswer.{PointsAnswer}
 use Rattle.tessellate.specs.declared.answer.PointsAnswer.the-variants as points
 use Rattle.tessellate.specs.declared.answer.IndicesAnswer.{IndicesAnswer}
@@ -21,23 +21,23 @@ use Rattle.tessellate.specs.declared.answer.Size.{Size}
 use Rattle.tessellate.specs.declared.answer.Size.the-variants.{Counts, Discarded as NoCounts, BadTop as NoTop}
 
 -- the number and values of each answer; 2 once meant more points than an index can number, and is not used again
-abbrev pub toldPoints : PointsAnswer → Told
-toldPoints (points.Drawn n) = drew n
-toldPoints points.Discarded = refused 1
-toldPoints points.NoRoomForVertices = refused 3
-toldPoints points.BadTop = refused 11
+abbrev pub pointsCode : PointsAnswer → AnswerCode
+pointsCode (points.Drawn n) = drew n
+pointsCode points.Discarded = refused 1
+pointsCode points.NoRoomForVertices = refused 3
+pointsCode points.BadTop = refused 11
 
-abbrev pub toldIndices : IndicesAnswer → Told
-toldIndices (indices.Drawn n) = drew n
-toldIndices indices.Discarded = refused 1
-toldIndices indices.NoRoomForIndices = refused 4
-toldIndices indices.BadTop = refused 11
+abbrev pub indicesCode : IndicesAnswer → AnswerCode
+indicesCode (indices.Drawn n) = drew n
+indicesCode indices.Discarded = refused 1
+indicesCode indices.NoRoomForIndices = refused 4
+indicesCode indices.BadTop = refused 11
 
 -- measuring answers both counts and where each level lies, "discarded" or "bad top"
-abbrev pub toldSize : Size → Told
-toldSize (Counts p i c) = record { number = 0; values = p ∷ i ∷ clampNumbers c }
-toldSize NoCounts = refused 1
-toldSize NoTop = refused 11
+abbrev pub sizeCode : Size → AnswerCode
+sizeCode (Counts p i c) = record { number = 0; values = p ∷ i ∷ clampNumbers c }
+sizeCode NoCounts = refused 1
+sizeCode NoTop = refused 11
 
 -- how many points and indices a patch has with these settings
 abbrev pub pointsOf : Settings → Patch → ℕ
@@ -48,20 +48,20 @@ indicesOf set p = length (indexWords set (subdivisionOf set p))
 
 -- the answer of an operation that writes `count` points or indices as `need` words into a list of `have` words: a bad top first, then the
 -- lowest number that applies; `short` is the number for a list that is too short
-unfoldable pub verdict : Settings → Patch → ℕ → ℕ → ℕ → ℕ → Told
-verdict set p short need have count =
+unfoldable pub listVerdict : Settings → Patch → ℕ → ℕ → ℕ → ℕ → AnswerCode
+listVerdict set p short need have count =
     cond (isTop (set .top)) (cond (discards p) (refused 1) (cond (ltb have need) (refused short) (drew count))) (refused 11)
 
 -- the answer to drawing points into a vertex list of v words
-abbrev pub pointsVerdict : Settings → Patch → ℕ → Told
-pointsVerdict set p v = verdict set p 3 (3 * pointsOf set p) v (pointsOf set p)
+abbrev pub pointsVerdict : Settings → Patch → ℕ → AnswerCode
+pointsVerdict set p v = listVerdict set p 3 (3 * pointsOf set p) v (pointsOf set p)
 
 -- the answer to drawing indices into an index list of i words
-abbrev pub indicesVerdict : Settings → Patch → ℕ → Told
-indicesVerdict set p i = verdict set p 4 (indicesOf set p) i (indicesOf set p)
+abbrev pub indicesVerdict : Settings → Patch → ℕ → AnswerCode
+indicesVerdict set p i = listVerdict set p 4 (indicesOf set p) i (indicesOf set p)
 
 -- the answer to measuring: a bad top first; a discarded patch has neither counts nor clamps
-unfoldable pub measureVerdict : Settings → Patch → Told
+unfoldable pub measureVerdict : Settings → Patch → AnswerCode
 measureVerdict set p =
     cond (isTop (set .top))
     (cond (discards p) (refused 1) (record { number = 0; values = pointsOf set p ∷ indicesOf set p ∷ clampNumbers (clampsOf (set .spacing) (set .top) p) }))

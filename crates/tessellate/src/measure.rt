@@ -1,6 +1,6 @@
 // Measuring: how many points and indices drawing would write, and which levels are clamped. It needs no lists.
 ghost use mathlib.Core.Path.{_≡_};
-ghost use Rattle.tessellate.specs.Answers.{toldSize, measureVerdict};
+ghost use Rattle.tessellate.specs.Answers.{sizeCode, measureVerdict};
 use crate::answer::Size;
 use crate::cut::Cut;
 use crate::cut::cut_with;
@@ -8,7 +8,7 @@ use patch::kinds::Patch;
 use patch::settings::Settings;
 
 pub fn measure(patch: Patch, settings: Settings) -> Size
-    ensures { λ r. ⌜ toldSize r ≡ measureVerdict settings patch ⌝ }
+    ensures { λ r. ⌜ sizeCode r ≡ measureVerdict settings patch ⌝ }
 {
     let spacing = settings.spacing;
     let top = settings.top;

@@ -10,17 +10,17 @@ use Rattle.level.specs.Top.{Top}
 use Rattle.level.specs.Segments.{segmentsOf}
 use Rattle.patch.specs.declared.kinds.Patch.{Patch}
 use Rattle.patch.specs.declared.settings.Settings.{Settings}
-use Rattle.patch.specs.Subdivide.{outers, discards, subdivisionOf}
+use Rattle.patch.specs.Subdivide.{outerLevels, discards, subdivisionOf}
 use Rattle.mesh_geometry.specs.declared.Point.{Point}
 use Rattle.mesh_geometry.specs.Cover.{Face, Cover, sides, piece}
 use Rattle.mesh_geometry.specs.Seam.{OuterEdge, places, Mirrors}
-use Rattle.mesh_geometry.specs.Edge.{Run, along, Placed}
+use Rattle.mesh_geometry.specs.Edge.{Run, along, EdgesPlaced}
 use Rattle.patch_mesh.specs.Points.{run, points}
 use Rattle.patch_mesh.specs.Primitives.{indexWords}
 use Rattle.patch_mesh.specs.Demand.{Surface, outerRuns, edges, Demand}
 use Rattle.patch_mesh.proofs.Demand.{demand}
 use Rattle.patch_mesh.proofs.Seams.{seam, same-places}
-use Rattle.third_demand.specs.Seams.{IsEdge, EdgesAlike, placesOn, row, Seam}
+use Rattle.third_demand.specs.Seams.{IsEdge, EdgesAlike, placesOn, edgePlaces, Seam}
 use Rattle.third_demand.specs.ThirdDemand.{OccursOnce, ThirdDemand}
 
 -- the patch is drawn, and ps are all its points
@@ -30,7 +30,7 @@ pub record AllPoints (set : Settings) (p : Patch) (ps : List Point) : Type 0 whe
   pub are : ps ≡ points (subdivisionOf set p)
 
 -- the places on edge n mirror
-mirrors-at : (edge : ℕ → OuterEdge) (ps : List Point) (n j : ℕ) (es : List Run) → Placed edge ps j es → (k : ℕ) → k < length es → j + k ≡ n
+mirrors-at : (edge : ℕ → OuterEdge) (ps : List Point) (n j : ℕ) (es : List Run) → EdgesPlaced edge ps j es → (k : ℕ) → k < length es → j + k ≡ n
     → Mirrors (places (edge n) ps)
 mirrors-at edge ps n j [] p k h e = absurd (omega arith)
 mirrors-at edge ps n j (r ∷ es) p zero h e =
@@ -43,13 +43,13 @@ module _ {set : Settings} {p : Patch} {ps : List Point} where
   pub all-demand : AllPoints set p ps → Demand set p ps (indexWords set (subdivisionOf set p))
   all-demand a = rw (a .are) (demand set (a .top) p (a .drawn))
 
-  pub edge-places : AllPoints set p ps → (k : ℕ) → IsEdge p k → placesOn p k ps ≡ row set p k
+  pub edge-places : AllPoints set p ps → (k : ℕ) → IsEdge p k → placesOn p k ps ≡ edgePlaces set p k
   edge-places a k e = seam (all-demand a) (e .surface) k (e .number)
 
   pub edge-mirrors : AllPoints set p ps → (k : ℕ) → IsEdge p k → Mirrors (placesOn p k ps)
   edge-mirrors a k e =
       mirrors-at (edges p) ps k 0 (outerRuns (set .spacing) (set .top) p) (all-demand a .seams (e .surface)) k
-      (omega (arith, e .number, length-map (outers p) (λ (x : Float). run (segmentsOf (set .spacing) (set .top) x)))) (omega arith)
+      (omega (arith, e .number, length-map (outerLevels p) (λ (x : Float). run (segmentsOf (set .spacing) (set .top) x)))) (omega arith)
 
 -- two edges with the same spacing, level and top level
 pub seam-between : {set set′ : Settings} {p p′ : Patch} {ps ps′ : List Point} → AllPoints set p ps → AllPoints set′ p′ ps′ → (j k : ℕ) → IsEdge p j → IsEdge p′ k

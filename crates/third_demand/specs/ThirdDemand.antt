@@ -7,14 +7,14 @@ use mathlib.Core.List.{List}
 use lib.ListN.{length, getD}
 use Rattle.patch.specs.declared.kinds.Patch.{Patch}
 use Rattle.patch.specs.declared.settings.Settings.{Settings}
-use Rattle.patch.specs.Subdivide.{outers}
+use Rattle.patch.specs.Subdivide.{outerLevels}
 use Rattle.patch.specs.Turn.{turnAsked}
 use Rattle.mesh_geometry.specs.declared.Point.{Point}
 use Rattle.mesh_geometry.specs.Cover.{Face, Side, missing, sides, side, reversed, piece, Occurs, HasSign, twiceArea, totalTwiceArea, signed}
 use Rattle.mesh_geometry.specs.Seam.{Mirrors}
 use Rattle.patch_mesh.specs.Demand.{outline, outlineOf, twiceAreaOf}
 use Rattle.mesh_geometry.specs.Faces.{facesIn}
-use Rattle.third_demand.specs.Seams.{IsEdge, EdgesAlike, placesOn, row}
+use Rattle.third_demand.specs.Seams.{IsEdge, EdgesAlike, placesOn, edgePlaces}
 
 -- point mode is off
 abbrev pub AsTriangles : Settings → Type 0
@@ -54,9 +54,9 @@ pub record ThirdDemand (Drew : Settings → Patch → List Point → Type 0) (se
   pub whole : AsTriangles set → totalTwiceArea (facesIn ps ws) ≡ signed (turnAsked set) (twiceAreaOf p)
   -- drawn as triangles or as dots: the points on each outer edge have the places q(0) to q(n) of the spacing, that edge's level
   -- and the top level
-  pub places : (k : ℕ) → k < length (outers p) → placesOn p k ps ≡ row set p k
+  pub places : (k : ℕ) → k < length (outerLevels p) → placesOn p k ps ≡ edgePlaces set p k
   -- the places depend on these alone: an outer edge of another drawn patch with the same spacing, level and top level has the same places
-  pub seams : {set′ : Settings} {p′ : Patch} {ps′ : List Point} → Drew set′ p′ ps′ → (j k : ℕ) → j < length (outers p) → IsEdge p′ k
+  pub seams : {set′ : Settings} {p′ : Patch} {ps′ : List Point} → Drew set′ p′ ps′ → (j k : ℕ) → j < length (outerLevels p) → IsEdge p′ k
       → EdgesAlike set set′ p p′ j k → placesOn p j ps ≡ placesOn p′ k ps′
   -- the places mirror: read from the other end, each subtracted from 65,536, they are the same list
-  pub mirrors : (k : ℕ) → k < length (outers p) → Mirrors (placesOn p k ps)
+  pub mirrors : (k : ℕ) → k < length (outerLevels p) → Mirrors (placesOn p k ps)

@@ -10,9 +10,9 @@ use Rattle.buffer.specs.Over.{Wrote}
 use Rattle.mesh_geometry.specs.declared.Point.{Point}
 use Rattle.mesh_geometry.specs.Edge.{Run, ring}
 use Rattle.mesh_geometry.specs.TrianglePoints.{trianglePlace, centre, alike, rings}
-use Rattle.mesh_geometry.specs.Words.{pointWords, vertexWords}
+use Rattle.mesh_geometry.specs.Words.{coordinateWords, vertexWords}
 use Rattle.mesh_geometry.proofs.Edge.{far}
-use Rattle.vertices.specs.Rows.{places, listed, whole, Clear, GoodRow}
+use Rattle.vertices.specs.Rows.{placeIn, listed, wholeEdge, ClearOfEnds, GoodRow}
 use Rattle.triangle_point_rows.specs.Rings.{ringPoints, ringsOf, Inward}
 use Rattle.triangle_point_rows.specs.Parts.{triangleOutline, triangleInside}
 use Rattle.vertices.proofs.Words.{words-append}
@@ -40,39 +40,39 @@ inner-same (suc (suc r)) d d′ p q e h =
 -- ---- the rings of a row
 -- a ring, and those inside it
 rings-more : (es : List Run) (d : ℕ) (row : List ℕ) → 3 ≤ length row
-    → rings es d (places row) (length row - 1) ≡ ring trianglePlace 0 es d ++ ringsOf (middle row)
+    → rings es d (placeIn row) (length row - 1) ≡ ring trianglePlace 0 es d ++ ringsOf (middle row)
 unfolding rings
 rings-more es d row h =
     let r = length row - 3 in
     let m = middle row in
     let n : length row - 1 ≡ suc (suc r) = omega arith in
     let k : length m - 1 ≡ r = omega (arith, middle-length row) in
-    ap (rings es d (places row)) n
+    ap (rings es d (placeIn row)) n
     ∙ ap (λ (ps : List Point). ring trianglePlace 0 es d ++ ps)
-    (inner-same r (places row 1) (places m 0) (λ i. places row (suc i)) (places m) (sym (middle-at row 0 (omega arith))) (λ i l. sym (middle-at row i (omega arith)))
-    ∙ ap (λ (n : ℕ). rings (alike (places m) n) (places m 0) (places m) n) (sym k))
+    (inner-same r (placeIn row 1) (placeIn m 0) (λ i. placeIn row (suc i)) (placeIn m) (sym (middle-at row 0 (omega arith))) (λ i l. sym (middle-at row i (omega arith)))
+    ∙ ap (λ (n : ℕ). rings (alike (placeIn m) n) (placeIn m 0) (placeIn m) n) (sym k))
 
 -- the inside of a patch whose places are in a row
-inside-are : (row : List ℕ) → 3 ≤ length row → triangleInside (whole row) ≡ ringsOf (middle row)
+inside-are : (row : List ℕ) → 3 ≤ length row → triangleInside (wholeEdge row) ≡ ringsOf (middle row)
 inside-are row h =
     let r = length row - 1 - 2 in
     let m = middle row in
     let k : length m - 1 ≡ r = omega (arith, middle-length row) in
-    inner-same r (places row 1) (places m 0) (λ i. places row (suc i)) (places m) (sym (middle-at row 0 (omega arith))) (λ i l. sym (middle-at row i (omega arith)))
-    ∙ ap (λ (n : ℕ). rings (alike (places m) n) (places m 0) (places m) n) (sym k)
+    inner-same r (placeIn row 1) (placeIn m 0) (λ i. placeIn row (suc i)) (placeIn m) (sym (middle-at row 0 (omega arith))) (λ i l. sym (middle-at row i (omega arith)))
+    ∙ ap (λ (n : ℕ). rings (alike (placeIn m) n) (placeIn m 0) (placeIn m) n) (sym k)
 
 module _ (row : List ℕ) (n : ℕ) (e : n ≡ length row - 1) (some : 2 ≤ length row) where
   -- a ring's own points
-  own-are : ring trianglePlace 0 (alike (places row) (length row - 1)) (places row 0) ≡ ringPoints (take n row)
+  own-are : ring trianglePlace 0 (alike (placeIn row) (length row - 1)) (placeIn row 0) ≡ ringPoints (take n row)
   own-are =
-      let s : Same (record { q = places row; c = length row - 1 }) (listed (take n row)) =
+      let s : Same (record { q = placeIn row; c = length row - 1 }) (listed (take n row)) =
       record { count = omega (arith, front-length row n e); at = λ i l. sym (getD-take n row i 0 (omega (arith, front-length row n e))) } in
-      ap (ring trianglePlace 0 (alike (places row) (length row - 1))) (sym (getD-take n row 0 0 (omega arith)))
-      ∙ ring-same trianglePlace 0 (places (take n row) 0) (more s (more s (more s none)))
+      ap (ring trianglePlace 0 (alike (placeIn row) (length row - 1))) (sym (getD-take n row 0 0 (omega arith)))
+      ∙ ring-same trianglePlace 0 (placeIn (take n row) 0) (more s (more s (more s none)))
 
   pub ring-then : 3 ≤ length row → vertexWords (ringsOf row) ≡ vertexWords (ringPoints (take n row)) ++ vertexWords (ringsOf (middle row))
   ring-then h =
-      ap vertexWords (rings-more (alike (places row) (length row - 1)) (places row 0) row h ∙ ap (λ (ps : List Point). ps ++ ringsOf (middle row)) own-are)
+      ap vertexWords (rings-more (alike (placeIn row) (length row - 1)) (placeIn row 0) row h ∙ ap (λ (ps : List Point). ps ++ ringsOf (middle row)) own-are)
       ∙ words-append (ringPoints (take n row)) (ringsOf (middle row))
 
   -- the innermost ring of three points
@@ -80,23 +80,23 @@ module _ (row : List ℕ) (n : ℕ) (e : n ≡ length row - 1) (some : 2 ≤ len
   unfolding rings
   ring-last h =
       let one : length row - 1 ≡ 1 = omega arith in
-      ap (λ (m : ℕ). vertexWords (rings (alike (places row) (length row - 1)) (places row 0) (places row) m)) one ∙ ap vertexWords own-are
+      ap (λ (m : ℕ). vertexWords (rings (alike (placeIn row) (length row - 1)) (placeIn row 0) (placeIn row) m)) one ∙ ap vertexWords own-are
 
   -- it lies between its own corners
-  pub ring-clear : Inward row → Clear (places (take n row) 0) (listed (take n row))
+  pub ring-clear : Inward row → ClearOfEnds (placeIn (take n row) 0) (listed (take n row))
   ring-clear g i l =
       let last = length row - 1 in
       let m : i < n = omega (arith, front-length row n e) in
       let z : last - 0 ≡ last = omega arith in
-      let corners : places row 0 + places row last ≡ 65536 = rw z at (g .mirrors 0 (omega arith)) in
-      omega (arith, getD-take n row i 0 m, getD-take n row 0 0 (omega arith), far (places row) last (λ j k. g .rises j (omega arith)) 0 i (omega arith) (omega arith), far (places row) last (λ j k. g .rises j (omega arith)) i last (omega arith) (omega arith))
+      let corners : placeIn row 0 + placeIn row last ≡ 65536 = rw z at (g .mirrors 0 (omega arith)) in
+      omega (arith, getD-take n row i 0 m, getD-take n row 0 0 (omega arith), far (placeIn row) last (λ j k. g .rises j (omega arith)) 0 i (omega arith) (omega arith), far (placeIn row) last (λ j k. g .rises j (omega arith)) i last (omega arith) (omega arith))
 
 -- or the centre
-pub centre-last : (row : List ℕ) → length row ≡ 1 → vertexWords (ringsOf row) ≡ pointWords centre
+pub centre-last : (row : List ℕ) → length row ≡ 1 → vertexWords (ringsOf row) ≡ coordinateWords centre
 unfolding rings vertexWords
 centre-last row h =
     let none : length row - 1 ≡ 0 = omega arith in
-    ap (λ (m : ℕ). vertexWords (rings (alike (places row) (length row - 1)) (places row 0) (places row) m)) none
+    ap (λ (m : ℕ). vertexWords (rings (alike (placeIn row) (length row - 1)) (placeIn row 0) (placeIn row) m)) none
 
 -- ---- the places of rings
 pub row-inward : (row : List ℕ) → GoodRow row → Inward row
@@ -114,27 +114,27 @@ next-inward row h g =
       mirrors = λ i l.
           let j = length (middle row) - 1 - i in
           let k : suc j ≡ length row - 1 - suc i = omega arith in
-          omega (arith, middle-at row i (omega arith), middle-at row j (omega arith), ap (places row) k, g .mirrors (suc i) (omega arith));
+          omega (arith, middle-at row i (omega arith), middle-at row j (omega arith), ap (placeIn row) k, g .mirrors (suc i) (omega arith));
     }
 
 -- ---- writing both parts of a patch
 module _ {e0 e1 e2 : List ℕ} (good : GoodRow e0 × GoodRow e1 × GoodRow e2) (xs : List ℕ) (at : ℕ)
-    (room : at + 3 * length (triangleOutline (whole e0) (whole e1) (whole e2)) ≤ length xs) where
-  outline-same : ring trianglePlace 0 (listed (front e0) ∷ listed (front e1) ∷ listed (front e2) ∷ []) 0 ≡ triangleOutline (whole e0) (whole e1) (whole e2)
+    (room : at + 3 * length (triangleOutline (wholeEdge e0) (wholeEdge e1) (wholeEdge e2)) ≤ length xs) where
+  outline-same : ring trianglePlace 0 (listed (front e0) ∷ listed (front e1) ∷ listed (front e2) ∷ []) 0 ≡ triangleOutline (wholeEdge e0) (wholeEdge e1) (wholeEdge e2)
   outline-same = ring-same trianglePlace 0 0 (more (front-same e0 _ (front-size e0)) (more (front-same e1 _ (front-size e1)) (more (front-same e2 _ (front-size e2)) none)))
 
-  pub edges-ready : (Clear 0 (listed (front e0)) × Clear 0 (listed (front e1)) × Clear 0 (listed (front e2)))
+  pub edges-ready : (ClearOfEnds 0 (listed (front e0)) × ClearOfEnds 0 (listed (front e1)) × ClearOfEnds 0 (listed (front e2)))
       × (at + 3 * length (ring trianglePlace 0 (listed (front e0) ∷ listed (front e1) ∷ listed (front e2) ∷ []) 0) ≤ length xs)
   edges-ready =
       ((front-clear e0 _ (front-size e0) (good .0), front-clear e1 _ (front-size e1) (good .1), front-clear e2 _ (front-size e2) (good .2)), omega (arith, ap length outline-same, room))
 
   pub outline-written : {xs′ : List ℕ} {w : ℕ} → Wrote xs at (vertexWords (ring trianglePlace 0 (listed (front e0) ∷ listed (front e1) ∷ listed (front e2) ∷ []) 0)) xs′ w
-      → Wrote xs at (vertexWords (triangleOutline (whole e0) (whole e1) (whole e2))) xs′ w
+      → Wrote xs at (vertexWords (triangleOutline (wholeEdge e0) (wholeEdge e1) (wholeEdge e2))) xs′ w
   outline-written = wrote-same outline-same
 
-module _ (row : List ℕ) (good : GoodRow row × (3 ≤ length row)) (xs : List ℕ) (at : ℕ) (room : at + 3 * length (triangleInside (whole row)) ≤ length xs) where
+module _ (row : List ℕ) (good : GoodRow row × (3 ≤ length row)) (xs : List ℕ) (at : ℕ) (room : at + 3 * length (triangleInside (wholeEdge row)) ≤ length xs) where
   pub rings-ready : Inward (middle row) × (at + 3 * length (ringsOf (middle row)) ≤ length xs)
   rings-ready = (next-inward row (good .1) (row-inward row (good .0)), omega (arith, ap length (inside-are row (good .1)), room))
 
-  pub inside-written : {xs′ : List ℕ} {w : ℕ} → Wrote xs at (vertexWords (ringsOf (middle row))) xs′ w → Wrote xs at (vertexWords (triangleInside (whole row))) xs′ w
+  pub inside-written : {xs′ : List ℕ} {w : ℕ} → Wrote xs at (vertexWords (ringsOf (middle row))) xs′ w → Wrote xs at (vertexWords (triangleInside (wholeEdge row))) xs′ w
   inside-written = wrote-same (sym (inside-are row (good .1)))

@@ -8,7 +8,7 @@ ghost use Rattle.buffer.specs.Over.{Wrote, flat};
 ghost use Rattle.mesh_geometry.specs.Edge.{ring};
 ghost use Rattle.mesh_geometry.specs.TrianglePoints.{trianglePlace};
 ghost use Rattle.mesh_geometry.specs.Words.{vertexWords};
-ghost use Rattle.vertices.specs.Rows.{places, listed, whole, Clear, GoodRow};
+ghost use Rattle.vertices.specs.Rows.{placeIn, listed, wholeEdge, ClearOfEnds, GoodRow};
 ghost use Rattle.vertices.specs.Edges.{edgePoints};
 ghost use Rattle.triangle_point_rows.specs.Rings.{ringPoints, ringsOf, Inward, sums, Laid};
 ghost use Rattle.triangle_point_rows.specs.Parts.{triangleOutline, triangleInside};
@@ -17,7 +17,7 @@ use vertices::place::triangle_place;
 
 // Writes edge k of the ring `depth` units inside, a point for each place; `high` is 196608 - depth.
 fn write_edge(out: &mut [u32], at: usize, row: &[u32], depth: u32, high: u32, k: u32) -> usize
-    requires { ⌜ (k < 3) × (high + depth ≡ 196608) ⌝ ∗ ⌜ Clear depth (listed (now row)) ⌝ ∗ ⌜ at + 3 * length (now row) ≤ length (now out) ⌝ }
+    requires { ⌜ (k < 3) × (high + depth ≡ 196608) ⌝ ∗ ⌜ ClearOfEnds depth (listed (now row)) ⌝ ∗ ⌜ at + 3 * length (now row) ≤ length (now out) ⌝ }
     ensures { λ w. ⌜ Wrote (now (out .entry)) at (vertexWords (edgePoints trianglePlace k (listed (now (row .entry))) depth)) (now (out .exit)) w ⌝ }
 {
     let mut to = at;
@@ -32,7 +32,7 @@ fn write_edge(out: &mut [u32], at: usize, row: &[u32], depth: u32, high: u32, k:
 
 // Writes the edges of the outline, from rows without their ends.
 fn write_edges(out: &mut [u32], at: usize, e0: &[u32], e1: &[u32], e2: &[u32]) -> usize
-    requires { ⌜ Clear 0 (listed (now e0)) × Clear 0 (listed (now e1)) × Clear 0 (listed (now e2)) ⌝ ∗ ⌜ at + 3 * length (ring trianglePlace 0 (listed (now e0) ∷ listed (now e1) ∷ listed (now e2) ∷ []) 0) ≤ length (now out) ⌝ }
+    requires { ⌜ ClearOfEnds 0 (listed (now e0)) × ClearOfEnds 0 (listed (now e1)) × ClearOfEnds 0 (listed (now e2)) ⌝ ∗ ⌜ at + 3 * length (ring trianglePlace 0 (listed (now e0) ∷ listed (now e1) ∷ listed (now e2) ∷ []) 0) ≤ length (now out) ⌝ }
     ensures { λ w. ⌜ Wrote (now (out .entry)) at (vertexWords (ring trianglePlace 0 (listed (now (e0 .entry)) ∷ listed (now (e1 .entry)) ∷ listed (now (e2 .entry)) ∷ []) 0)) (now (out .exit)) w ⌝ }
 {
     let w = write_edge(out, at, e0, 0, 196608, 0);
@@ -42,7 +42,7 @@ fn write_edges(out: &mut [u32], at: usize, e0: &[u32], e1: &[u32], e2: &[u32]) -
 
 // Writes an inner ring; each edge is without its end, and the first place is the ring's depth.
 fn write_ring(out: &mut [u32], at: usize, row: &[u32]) -> usize
-    requires { ⌜ 0 < length (now row) ⌝ ∗ ⌜ Clear (places (now row) 0) (listed (now row)) ⌝ ∗ ⌜ at + 3 * length (ringPoints (now row)) ≤ length (now out) ⌝ }
+    requires { ⌜ 0 < length (now row) ⌝ ∗ ⌜ ClearOfEnds (placeIn (now row) 0) (listed (now row)) ⌝ ∗ ⌜ at + 3 * length (ringPoints (now row)) ≤ length (now out) ⌝ }
     ensures { λ w. ⌜ Wrote (now (out .entry)) at (vertexWords (ringPoints (now (row .entry)))) (now (out .exit)) w ⌝ }
 {
     let depth = row[0];
@@ -172,7 +172,7 @@ fn write_wide_ring(
     from: usize,
     row: &[u32],
 ) -> usize
-    requires { ⌜ 9 ≤ length (now row) ⌝ ∗ ⌜ Laid (now base) (now other) from (now row) ⌝ ∗ ⌜ Clear (places (take (length (now row) - 1) (now row)) 0) (listed (take (length (now row) - 1) (now row))) ⌝ ∗ ⌜ at + 3 * length (ringPoints (take (length (now row) - 1) (now row))) ≤ length (now out) ⌝ }
+    requires { ⌜ 9 ≤ length (now row) ⌝ ∗ ⌜ Laid (now base) (now other) from (now row) ⌝ ∗ ⌜ ClearOfEnds (placeIn (take (length (now row) - 1) (now row)) 0) (listed (take (length (now row) - 1) (now row))) ⌝ ∗ ⌜ at + 3 * length (ringPoints (take (length (now row) - 1) (now row))) ≤ length (now out) ⌝ }
     ensures { λ w. ⌜ Wrote (now (out .entry)) at (vertexWords (ringPoints (take (length (now (row .entry)) - 1) (now (row .entry))))) (now (out .exit)) w ⌝ }
 {
     let n = row.len() - 1;
@@ -228,8 +228,8 @@ fn write_all_rings(out: &mut [u32], at: usize, row: &[u32]) -> usize
 
 // Writes the outline; each row has the places of an edge, its end included.
 pub fn write_outline(out: &mut [u32], at: usize, e0: &[u32], e1: &[u32], e2: &[u32]) -> usize
-    requires { ⌜ GoodRow (now e0) × GoodRow (now e1) × GoodRow (now e2) ⌝ ∗ ⌜ at + 3 * length (triangleOutline (whole (now e0)) (whole (now e1)) (whole (now e2))) ≤ length (now out) ⌝ }
-    ensures { λ w. ⌜ Wrote (now (out .entry)) at (vertexWords (triangleOutline (whole (now (e0 .entry))) (whole (now (e1 .entry))) (whole (now (e2 .entry))))) (now (out .exit)) w ⌝ }
+    requires { ⌜ GoodRow (now e0) × GoodRow (now e1) × GoodRow (now e2) ⌝ ∗ ⌜ at + 3 * length (triangleOutline (wholeEdge (now e0)) (wholeEdge (now e1)) (wholeEdge (now e2))) ≤ length (now out) ⌝ }
+    ensures { λ w. ⌜ Wrote (now (out .entry)) at (vertexWords (triangleOutline (wholeEdge (now (e0 .entry))) (wholeEdge (now (e1 .entry))) (wholeEdge (now (e2 .entry))))) (now (out .exit)) w ⌝ }
 {
     let n0 = e0.len() - 1;
     let n1 = e1.len() - 1;
@@ -239,8 +239,8 @@ pub fn write_outline(out: &mut [u32], at: usize, e0: &[u32], e1: &[u32], e2: &[u
 
 // The rings inside the outline, or the centre.
 pub fn write_inside(out: &mut [u32], at: usize, row: &[u32]) -> usize
-    requires { ⌜ GoodRow (now row) × (3 ≤ length (now row)) ⌝ ∗ ⌜ at + 3 * length (triangleInside (whole (now row))) ≤ length (now out) ⌝ }
-    ensures { λ w. ⌜ Wrote (now (out .entry)) at (vertexWords (triangleInside (whole (now (row .entry))))) (now (out .exit)) w ⌝ }
+    requires { ⌜ GoodRow (now row) × (3 ≤ length (now row)) ⌝ ∗ ⌜ at + 3 * length (triangleInside (wholeEdge (now row))) ≤ length (now out) ⌝ }
+    ensures { λ w. ⌜ Wrote (now (out .entry)) at (vertexWords (triangleInside (wholeEdge (now (row .entry))))) (now (out .exit)) w ⌝ }
 {
     let n = row.len() - 1;
     write_all_rings(out, at, &row[1..n])
@@ -248,8 +248,8 @@ pub fn write_inside(out: &mut [u32], at: usize, row: &[u32]) -> usize
 
 // The same point by point, which is faster for small rings.
 pub fn write_small_inside(out: &mut [u32], at: usize, row: &[u32]) -> usize
-    requires { ⌜ GoodRow (now row) × (3 ≤ length (now row)) ⌝ ∗ ⌜ at + 3 * length (triangleInside (whole (now row))) ≤ length (now out) ⌝ }
-    ensures { λ w. ⌜ Wrote (now (out .entry)) at (vertexWords (triangleInside (whole (now (row .entry))))) (now (out .exit)) w ⌝ }
+    requires { ⌜ GoodRow (now row) × (3 ≤ length (now row)) ⌝ ∗ ⌜ at + 3 * length (triangleInside (wholeEdge (now row))) ≤ length (now out) ⌝ }
+    ensures { λ w. ⌜ Wrote (now (out .entry)) at (vertexWords (triangleInside (wholeEdge (now (row .entry))))) (now (out .exit)) w ⌝ }
 {
     let n = row.len() - 1;
     write_rings(out, at, &row[1..n])

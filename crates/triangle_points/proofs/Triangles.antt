@@ -11,7 +11,7 @@ use Rattle.mesh_geometry.specs.Edge.{Run, along}
 use Rattle.mesh_geometry.specs.TrianglePoints.{trianglePlace, rings, trianglePatch}
 use Rattle.mesh_geometry.specs.Segmented.{run}
 use Rattle.mesh_geometry.specs.Words.{vertexWords}
-use Rattle.vertices.specs.Rows.{places, whole, GoodRow, AllValid}
+use Rattle.vertices.specs.Rows.{placeIn, wholeEdge, GoodRow, AllValid}
 use Rattle.vertices.proofs.Parts.{Parts, wrote-same}
 use Rattle.vertices.proofs.Rows.{none, more, ring-same, along-at, along-same, along-length, good-row}
 use Rattle.triangle_point_rows.specs.Parts.{triangleOutline, triangleInside}
@@ -39,37 +39,37 @@ all-valid e0 e1 e2 inside v w = (v .0, (v .1, (v .2, w)))
 
 -- ---- the outline
 outline-are : (e0 e1 e2 : Run) {x0 x1 x2 : List ℕ} → x0 ≡ along e0 → x1 ≡ along e1 → x2 ≡ along e2
-    → triangleOutline (whole x0) (whole x1) (whole x2) ≡ triangleOutline e0 e1 e2
+    → triangleOutline (wholeEdge x0) (wholeEdge x1) (wholeEdge x2) ≡ triangleOutline e0 e1 e2
 outline-are e0 e1 e2 h0 h1 h2 =
     rw (h0, h1, h2) (ring-same trianglePlace 0 0 (more (along-same e0) (more (along-same e1) (more (along-same e2) none))))
 
 module _ (e0 e1 e2 : Segments) {x0 x1 x2 : List ℕ} (h0 : x0 ≡ along (run e0)) (h1 : x1 ≡ along (run e1)) (h2 : x2 ≡ along (run e2)) where
-  outline-same : triangleOutline (whole x0) (whole x1) (whole x2) ≡ triangleOutline (run e0) (run e1) (run e2)
+  outline-same : triangleOutline (wholeEdge x0) (wholeEdge x1) (wholeEdge x2) ≡ triangleOutline (run e0) (run e1) (run e2)
   outline-same = outline-are (run e0) (run e1) (run e2) h0 h1 h2
 
   -- the rows are good, and there is room for the points
   pub outline-ready : AllValid (e0 ∷ e1 ∷ e2 ∷ []) → (out : List ℕ) (at : ℕ) → at + 3 * length (triangleOutline (run e0) (run e1) (run e2)) ≤ length out
-      → (GoodRow x0 × GoodRow x1 × GoodRow x2) × (at + 3 * length (triangleOutline (whole x0) (whole x1) (whole x2)) ≤ length out)
+      → (GoodRow x0 × GoodRow x1 × GoodRow x2) × (at + 3 * length (triangleOutline (wholeEdge x0) (wholeEdge x1) (wholeEdge x2)) ≤ length out)
   outline-ready v out at room = ((good-row e0 (v .0) h0, good-row e1 (v .1 .0) h1, good-row e2 (v .1 .1) h2), omega (arith, ap length outline-same))
 
-  pub outline-written : {out out′ : List ℕ} {at w : ℕ} → Wrote out at (vertexWords (triangleOutline (whole x0) (whole x1) (whole x2))) out′ w
+  pub outline-written : {out out′ : List ℕ} {at w : ℕ} → Wrote out at (vertexWords (triangleOutline (wholeEdge x0) (wholeEdge x1) (wholeEdge x2))) out′ w
       → Wrote out at (vertexWords (triangleOutline (run e0) (run e1) (run e2))) out′ w
   outline-written = wrote-same outline-same
 
 -- ---- the inside
-inside-are : (e : Run) {xs : List ℕ} → xs ≡ along e → 2 ≤ e .c → triangleInside (whole xs) ≡ triangleInside e
+inside-are : (e : Run) {xs : List ℕ} → xs ≡ along e → 2 ≤ e .c → triangleInside (wholeEdge xs) ≡ triangleInside e
 inside-are e h two =
     rw (h, along-same e .count)
-    (inner-same (e .c - 2) (places (along e) 1) (e .q 1) (λ i. places (along e) (suc i)) (λ i. e .q (suc i)) (along-at e 1 (omega arith)) (λ i l. along-at e (suc i) (omega arith)))
+    (inner-same (e .c - 2) (placeIn (along e) 1) (e .q 1) (λ i. placeIn (along e) (suc i)) (λ i. e .q (suc i)) (along-at e 1 (omega arith)) (λ i l. along-at e (suc i) (omega arith)))
 
 module _ (inside : Segments) {xs : List ℕ} (h : xs ≡ along (run inside)) (two : 2 ≤ inside .count) where
-  inside-same : triangleInside (whole xs) ≡ triangleInside (run inside)
+  inside-same : triangleInside (wholeEdge xs) ≡ triangleInside (run inside)
   inside-same = inside-are (run inside) h two
 
   pub inside-ready : Valid (inside .count) (inside .scaled) → (out : List ℕ) (at : ℕ) → at + 3 * length (triangleInside (run inside)) ≤ length out
-      → (GoodRow xs × (3 ≤ length xs)) × (at + 3 * length (triangleInside (whole xs)) ≤ length out)
+      → (GoodRow xs × (3 ≤ length xs)) × (at + 3 * length (triangleInside (wholeEdge xs)) ≤ length out)
   inside-ready v out at room = ((good-row inside v h, omega (arith, ap length h, along-length (run inside))), omega (arith, ap length inside-same))
 
-  pub inside-written : {out out′ : List ℕ} {at w : ℕ} → Wrote out at (vertexWords (triangleInside (whole xs))) out′ w
+  pub inside-written : {out out′ : List ℕ} {at w : ℕ} → Wrote out at (vertexWords (triangleInside (wholeEdge xs))) out′ w
       → Wrote out at (vertexWords (triangleInside (run inside))) out′ w
   inside-written = wrote-same inside-same

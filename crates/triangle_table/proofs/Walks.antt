@@ -13,12 +13,12 @@ use Rattle.strip.specs.declared.triangle.Triangle.{Triangle}
 use Rattle.check_searches.specs.Triangles.{triangleAt}
 use Rattle.check_searches.proofs.First.{some-here, some-none, some-all, some-which}
 use Rattle.check_side_searches.specs.Same.{sameTriangle}
-use Rattle.check_faults.specs.Outline.{startOf, endOf}
+use Rattle.check_faults.specs.Outline.{startCorner, endOf}
 use Rattle.half_edge_chains.specs.Sides.{sideStart, sideEnd, isSide}
 use Rattle.half_edge_chains.specs.Links.{lastFrom, Linked}
 use Rattle.half_edge_chains.proofs.Numbers.{numbered-start, numbered-end, both, both-which, which-of, same-ends, ends-same}
 use Rattle.half_edge_chains.proofs.Table.{last-none, last-is, last-most, link-before}
-use Rattle.triangle_table.specs.Hits.{someFace, hits, Sought}
+use Rattle.triangle_table.specs.Hits.{someFace, hits, TriangleSought}
 
 test-false : (b : Bool) → (b ≡ true → ⊥) → b ≡ false
 test-false true h = absurd (h refl)
@@ -38,7 +38,7 @@ pub hit-same : (ts : List Triangle) (t : Triangle) (m e : ℕ) → e ≡ sideEnd
 unfolding hits
 hit-same ts t m e d h s = rw (eq-eqb (sideStart ts m) (t .a) s, eq-eqb (sideEnd ts m) (t .b) (sym d ∙ h))
 
-sought-from : (ts : List Triangle) (t : Triangle) (n b : ℕ) → b ≤ n → ((m : ℕ) → b ≤ m → m < n → hits ts t m ≡ false) → Sought ts t n (lastFrom ts b (t .a))
+sought-from : (ts : List Triangle) (t : Triangle) (n b : ℕ) → b ≤ n → ((m : ℕ) → b ≤ m → m < n → hits ts t m ≡ false) → TriangleSought ts t n (lastFrom ts b (t .a))
 sought-from ts t n b l h = record {
   most = omega (arith, last-most ts b (t .a));
   here = λ j e. last-is ts b (t .a) j e;
@@ -46,31 +46,31 @@ sought-from ts t n b l h = record {
 }
 
 -- the search begins with the last of these sides
-pub seek-begins : (ts : List Triangle) (t : Triangle) (n k : ℕ) → k ≡ lastFrom ts n (t .a) → Sought ts t n k
+pub seek-begins : (ts : List Triangle) (t : Triangle) (n k : ℕ) → k ≡ lastFrom ts n (t .a) → TriangleSought ts t n k
 seek-begins ts t n k e = rw e (sought-from ts t n n (omega arith) (λ m p i. absurd (omega arith)))
 
 module _ {ts : List Triangle} {all : ℕ} {heads links : List ℕ} (d : Linked ts all heads links) (t : Triangle) (n : ℕ) (few : n ≤ all) where
-  goes-on : (j : ℕ) → Sought ts t n (suc j) → hits ts t j ≡ false → Sought ts t n (getD links j 0 / 65536)
+  goes-on : (j : ℕ) → TriangleSought ts t n (suc j) → hits ts t j ≡ false → TriangleSought ts t n (getD links j 0 / 65536)
   goes-on j w h =
       let l : j < all = omega (arith, w .most) in
       rw (link-before d j l, w .here j refl)
       (sought-from ts t n j (omega (arith, w .most))
       (λ m p i. elim (decLe (suc j) m) [ yes q ↦ w .passed m q i | no q ↦ (let e : m ≡ j = omega arith in rw e h) ]))
 
-  at-side : (k : ℕ) → 0 < k → Sought ts t n k → Sought ts t n (suc (k - 1))
+  at-side : (k : ℕ) → 0 < k → TriangleSought ts t n k → TriangleSought ts t n (suc (k - 1))
   at-side k l w = let e : suc (k - 1) ≡ k = omega arith in rw e w
 
-  pub seek-here : (k : ℕ) → 0 < k → Sought ts t n k → sideStart ts (k - 1) ≡ t .a
+  pub seek-here : (k : ℕ) → 0 < k → TriangleSought ts t n k → sideStart ts (k - 1) ≡ t .a
   seek-here k l w = w .here (k - 1) (omega arith)
 
-  pub seek-goes-on : (k : ℕ) → 0 < k → Sought ts t n k → hits ts t (k - 1) ≡ false → Sought ts t n (getD links (k - 1) 0 / 65536)
+  pub seek-goes-on : (k : ℕ) → 0 < k → TriangleSought ts t n k → hits ts t (k - 1) ≡ false → TriangleSought ts t n (getD links (k - 1) 0 / 65536)
   seek-goes-on k l w h = goes-on (k - 1) (at-side k l w) h
 
-  pub seek-less : (k : ℕ) → 0 < k → Sought ts t n k → getD links (k - 1) 0 / 65536 < k
+  pub seek-less : (k : ℕ) → 0 < k → TriangleSought ts t n k → getD links (k - 1) 0 / 65536 < k
   seek-less k l w = omega (arith, link-before d (k - 1) (omega (arith, w .most)), last-most ts (k - 1) (sideStart ts (k - 1)))
 
 -- a hit is a triangle equal to t
-pub seek-meets : (ts : List Triangle) (t : Triangle) (n k : ℕ) → 0 < k → Sought ts t (n * 3) k → hits ts t (k - 1) ≡ true → true ≡ someFace ts t n
+pub seek-meets : (ts : List Triangle) (t : Triangle) (n k : ℕ) → 0 < k → TriangleSought ts t (n * 3) k → hits ts t (k - 1) ≡ true → true ≡ someFace ts t n
 unfolding hits
 seek-meets ts t n k l w h =
     sym (some-here (λ i. sameTriangle (triangleAt ts i) t) n ((k - 1) / 3) (omega (arith, w .most))
@@ -80,7 +80,7 @@ seek-meets ts t n k l w h =
 pub record First (s t : Triangle) : Type 0 where
   pub number : ℕ
   pub least : number < 3
-  pub start : startOf s number ≡ t .a
+  pub start : startCorner s number ≡ t .a
   pub end : endOf s number ≡ t .b
 
 three : (p q r : Bool) → (p && q && r) ≡ true → (p ≡ true) × (q ≡ true) × (r ≡ true)
@@ -118,7 +118,7 @@ same-hits ts t i m f e h =
     (rw q h)
 
 -- a search that reached the end of the chain
-pub seek-ends : (ts : List Triangle) (t : Triangle) (n : ℕ) → Sought ts t (n * 3) 0 → false ≡ someFace ts t n
+pub seek-ends : (ts : List Triangle) (t : Triangle) (n : ℕ) → TriangleSought ts t (n * 3) 0 → false ≡ someFace ts t n
 seek-ends ts t n w = sym (some-none (λ i. sameTriangle (triangleAt ts i) t) n (λ i l. test-false (sameTriangle (triangleAt ts i) t) (λ h. met i l h (same-first (triangleAt ts i) t h))))
   where
     met : (i : ℕ) → i < n → sameTriangle (triangleAt ts i) t ≡ true → First (triangleAt ts i) t → ⊥

@@ -4,7 +4,7 @@ use mathlib.Core.Path.{_≡_, refl}
 use mathlib.Core.List.{List, [], _∷_}
 use lib.Ieee.{ofBits, ofInt, isNan, le}
 use Rattle.buffer.specs.Over.{flat}
-use Rattle.level.specs.Scale.{parts}
+use Rattle.level.specs.Scale.{scaledLevel}
 use Rattle.level.specs.Segments.{segmentsOf, asInner}
 use Rattle.edge.specs.Positions.{position}
 use Rattle.edge.specs.Table.{table}
@@ -30,7 +30,7 @@ use Rattle.decimal_text.specs.Digits.{digitsIn, digits}
 use Rattle.decimal_text.specs.Lines.{line, rows}
 use Rattle.decimal_text.specs.Heads.{bytes}
 use Rattle.patch_text.specs.Answers.{drawnText}
-use Rattle.job_text.specs.Jobs.{answers, jobText}
+use Rattle.job_text.specs.Jobs.{recordTexts, jobText}
 
 -- triangles, equal spacing, counter-clockwise, lower-left, no point mode; the levels 1, 1, 1, 0, 2 and 0
 abbrev sampleJob : List ℕ
@@ -39,8 +39,8 @@ sampleJob =
 
 -- the text of that job
 pub sample-text : jobText sampleJob ≡ bytes "TSJ 1\ndrawn 4 9\n0 196608 0\n0 0 196608\n196608 0 0\n65536 65536 65536\n0 1 3\n1 2 3\n2 0 3\n"
-unfolding ofBits ofInt isNan le parts segmentsOf asInner position table outerNext stripFrom indices ringAt bandFrom nest some every subdivision ring rings points triangles indexWords vertexWords word
-    startsWith headerOf firstOver unknownPlace recordOf recordAt flat digitsIn digits line rows drawnText answers jobText
+unfolding ofBits ofInt isNan le scaledLevel segmentsOf asInner position table outerNext stripFrom indices ringAt bandFrom nest some every subdivision ring rings points triangles indexWords vertexWords word
+    startsWith headerOf firstOver unknownPlace recordOf recordAt flat digitsIn digits line rows drawnText recordTexts jobText
 sample-text = refl
 
 -- the same patch in version 2, with the top level 2, to which the inner level 4 is clamped
@@ -50,6 +50,6 @@ sampleTwo =
 
 -- the text of that job
 pub sample-two-text : jobText sampleTwo ≡ bytes "TSJ 2\ndrawn 4 9\n0 196608 0\n0 0 196608\n196608 0 0\n65536 65536 65536\n0 1 3\n1 2 3\n2 0 3\n"
-unfolding ofBits ofInt isNan le parts segmentsOf asInner position table outerNext stripFrom indices ringAt bandFrom nest some every subdivision ring rings points triangles indexWords vertexWords word
-    startsWith headerOf firstOver unknownPlace recordOf recordAt flat digitsIn digits line rows drawnText answers jobText
+unfolding ofBits ofInt isNan le scaledLevel segmentsOf asInner position table outerNext stripFrom indices ringAt bandFrom nest some every subdivision ring rings points triangles indexWords vertexWords word
+    startsWith headerOf firstOver unknownPlace recordOf recordAt flat digitsIn digits line rows drawnText recordTexts jobText
 sample-two-text = refl

@@ -13,15 +13,15 @@ use Rattle.standard_streams.specs.Moved.{Filled, Taken}
 use Rattle.standard_streams.proofs.Takes.{taken-all}
 use Rattle.job_fields.specs.declared.version.Version.{Version}
 use Rattle.job_text.specs.Jobs.{answersFrom}
-use Rattle.tsj_pieces.specs.Chunks.{chunkSize, AnsweredChunk}
+use Rattle.tsj_pieces.specs.Chunks.{recordChunkSize, AnsweredChunk}
 
-module _ {v : Version} {bs : List ℕ} {input : Input} {size : ℕ} (e : size ≡ chunkSize v) (f : Filled size bs input) where
+module _ {v : Version} {bs : List ℕ} {input : Input} {size : ℕ} (e : size ≡ recordChunkSize v) (f : Filled size bs input) where
   pub chunk-unread : input .failed ≡ true → AnsweredChunk v bs (record { input = input; output = record { count = 0; failed = false }; more = false })
   chunk-unread h = record {
     read = subst (λ (n : ℕ). Filled n bs input) e f;
     taken = rw h (taken-all (omega arith) (omega arith));
     most = omega arith;
-    more = rw (ne-eqb (input .count) (chunkSize v) (λ g. omega (arith, f .short h)));
+    more = rw (ne-eqb (input .count) (recordChunkSize v) (λ g. omega (arith, f .short h)));
   }
 
   pub chunk-read : input .failed ≡ false → {output : Output} → Taken (length (answersFrom v (take (input .count) bs) 0)) output → output .count ≤ 4026531840

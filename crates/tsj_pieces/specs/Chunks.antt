@@ -20,8 +20,8 @@ pub record AnsweredSome (v : Version) (bs : List ℕ) (from : ℕ) (out : List �
   pub taken : Taken (r .progress .written) (r .output)
 
 -- the size of a full chunk in bytes
-abbrev pub chunkSize : Version → ℕ
-chunkSize v = recordSize v * 256
+abbrev pub recordChunkSize : Version → ℕ
+recordChunkSize v = recordSize v * 256
 
 -- the text that answers the records in the bytes that were read to the front of bs; empty if the read failed
 abbrev pub chunkText : Version → List ℕ → Input → List ℕ
@@ -29,9 +29,9 @@ chunkText v bs input = cond (input .failed) [] (answersFrom v (take (input .coun
 
 -- bs is the list for the records, after the call
 pub record AnsweredChunk (v : Version) (bs : List ℕ) (r : Chunk) : Type 0 where
-  pub read : Filled (chunkSize v) bs (r .input)
+  pub read : Filled (recordChunkSize v) bs (r .input)
   -- all of their text was passed to writes, up to one that failed
   pub taken : Taken (length (chunkText v bs (r .input))) (r .output)
   pub most : r .output .count ≤ 4026531840
   -- another chunk follows exactly if this one is full and no write failed
-  pub more : r .more ≡ (eqb (r .input .count) (chunkSize v) && not (r .output .failed))
+  pub more : r .more ≡ (eqb (r .input .count) (recordChunkSize v) && not (r .output .failed))

@@ -15,30 +15,30 @@ use Rattle.job_fields.specs.declared.version.Version.{Version}
 use Rattle.job_text.specs.declared.header.Rest.{Rest}
 use Rattle.job_text.specs.declared.header.Rest.the-variants.{Records, Nothing}
 use Rattle.job_text.specs.Jobs.{answersFrom}
-use Rattle.job_text.specs.Pieces.{said}
+use Rattle.job_text.specs.Pieces.{pieceTexts}
 use Rattle.job_text.proofs.Sizes.{settings-least}
 use Rattle.job_text.proofs.Steps.{answers-end}
 use Rattle.job_text.proofs.Pieces.{answers-both}
 use Rattle.tsj_pieces.specs.declared.chunk.Chunk.{Chunk}
 use Rattle.tsj_run.specs.declared.records.Answered.{Answered}
-use Rattle.tsj_pieces.specs.Chunks.{chunkSize, chunkText, AnsweredChunk}
-use Rattle.tsj_run.specs.Rests.{pieces, stoppedAt, AnsweredRest}
+use Rattle.tsj_pieces.specs.Chunks.{recordChunkSize, chunkText, AnsweredChunk}
+use Rattle.tsj_run.specs.Rests.{pieces, jobStoppedAt, AnsweredRest}
 
 -- full chunks were read and answered
 pub record Full (v : Version) (read written : ℕ) : Type 0 where
   pub earlier : List ℕ
   pub chunks : ℕ
-  pub whole : length earlier ≡ chunkSize v * chunks
+  pub whole : length earlier ≡ recordChunkSize v * chunks
   pub counted : read ≡ length earlier
   pub text : written ≡ length (answersFrom v earlier 0)
 
 pub full-start : (v : Version) → Full v 0 0
-full-start v = record { earlier = []; chunks = 0; whole = sym (mul-zero (chunkSize v)); counted = refl; text = sym (ap length (answers-end v [] 0 0 (omega arith))) }
+full-start v = record { earlier = []; chunks = 0; whole = sym (mul-zero (recordChunkSize v)); counted = refl; text = sym (ap length (answers-end v [] 0 0 (omega arith))) }
 
 -- the text of the pieces is that of the full chunks and that of the last one
 pieces-text : (v : Version) (earlier last : List ℕ) (t : Bool)
-    → length (said v (pieces t earlier last)) ≡ length (answersFrom v earlier 0) + length (cond t [] (answersFrom v last 0))
-unfolding said
+    → length (pieceTexts v (pieces t earlier last)) ≡ length (answersFrom v earlier 0) + length (cond t [] (answersFrom v last 0))
+unfolding pieceTexts
 pieces-text v earlier last true = length-append (answersFrom v earlier 0) []
 pieces-text v earlier last false = length-append (answersFrom v earlier 0) (answersFrom v last 0 ++ []) ∙ rw (append-nil (answersFrom v last 0))
 
@@ -55,8 +55,8 @@ beyond a b m h = elim (decLe (a + b) m) [
 ]
 
 -- a chunk that another chunk follows is full
-full-size : {v : Version} {bs : List ℕ} {r : Chunk} → AnsweredChunk v bs r → r .more ≡ true → r .input .count ≡ chunkSize v
-full-size {v} {bs} {r} a h = part-full (r .input .count) (chunkSize v) (not (r .output .failed)) (sym (a .more) ∙ h)
+full-size : {v : Version} {bs : List ℕ} {r : Chunk} → AnsweredChunk v bs r → r .more ≡ true → r .input .count ≡ recordChunkSize v
+full-size {v} {bs} {r} a h = part-full (r .input .count) (recordChunkSize v) (not (r .output .failed)) (sym (a .more) ∙ h)
 
 -- a full chunk is not empty
 pub full-more : {v : Version} {bs : List ℕ} {r : Chunk} → AnsweredChunk v bs r → r .more ≡ true → 0 < r .input .count
@@ -70,7 +70,7 @@ module _ {v : Version} {read written : ℕ} (f : Full v read written) where
     pub full-step : r .more ≡ true → Full v (read + r .input .count) (written + r .output .count)
     full-step h =
         let full = full-size a h in
-        let written-all = both (eqb (r .input .count) (chunkSize v)) (not (r .output .failed)) (sym (a .more) ∙ h) .1 in
+        let written-all = both (eqb (r .input .count) (recordChunkSize v)) (not (r .output .failed)) (sym (a .more) ∙ h) .1 in
         let last = take (r .input .count) bs in
         let taken = taken-whole (a .taken) (not-true (r .output .failed) written-all) in
         let text : length (chunkText v bs (r .input)) ≡ length (answersFrom v last 0) = rw (filled-read (a .read) full) in
@@ -94,11 +94,11 @@ module _ {v : Version} {read written : ℕ} (f : Full v read written) where
       read = omega (arith, f .counted);
       taken = rw (pieces-text v (f .earlier) (take (r .input .count) bs) (r .input .failed), f .text) (taken-after (a .taken) (length (answersFrom v (f .earlier) 0)));
       before = omega (arith, f .text, pieces-text v (f .earlier) [] true);
-      ended = λ _ o _. part-short (r .input .count) (chunkSize v) (not (r .output .failed)) (a .read .most) (sym (a .more) ∙ h) (ap not o);
+      ended = λ _ o _. part-short (r .input .count) (recordChunkSize v) (not (r .output .failed)) (a .read .most) (sym (a .more) ∙ h) (ap not o);
     }
 
   -- the limit of bytes read or written is exceeded, so no more are read
-  pub full-stop : (bs : List ℕ) → 9223372036854775808 < read + written → AnsweredRest (Records v) bs (stoppedAt read written)
+  pub full-stop : (bs : List ℕ) → 9223372036854775808 < read + written → AnsweredRest (Records v) bs (jobStoppedAt read written)
   full-stop bs h = record {
     earlier = f .earlier;
     chunks = f .chunks;
@@ -115,7 +115,7 @@ module _ {v : Version} {read written : ℕ} (f : Full v read written) where
 pub rest-records : {rest : Rest} {v : Version} {bs : List ℕ} {r : Answered} → rest ≡ Records v → AnsweredRest (Records v) bs r → AnsweredRest rest bs r
 rest-records {bs = bs} {r = r} e a = subst (λ (x : Rest). AnsweredRest x bs r) (sym e) a
 
-pub rest-none : {rest : Rest} (bs : List ℕ) {r : Answered} → rest ≡ Nothing → r ≡ stoppedAt 0 0 → AnsweredRest rest bs r
+pub rest-none : {rest : Rest} (bs : List ℕ) {r : Answered} → rest ≡ Nothing → r ≡ jobStoppedAt 0 0 → AnsweredRest rest bs r
 rest-none bs e f = rw (e, f) (record {
   earlier = [];
   chunks = 0;

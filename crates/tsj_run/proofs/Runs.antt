@@ -15,13 +15,13 @@ use Rattle.job.specs.Header.{headerOf}
 use Rattle.job_text.specs.declared.header.Rest.{Rest}
 use Rattle.job_text.specs.declared.header.Rest.the-variants.{Records, Nothing}
 use Rattle.job_text.specs.Jobs.{startText, restText, jobText, restOf}
-use Rattle.job_text.specs.Pieces.{joined, Whole, last, more, WholeAfter, saidAfter}
+use Rattle.job_text.specs.Pieces.{joinedPieces, RecordPieces, last, more, WholeAfter, saidAfter}
 use Rattle.job_text.proofs.Pieces.{job-in-pieces, job-of-few-bytes}
 use Rattle.tsj_pieces.specs.declared.header.Start.{Start}
 use Rattle.tsj_run.specs.declared.records.Answered.{Answered}
 use Rattle.tsj_pieces.specs.Headers.{AnsweredHeader}
 use Rattle.tsj_run.specs.Rests.{restSize, pieces, AnsweredRest}
-use Rattle.tsj_run.specs.Runs.{Ran}
+use Rattle.tsj_run.specs.Runs.{JobRan}
 
 empty : (l : List ℕ) → length l ≡ 0 → l ≡ []
 empty [] e = refl
@@ -31,8 +31,8 @@ empty (x ∷ l) e = absurd (omega arith)
 none-taken : {r : Output} → Taken 0 r → (r .count ≡ 0) × (r .failed ≡ false)
 none-taken {r} t = (omega (arith, t .most), t .failed ∙ le-ltb (r .count) 0 (omega arith))
 
-joined-length : (t : Bool) (e l : List ℕ) → length (joined (pieces t e l)) ≤ length e + length l
-unfolding joined
+joined-length : (t : Bool) (e l : List ℕ) → length (joinedPieces (pieces t e l)) ≤ length e + length l
+unfolding joinedPieces
 joined-length true e l = omega (arith, length-append e [])
 joined-length false e l = omega (arith, length-append e (l ++ []), length-append l [])
 
@@ -41,7 +41,7 @@ module _ (rest : Rest) {bs : List ℕ} {r : Answered} (b : AnsweredRest rest bs 
   none-written : (r .output .count ≡ 0) × (r .output .failed ≡ false)
   none-written = none-taken (rw e at (b .taken))
 
-  none-read : joined (pieces (r .last .failed) (b .earlier) (take (r .last .count) bs)) ≡ []
+  none-read : joinedPieces (pieces (r .last .failed) (b .earlier) (take (r .last .count) bs)) ≡ []
   none-read =
       let size : restSize rest ≡ 0 = ap restSize e in
       let none : length (b .earlier) ≡ 0 = b .whole ∙ ap (λ (n : ℕ). n * b .chunks) size ∙ zero-mul (b .chunks) in
@@ -53,7 +53,7 @@ whole-pieces : (rest : Rest) {bs : List ℕ} {r : Answered} (b : AnsweredRest re
 whole-pieces Nothing b = tt
 whole-pieces (Records v) {bs} {r} b = go (r .last .failed)
   where
-    go : (t : Bool) → Whole v (pieces t (b .earlier) (take (r .last .count) bs))
+    go : (t : Bool) → RecordPieces v (pieces t (b .earlier) (take (r .last .count) bs))
     go true = last (b .earlier)
     go false = more {c = b .earlier} (256 * b .chunks) (omega (arith, b .whole)) (last (take (r .last .count) bs))
 
@@ -63,8 +63,8 @@ unfolding headerOf
 few-rest hs h = rw (lt-ltb (length hs) 5 h)
 
 -- the text of a header, and of the pieces after it
-text-length : (hs : List ℕ) (cs : List (List ℕ)) → length hs ≤ 5 → WholeAfter (restOf (headerOf hs)) cs → (restOf (headerOf hs) ≡ Nothing → joined cs ≡ [])
-    → length (jobText (hs ++ joined cs)) ≡ length (startText (headerOf hs)) + length (saidAfter (restOf (headerOf hs)) cs)
+text-length : (hs : List ℕ) (cs : List (List ℕ)) → length hs ≤ 5 → WholeAfter (restOf (headerOf hs)) cs → (restOf (headerOf hs) ≡ Nothing → joinedPieces cs ≡ [])
+    → length (jobText (hs ++ joinedPieces cs)) ≡ length (startText (headerOf hs)) + length (saidAfter (restOf (headerOf hs)) cs)
 text-length hs cs l w n = elim (decLe 5 (length hs)) [
   | yes h ↦ ap length (job-in-pieces hs cs (omega arith) w) ∙ length-append (startText (headerOf hs)) (saidAfter (restOf (headerOf hs)) cs)
   | no h ↦
@@ -80,7 +80,7 @@ text-least hs = rw (append-nil hs) (omega (arith, length-append (startText (head
 
 module _ {hs bs : List ℕ} {start : Start} {r : Answered} (a : AnsweredHeader hs start) (b : AnsweredRest (start .rest) bs r) where
   ran-text : (t u : Bool) → start .input .failed ≡ t → start .output .failed ≡ u
-      → Taken (length (cond t [] (jobText (take (start .input .count) hs ++ joined (pieces (r .last .failed) (b .earlier) (take (r .last .count) bs))))))
+      → Taken (length (cond t [] (jobText (take (start .input .count) hs ++ joinedPieces (pieces (r .last .failed) (b .earlier) (take (r .last .count) bs))))))
       (record { count = start .output .count + r .output .count; failed = u || r .output .failed })
   ran-text true u h g =
       let head = none-taken (rw h at (a .taken)) in
@@ -100,5 +100,5 @@ module _ {hs bs : List ℕ} {start : Start} {r : Answered} (a : AnsweredHeader h
       text-length front cs (omega (arith, a .read .counts, a .read .most)) (subst (λ (x : Rest). WholeAfter x cs) follows (whole-pieces (start .rest) b)) (λ n. none-read (start .rest) b (follows ∙ n)) in
       rw (length-is, ← head, ← follows) (taken-after (b .taken) (start .output .count))
 
-  pub ran : Ran hs bs (record { start = start; records = r })
+  pub ran : JobRan hs bs (record { start = start; records = r })
   ran = record { header = a; records = b; whole = ran-text (start .input .failed) (start .output .failed) refl refl }

@@ -9,11 +9,11 @@ use Rattle.job_text.specs.declared.header.Rest.{Rest}
 use Rattle.job_text.specs.declared.header.Rest.the-variants.{Records, Nothing}
 use Rattle.job_text.specs.Pieces.{saidAfter}
 use Rattle.tsj_run.specs.declared.records.Answered.{Answered}
-use Rattle.tsj_pieces.specs.Chunks.{chunkSize}
+use Rattle.tsj_pieces.specs.Chunks.{recordChunkSize}
 
 -- the size in bytes of a full chunk of what follows a header
 abbrev pub restSize : Rest → ℕ
-restSize (Records v) = chunkSize v
+restSize (Records v) = recordChunkSize v
 restSize Nothing = 0
 
 -- the pieces that are answered: the full chunks, and the last chunk unless reading it failed
@@ -23,12 +23,12 @@ pieces false earlier last = earlier ∷ last ∷ []
 
 -- if records follow, n bytes are less than a full chunk
 abbrev pub NotFull : Rest → ℕ → Type 0
-NotFull (Records v) n = n < chunkSize v
+NotFull (Records v) n = n < recordChunkSize v
 NotFull Nothing n = Unit {0}
 
 -- the result of a run that stopped after these counts, with no read that failed
-abbrev pub stoppedAt : ℕ → ℕ → Answered
-stoppedAt read written = record { read = read; last = record { count = 0; failed = false }; output = record { count = written; failed = false } }
+abbrev pub jobStoppedAt : ℕ → ℕ → Answered
+jobStoppedAt read written = record { read = read; last = record { count = 0; failed = false }; output = record { count = written; failed = false } }
 
 -- bs is the list for the records, after the call
 pub record AnsweredRest (rest : Rest) (bs : List ℕ) (r : Answered) : Type 0 where

@@ -3,7 +3,7 @@ ghost use mathlib.Core.Path.{_≡_};
 ghost use Prim.Native.Nat.{_≤_};
 ghost use lib.ListN.{length};
 ghost use Rattle.patch_text.specs.Room.{room, FullSize};
-ghost use Rattle.tsj_run.specs.Rests.{stoppedAt, AnsweredRest};
+ghost use Rattle.tsj_run.specs.Rests.{jobStoppedAt, AnsweredRest};
 use job_fields::version::Version;
 use job_text::header::Rest;
 use standard_streams::Input;
@@ -22,7 +22,7 @@ pub struct Answered {
 
 // The result of a run that stopped after these counts, with no read that failed.
 fn stopped(read: usize, written: usize) -> Answered
-    ensures { λ r. ⌜ r ≡ stoppedAt read written ⌝ }
+    ensures { λ r. ⌜ r ≡ jobStoppedAt read written ⌝ }
 {
     let last = Input {
         count: 0,

@@ -1,13 +1,13 @@
 // From standard input to standard output, chunk by chunk. A failed read is not the end of the job: its chunk is not answered, and after it,
 // or after a failed write, nothing more is read or written.
-ghost use Rattle.tsj_run.specs.Runs.{Ran};
+ghost use Rattle.tsj_run.specs.Runs.{JobRan};
 use crate::records::Answered;
 use crate::records::answer_rest;
 use tsj_pieces::header::Start;
 use tsj_pieces::header::answer_header;
 
 // What was read and written, for the header and for the records after it.
-pub struct Outcome {
+pub struct JobOutcome {
     pub start: Start,
     pub records: Answered,
 }
@@ -24,12 +24,12 @@ pub fn run(
     bytes: &mut [u8; 7680],
     vertices: &mut [u32; 12675],
     indices: &mut [u16; 24576],
-) -> Outcome
-    ensures { λ r. ⌜ Ran (now (header .exit)) (now (bytes .exit)) r ⌝ }
+) -> JobOutcome
+    ensures { λ r. ⌜ JobRan (now (header .exit)) (now (bytes .exit)) r ⌝ }
 {
     let mut out = output_buffer();
     let start = answer_header(header, &mut out);
     let rest = start.rest;
     let records = answer_rest(rest, bytes, &mut out, vertices, indices);
-    Outcome { start, records }
+    JobOutcome { start, records }
 }

@@ -7,18 +7,18 @@ use lib.ListN.{length, take}
 use Rattle.standard_streams.specs.Moved.{Filled, Taken}
 use Rattle.replay.specs.Replays.{replayOf}
 use Rattle.replay.specs.Pieces.{isOpen}
-use Rattle.tsr_run.specs.declared.run.Outcome.{Outcome}
+use Rattle.tsr_run.specs.declared.run.ReplayOutcome.{ReplayOutcome}
 use Rattle.tsr_line.specs.Sentences.{replayLine}
-use Rattle.tsr_pieces.specs.Pieces.{chunkSize}
+use Rattle.tsr_pieces.specs.Pieces.{entryChunkSize}
 
 -- hs and bs are the lists for the header and for the entries, after the call
-pub record Ran (hs bs : List ℕ) (r : Outcome) : Type 0 where
+pub record ReplayRan (hs bs : List ℕ) (r : ReplayOutcome) : Type 0 where
   pub header : Filled 5 hs (r .header)
   -- the bytes of the full chunks that were replayed before the last chunk was read to the front of bs
   pub earlier : List ℕ
   pub chunks : ℕ
-  pub whole : length earlier ≡ chunkSize * chunks
-  pub last : Filled chunkSize bs (r .last)
+  pub whole : length earlier ≡ entryChunkSize * chunks
+  pub last : Filled entryChunkSize bs (r .last)
   -- every byte after the header is counted
   pub read : r .read ≡ length earlier + r .last .count
   -- the answer is that of all bytes
@@ -26,4 +26,4 @@ pub record Ran (hs bs : List ℕ) (r : Outcome) : Type 0 where
   -- all of its line was passed to a write, and nothing if a read failed
   pub line : Taken (length (cond (r .header .failed || r .last .failed) [] (replayLine (r .answer)))) (r .output)
   -- unless a read failed or the answer is settled, reading stops only at the end of the input, or after more than 2^63 bytes
-  pub ended : r .last .failed ≡ false → isOpen (r .answer) ≡ true → r .read ≤ 9223372036854775808 → r .last .count < chunkSize
+  pub ended : r .last .failed ≡ false → isOpen (r .answer) ≡ true → r .read ≤ 9223372036854775808 → r .last .count < entryChunkSize

@@ -3,7 +3,7 @@ ghost use mathlib.Core.Path.{_≡_};
 ghost use lib.ListN.{length};
 ghost use Rattle.patch_text.specs.Room.{FullSize};
 ghost use Rattle.replay.specs.Replays.{Countable};
-ghost use Rattle.tsr_run.specs.Rests.{stoppedAt, ReplayedChunks, ReplayedRest};
+ghost use Rattle.tsr_run.specs.Rests.{replayStoppedAt, ReplayedChunks, ReplayedRest};
 use replay::answer::Replay;
 use standard_streams::Input;
 use tsr_pieces::piece::is_open;
@@ -22,7 +22,7 @@ pub struct Replayed {
 
 // The result of a run that stopped after these bytes, with no read that failed.
 fn stopped(read: usize, answer: Replay) -> Replayed
-    ensures { λ r. ⌜ r ≡ stoppedAt read answer ⌝ }
+    ensures { λ r. ⌜ r ≡ replayStoppedAt read answer ⌝ }
 {
     let last = Input {
         count: 0,

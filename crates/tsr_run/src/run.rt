@@ -5,7 +5,7 @@ ghost use mathlib.Core.List.{[]};
 ghost use lib.ListN.{length};
 ghost use Rattle.standard_streams.specs.Moved.{Taken};
 ghost use Rattle.tsr_line.specs.Sentences.{replayLine};
-ghost use Rattle.tsr_run.specs.Runs.{Ran};
+ghost use Rattle.tsr_run.specs.Runs.{ReplayRan};
 use crate::rest::replay_rest;
 use replay::answer::Replay;
 use standard_streams::Input;
@@ -14,7 +14,7 @@ use tsr_line::sentence::put_replay;
 use tsr_pieces::piece::replay_header;
 
 // The read of the header, how many bytes were read after it, the last read, the answer, and how much of its line was written.
-pub struct Outcome {
+pub struct ReplayOutcome {
     pub header: Input,
     pub read: usize,
     pub last: Input,
@@ -55,8 +55,8 @@ pub fn run(
     bytes: &mut [u8; 8704],
     vertices: &mut [u32; 12675],
     indices: &mut [u16; 24576],
-) -> Outcome
-    ensures { λ r. ⌜ Ran (now (header .exit)) (now (bytes .exit)) r ⌝ }
+) -> ReplayOutcome
+    ensures { λ r. ⌜ ReplayRan (now (header .exit)) (now (bytes .exit)) r ⌝ }
 {
     let start = replay_header(header);
     let so_far = start.so_far;
@@ -65,7 +65,7 @@ pub fn run(
     let output = say(start.input.failed | rest.last.failed, answer);
     let input = start.input;
     let last = rest.last;
-    Outcome {
+    ReplayOutcome {
         header: input,
         read: rest.read,
         last,

@@ -6,14 +6,14 @@ use mathlib.Core.List.{List, [], _∷_}
 use native.Mathlib.Omega.{arith}
 use Rattle.level.specs.declared.Segments.{Segments}
 use Rattle.level.specs.Segments.{Valid}
-use Rattle.edge.specs.Rows.{RowAt, Filled}
+use Rattle.edge.specs.Rows.{RowAt, RowFilled}
 use Rattle.edge_table.specs.Stored.{rowsTo, Widest}
 use Rattle.edge.proofs.Rows.{row-kept}
 use Rattle.edge_table.proofs.StoredRows.{row-stored}
 use Rattle.vertices.specs.Rows.{Stored, AllStored, AllValid, Widths, last, then}
 
 -- ---- computed rows: a row stays unchanged when the row of s is computed at least 65 words before it
-pub kept : (s : Segments) → s .count ≤ 64 → {xs ys : List ℕ} {from : ℕ} → Filled xs from (s .count) (s .scaled) ys → (k : ℕ) {n L : ℕ} → RowAt xs (from + 65 + k) n L
+pub kept : (s : Segments) → s .count ≤ 64 → {xs ys : List ℕ} {from : ℕ} → RowFilled xs from (s .count) (s .scaled) ys → (k : ℕ) {n L : ℕ} → RowAt xs (from + 65 + k) n L
     → RowAt ys (from + 65 + k) n L
 kept s few f k r = row-kept f (inr (omega arith)) r
 

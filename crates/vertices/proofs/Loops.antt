@@ -10,38 +10,38 @@ use Rattle.buffer.proofs.Laws.{Counting, count-start, count-fits, count-room, c
 use Rattle.edge.specs.Table.{table}
 use Rattle.mesh_geometry.specs.declared.Point.{Point}
 use Rattle.mesh_geometry.specs.QuadPoints.{grid}
-use Rattle.mesh_geometry.specs.Words.{pointWords, vertexWords}
-use Rattle.vertices.specs.Rows.{places, listed, Clear}
+use Rattle.mesh_geometry.specs.Words.{coordinateWords, vertexWords}
+use Rattle.vertices.specs.Rows.{placeIn, listed, ClearOfEnds}
 use Rattle.vertices.proofs.Words.{words-table, words-grid, table-words}
 
 -- ---- a loop that writes the points f 0, f 1, .. f (n - 1)
 abbrev pub Points : (ℕ → Point) → ℕ → ℕ → List ℕ → ℕ → List ℕ → ℕ → Type 0
-Points f i n out w xs at = Counting (λ k. pointWords (f k)) i n out w xs at
+Points f i n out w xs at = Counting (λ k. coordinateWords (f k)) i n out w xs at
 
 pub points-start : (f : ℕ → Point) {n : ℕ} {xs : List ℕ} {at : ℕ} → at + 3 * n ≤ length xs → Points f 0 n xs at xs at
-points-start f {n} h = count-start (omega (arith, flat-length (λ k. pointWords (f k)) 3 0 n (λ k. refl)))
+points-start f {n} h = count-start (omega (arith, flat-length (λ k. coordinateWords (f k)) 3 0 n (λ k. refl)))
 
 pub points-fits : {f : ℕ → Point} {i n : ℕ} {out : List ℕ} {w : ℕ} {xs : List ℕ} {at : ℕ} → Points f i n out w xs at → i < n → w + 3 ≤ length out
 points-fits c h = count-room c h (λ j. refl)
 
 pub points-step : {f : ℕ → Point} {p : Point} {i n : ℕ} {out out′ : List ℕ} {w w′ : ℕ} {xs : List ℕ} {at : ℕ} → i < n → p ≡ f i
-    → Wrote out w (pointWords p) out′ w′ → Points f i n out w xs at → Points f (i + 1) n out′ w′ xs at
+    → Wrote out w (coordinateWords p) out′ w′ → Points f i n out w xs at → Points f (i + 1) n out′ w′ xs at
 points-step {out = out} {out′ = out′} {w = w} {w′ = w′} h e p c =
-    count-step h (subst (λ (q : Point). Wrote out w (pointWords q) out′ w′) e p) c
+    count-step h (subst (λ (q : Point). Wrote out w (coordinateWords q) out′ w′) e p) c
 
 pub points-done : (f : ℕ → Point) {i n : ℕ} {out : List ℕ} {w : ℕ} {xs : List ℕ} {at : ℕ} → n ≤ i → Points f i n out w xs at
     → Wrote xs at (vertexWords (table f n)) out w
 points-done f {n = n} h c = rw (words-table f n) (count-done h c)
 
 -- the places of a clear edge that the loop writes
-module _ (d i : ℕ) (row : List ℕ) (c : Clear d (listed row)) (h : i < length row) where
-  pub clear-low : d ≤ places row i
+module _ (d i : ℕ) (row : List ℕ) (c : ClearOfEnds d (listed row)) (h : i < length row) where
+  pub clear-low : d ≤ placeIn row i
   clear-low = c i h .0
 
-  pub clear-high : places row i + d ≤ 65536
+  pub clear-high : placeIn row i + d ≤ 65536
   clear-high = c i h .1
 
-  pub clear-most : places row i ≤ 65536
+  pub clear-most : placeIn row i ≤ 65536
   clear-most = omega (arith, clear-high)
 
 -- all facts that the needs of such a loop use

@@ -5,7 +5,7 @@ use mathlib.Core.List.{List}
 use native.Mathlib.Omega.{arith}
 use lib.ListN.{length, take, drop, length-take, length-drop}
 use lib.Seq.{getD-take, getD-drop}
-use Rattle.vertices.specs.Rows.{places}
+use Rattle.vertices.specs.Rows.{placeIn}
 
 abbrev pub middle : List ℕ → List ℕ
 middle row = take (length row - 1 - 1) (drop 1 row)
@@ -13,5 +13,5 @@ middle row = take (length row - 1 - 1) (drop 1 row)
 pub middle-length : (row : List ℕ) → length (middle row) ≡ length row - 1 - 1
 middle-length row = length-take (length row - 1 - 1) (drop 1 row) ∙ omega (arith, length-drop 1 row)
 
-pub middle-at : (row : List ℕ) (i : ℕ) → i < length row - 1 - 1 → places (middle row) i ≡ places row (suc i)
-middle-at row i l = getD-take (length row - 1 - 1) (drop 1 row) i 0 l ∙ getD-drop 1 row i 0 ∙ ap (places row) (omega arith)
+pub middle-at : (row : List ℕ) (i : ℕ) → i < length row - 1 - 1 → placeIn (middle row) i ≡ placeIn row (suc i)
+middle-at row i l = getD-take (length row - 1 - 1) (drop 1 row) i 0 l ∙ getD-drop 1 row i 0 ∙ ap (placeIn row) (omega arith)

@@ -9,20 +9,20 @@ use lib.Seq.{drop-cons, take-add, take-at, take-length, set-at, paste, paste-zer
 use Rattle.buffer.specs.Over.{over, Wrote}
 use Rattle.edge.specs.Table.{table}
 use Rattle.mesh_geometry.specs.declared.Point.{Point}
-use Rattle.mesh_geometry.specs.Words.{pointWords, vertexWords}
-use Rattle.vertices.specs.Rows.{places}
-use Rattle.vertices.specs.Grids.{rowPoints, raised}
+use Rattle.mesh_geometry.specs.Words.{coordinateWords, vertexWords}
+use Rattle.vertices.specs.Rows.{placeIn}
+use Rattle.vertices.specs.Grids.{rowPoints, withSecond}
 
-pub raised-length : (v : ℕ) (ws : List ℕ) → length (raised v ws) ≡ length ws
-unfolding raised
+pub raised-length : (v : ℕ) (ws : List ℕ) → length (withSecond v ws) ≡ length ws
+unfolding withSecond
 raised-length v [] = refl
 raised-length v (a ∷ []) = refl
 raised-length v (a ∷ b ∷ []) = refl
 raised-length v (a ∷ b ∷ c ∷ ws) = ap (λ (n : ℕ). suc (suc (suc n))) (raised-length v ws)
 
 -- whole points, and further words after them
-raised-append : (v i : ℕ) (ws zs : List ℕ) → length ws ≡ 3 * i → raised v (ws ++ zs) ≡ raised v ws ++ raised v zs
-unfolding raised
+raised-append : (v i : ℕ) (ws zs : List ℕ) → length ws ≡ 3 * i → withSecond v (ws ++ zs) ≡ withSecond v ws ++ withSecond v zs
+unfolding withSecond
 raised-append v zero [] zs h = refl
 raised-append v zero (a ∷ ws) zs h = absurd (omega arith)
 raised-append v (suc i) [] zs h = absurd (omega arith)
@@ -32,10 +32,10 @@ raised-append v (suc i) (a ∷ b ∷ c ∷ ws) zs h = ap (λ (l : List ℕ). a �
 
 -- one more point
 pub raised-more : (v i : ℕ) (ws : List ℕ) → 3 * (i + 1) ≤ length ws
-    → set (raised v (take (3 * i) ws) ++ drop (3 * i) ws) (3 * i + 1) v ≡ raised v (take (3 * (i + 1)) ws) ++ drop (3 * (i + 1)) ws
-unfolding raised
+    → set (withSecond v (take (3 * i) ws) ++ drop (3 * i) ws) (3 * i + 1) v ≡ withSecond v (take (3 * (i + 1)) ws) ++ drop (3 * (i + 1)) ws
+unfolding withSecond
 raised-more v i ws h =
-    let A = raised v (take (3 * i) ws) in
+    let A = withSecond v (take (3 * i) ws) in
     let a = getD ws (3 * i) 0 in
     let b = getD ws (suc (3 * i)) 0 in
     let c = getD ws (suc (suc (3 * i))) 0 in
@@ -49,20 +49,20 @@ raised-more v i ws h =
     ∙ set-at (A ++ (a ∷ [])) b (c ∷ D) v (3 * i + 1) n ∙ append-assoc A (a ∷ []) (v ∷ c ∷ D) in
     let size : 3 * (i + 1) ≡ 3 * i + 3 = omega arith in
     let three : take 3 (drop (3 * i) ws) ≡ a ∷ b ∷ c ∷ [] = ap (take 3) next in
-    let front : raised v (take (3 * (i + 1)) ws) ≡ A ++ (a ∷ v ∷ c ∷ []) =
-    ap (λ (k : ℕ). raised v (take k ws)) size ∙ ap (raised v) (take-add (3 * i) 3 ws ∙ ap (λ (l : List ℕ). take (3 * i) ws ++ l) three) ∙ raised-append v i (take (3 * i) ws) (a ∷ b ∷ c ∷ []) t in
+    let front : withSecond v (take (3 * (i + 1)) ws) ≡ A ++ (a ∷ v ∷ c ∷ []) =
+    ap (λ (k : ℕ). withSecond v (take k ws)) size ∙ ap (withSecond v) (take-add (3 * i) 3 ws ∙ ap (λ (l : List ℕ). take (3 * i) ws ++ l) three) ∙ raised-append v i (take (3 * i) ws) (a ∷ b ∷ c ∷ []) t in
     let past : 3 * (i + 1) ≡ suc (suc (suc (3 * i))) = omega arith in
     let back : drop (3 * (i + 1)) ws ≡ D = ap (λ (k : ℕ). drop k ws) past in
     here ∙ sym (rw (front, back) (append-assoc A (a ∷ v ∷ c ∷ []) D))
 
 -- the words of points at one height, moved to another
-points-raised : (u : ℕ → ℕ) (x v n : ℕ) → raised v (vertexWords (table (λ c. record { u = u c; v = x; w = 0 }) n)) ≡ vertexWords (table (λ c. record { u = u c; v = v; w = 0 }) n)
-unfolding raised vertexWords table
+points-raised : (u : ℕ → ℕ) (x v n : ℕ) → withSecond v (vertexWords (table (λ c. record { u = u c; v = x; w = 0 }) n)) ≡ vertexWords (table (λ c. record { u = u c; v = v; w = 0 }) n)
+unfolding withSecond vertexWords table
 points-raised u x v zero = refl
 points-raised u x v (suc n) = ap (λ (l : List ℕ). u 0 ∷ v ∷ 0 ∷ l) (points-raised (λ c. u (suc c)) x v n)
 
-pub row-raised : (columns : List ℕ) (x v : ℕ) → raised v (vertexWords (rowPoints columns x)) ≡ vertexWords (rowPoints columns v)
-row-raised columns x v = points-raised (places columns) x v (length columns)
+pub row-raised : (columns : List ℕ) (x v : ℕ) → withSecond v (vertexWords (rowPoints columns x)) ≡ vertexWords (rowPoints columns v)
+row-raised columns x v = points-raised (placeIn columns) x v (length columns)
 
 -- ---- a row copied into a list
 pub copy-start : (xs : List ℕ) (at : ℕ) (row : List ℕ) → xs ≡ paste xs at row 0
@@ -81,10 +81,10 @@ copy-done {xs} {out} {row} {at} {i} h l e =
     }
 
 -- ---- the front of a row whose heights were changed
-pub raised-front : (v n : ℕ) (row : List ℕ) {row′ : List ℕ} → n ≤ length row → row′ ≡ raised v (take n row) ++ drop n row → take n row′ ≡ raised v (take n row)
+pub raised-front : (v n : ℕ) (row : List ℕ) {row′ : List ℕ} → n ≤ length row → row′ ≡ withSecond v (take n row) ++ drop n row → take n row′ ≡ withSecond v (take n row)
 raised-front v n row h e =
-    let size : length (raised v (take n row)) ≡ n = raised-length v (take n row) ∙ length-take n row ∙ omega arith in
-    ap (take n) e ∙ take-at (raised v (take n row)) (drop n row) n size
+    let size : length (withSecond v (take n row)) ≡ n = raised-length v (take n row) ∙ length-take n row ∙ omega arith in
+    ap (take n) e ∙ take-at (withSecond v (take n row)) (drop n row) n size
 
-pub raised-size : (v n : ℕ) (row : List ℕ) {row′ : List ℕ} → n ≤ length row → row′ ≡ raised v (take n row) ++ drop n row → length row′ ≡ length row
-raised-size v n row h e = ap length e ∙ length-append (raised v (take n row)) (drop n row) ∙ omega (arith, raised-length v (take n row), length-take n row, length-drop n row)
+pub raised-size : (v n : ℕ) (row : List ℕ) {row′ : List ℕ} → n ≤ length row → row′ ≡ withSecond v (take n row) ++ drop n row → length row′ ≡ length row
+raised-size v n row h e = ap length e ∙ length-append (withSecond v (take n row)) (drop n row) ∙ omega (arith, raised-length v (take n row), length-take n row, length-drop n row)

@@ -15,7 +15,7 @@ use Rattle.mesh_geometry.specs.Segmented.{run}
 use Rattle.mesh_geometry.specs.QuadPoints.{grid}
 use Rattle.mesh_geometry.proofs.Edge.{good-to}
 use Rattle.mesh_geometry.proofs.Positions.{good-positions}
-use Rattle.vertices.specs.Rows.{places, listed, whole, Clear, GoodRow}
+use Rattle.vertices.specs.Rows.{placeIn, listed, wholeEdge, ClearOfEnds, GoodRow}
 
 -- tables, and grids, that agree up to their size
 pub table-same : {A : Type 0} (f g : ℕ → A) (n : ℕ) → ((i : ℕ) → i < n → f i ≡ g i) → table f n ≡ table g n
@@ -68,10 +68,10 @@ module _ (row : List ℕ) (n : ℕ) (e : n ≡ length row - 1) where
   pub front-length : length (take n row) ≡ n
   front-length = length-take n row ∙ omega arith
 
-  pub front-same : Same (listed (take n row)) (whole row)
+  pub front-same : Same (listed (take n row)) (wholeEdge row)
   front-same = record { count = front-length ∙ e; at = λ i l. getD-take n row i 0 (omega arith) }
 
-  pub front-clear : GoodRow row → Clear 0 (listed (take n row))
+  pub front-clear : GoodRow row → ClearOfEnds 0 (listed (take n row))
   front-clear g i l =
       let m : i < n = omega (arith, front-length) in
       omega (arith, getD-take n row i 0 m, good-to (g .good) i (omega arith))
@@ -81,10 +81,10 @@ module _ (e : Run) where
   pub along-length : length (along e) ≡ suc (e .c)
   along-length = length-table (e .q) (suc (e .c))
 
-  pub along-at : (i : ℕ) → i ≤ e .c → places (along e) i ≡ e .q i
+  pub along-at : (i : ℕ) → i ≤ e .c → placeIn (along e) i ≡ e .q i
   along-at i l = get-table (e .q) (suc (e .c)) 0 i (omega arith)
 
-  pub along-same : Same (whole (along e)) e
+  pub along-same : Same (wholeEdge (along e)) e
   along-same = record { count = omega (arith, along-length); at = λ i l. along-at i (omega arith) }
 
 pub good-row : (s : Segments) → Valid (s .count) (s .scaled) → {row : List ℕ} → row ≡ along (run s) → GoodRow row

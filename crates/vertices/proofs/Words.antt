@@ -9,7 +9,7 @@ use Rattle.edge.specs.Table.{table}
 use Rattle.edge.proofs.Table.{length-table}
 use Rattle.mesh_geometry.specs.declared.Point.{Point}
 use Rattle.mesh_geometry.specs.QuadPoints.{grid}
-use Rattle.mesh_geometry.specs.Words.{pointWords, vertexWords}
+use Rattle.mesh_geometry.specs.Words.{coordinateWords, vertexWords}
 use Rattle.mesh_geometry.proofs.Words.{words-length}
 
 pub words-append : (ps qs : List Point) → vertexWords (ps ++ qs) ≡ vertexWords ps ++ vertexWords qs
@@ -25,11 +25,11 @@ flat-after f i (suc k) =
     let e : suc (i + 1) ≡ suc i + 1 = omega arith in
     ap (λ (l : List ℕ). f (suc i) ++ l) (flat-after f (i + 1) k ∙ ap (λ (n : ℕ). flat f n k) e)
 
-pub words-table : (f : ℕ → Point) (n : ℕ) → vertexWords (table f n) ≡ flat (λ i. pointWords (f i)) 0 n
+pub words-table : (f : ℕ → Point) (n : ℕ) → vertexWords (table f n) ≡ flat (λ i. coordinateWords (f i)) 0 n
 unfolding vertexWords table flat
 words-table f zero = refl
 words-table f (suc n) =
-    ap (λ (l : List ℕ). pointWords (f 0) ++ l) (words-table (λ i. f (suc i)) n ∙ flat-after (λ i. pointWords (f i)) 0 n)
+    ap (λ (l : List ℕ). coordinateWords (f 0) ++ l) (words-table (λ i. f (suc i)) n ∙ flat-after (λ i. coordinateWords (f i)) 0 n)
 
 pub words-grid : (P : ℕ → ℕ → Point) (h w : ℕ) → vertexWords (grid P h w) ≡ flat (λ r. vertexWords (table (P r) w)) 0 h
 unfolding vertexWords grid flat

@@ -3,35 +3,35 @@ use Prim.Native.Nat.{ℕ, _+_, _-_, _≤_, _<_}
 use mathlib.Core.List.{List, [], _∷_}
 use lib.ListN.{length, getD}
 use Rattle.edge.specs.Rows.{RowAt}
-use Rattle.edge_table.specs.Stored.{start, Widest}
+use Rattle.edge_table.specs.Stored.{rowStart, Widest}
 use Rattle.level.specs.declared.Segments.{Segments}
 use Rattle.level.specs.Segments.{Valid}
 use Rattle.mesh_geometry.specs.Edge.{Run, GoodRun}
 
 -- q of a list: entry i is the place of point i
-abbrev pub places : List ℕ → ℕ → ℕ
-places row i = getD row i 0
+abbrev pub placeIn : List ℕ → ℕ → ℕ
+placeIn row i = getD row i 0
 
 -- the edge with the list's places, where the list lacks the end's
 abbrev pub listed : List ℕ → Run
-listed row = record { q = places row; c = length row }
+listed row = record { q = placeIn row; c = length row }
 
 -- the edge with the list's places, the end's included
-abbrev pub whole : List ℕ → Run
-whole row = record { q = places row; c = length row - 1 }
+abbrev pub wholeEdge : List ℕ → Run
+wholeEdge row = record { q = placeIn row; c = length row - 1 }
 
 -- all points of the edge but its end lie at least d units from both ends of a length of 65,536
-abbrev pub Clear : ℕ → Run → Type 0
-Clear d e = (i : ℕ) → i < e .c → (d ≤ e .q i) × (e .q i + d ≤ 65536)
+abbrev pub ClearOfEnds : ℕ → Run → Type 0
+ClearOfEnds d e = (i : ℕ) → i < e .c → (d ≤ e .q i) × (e .q i + d ≤ 65536)
 
 -- the row of an edge with at least one segment and good places
 pub record GoodRow (row : List ℕ) : Type 0 where
   pub some : 2 ≤ length row
-  pub good : GoodRun (whole row)
+  pub good : GoodRun (wholeEdge row)
 
 -- the row of the edge is in the table of equal spacing, of which `rows` is all or the first part
 abbrev pub Stored : List ℕ → Segments → Type 0
-Stored rows s = RowAt rows (start (s .count)) (s .count) (s .scaled)
+Stored rows s = RowAt rows (rowStart (s .count)) (s .count) (s .scaled)
 
 -- every edge has valid n and L
 abbrev pub AllValid : List Segments → Type 0

@@ -5,7 +5,7 @@ ghost use Prim.Native.Nat.{_+_, _*_, _≤_};
 ghost use lib.ListN.{length, take, drop};
 ghost use Rattle.buffer.specs.Over.{Wrote};
 ghost use Rattle.mesh_geometry.specs.Words.{vertexWords};
-ghost use Rattle.vertices.specs.Grids.{rowPoints, gridPoints, raised};
+ghost use Rattle.vertices.specs.Grids.{rowPoints, gridPoints, withSecond};
 
 // Writes a row of points at height v, one for each place along u.
 fn write_row(out: &mut [u32], at: usize, columns: &[u32], v: u32) -> usize
@@ -24,7 +24,7 @@ fn write_row(out: &mut [u32], at: usize, columns: &[u32], v: u32) -> usize
 // Sets the height of the first n points of a row to v.
 fn raise(row: &mut [u32], n: usize, v: u32)
     requires { ⌜ 3 * n ≤ length (now row) ⌝ }
-    ensures { λ r. ⌜ now (row .exit) ≡ raised v (take (3 * n) (now (row .entry))) ++ drop (3 * n) (now (row .entry)) ⌝ }
+    ensures { λ r. ⌜ now (row .exit) ≡ withSecond v (take (3 * n) (now (row .entry))) ++ drop (3 * n) (now (row .entry)) ⌝ }
 {
     let mut i = 0usize;
     while i < n {

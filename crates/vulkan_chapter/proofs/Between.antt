@@ -12,12 +12,12 @@ use Rattle.strip.specs.Mirror.{SameCorners}
 use Rattle.strip.specs.Rule.{outerNext, stepOuter, stepInner}
 use Rattle.strip.specs.Strips.{stepTriangle, stripFrom, strip}
 use Rattle.strip.proofs.Rule.{Rule, rule}
-use Rattle.mesh_topology.specs.Quad.{joined}
+use Rattle.mesh_topology.specs.Quad.{joinedLists}
 use Rattle.mesh_topology.proofs.Walk.{Way, on}
 use Rattle.mesh_geometry.proofs.Lists.{All, none, more}
 use Rattle.mesh_geometry.proofs.Members.{all-member}
 use Rattle.vulkan_chapter.specs.Members.{Member}
-use Rattle.vulkan_chapter.specs.Between.{NumberedLine, Based, Joins, on-first, on-second, BaseDrawn, Filled}
+use Rattle.vulkan_chapter.specs.Between.{NumberedLine, Based, Joins, on-first, on-second, BaseDrawn, BandFilled}
 
 -- ---- corners in another order
 backwards : (x y z : ℕ) → Perm (x ∷ y ∷ z ∷ []) (z ∷ y ∷ x ∷ [])
@@ -36,11 +36,11 @@ joins-same same (on-first a h w) = on-first a h (based-same same w)
 joins-same same (on-second b h w) = on-second b h (based-same same w)
 
 -- ---- lists of triangles
-pub member-joined : (L : ℕ → List Triangle) (n k : ℕ) {t : Triangle} → k < n → Member t (L k) → Member t (joined L n)
-unfolding joined
+pub member-joined : (L : ℕ → List Triangle) (n k : ℕ) {t : Triangle} → k < n → Member t (L k) → Member t (joinedLists L n)
+unfolding joinedLists
 member-joined L zero k h m = absurd (omega arith)
 member-joined L (suc n) k h m = elim (decLe n k) [
-  | yes l ↦ let e : k ≡ n = omega arith in Memᴰ·append-right (joined L n) (rw e at m)
+  | yes l ↦ let e : k ≡ n = omega arith in Memᴰ·append-right (joinedLists L n) (rw e at m)
   | no l ↦ Memᴰ·append-left (L n) (member-joined L n k (omega arith) m)
 ]
 
@@ -54,7 +54,7 @@ each-turned b ts same h t m =
 base-in : {A B : NumberedLine} {ts ts′ : List Triangle} {a : ℕ} → ((t : Triangle) → Member t ts → Member t ts′) → BaseDrawn A B ts a → BaseDrawn A B ts′ a
 base-in f d = record { triangle = d .triangle; drawn = f (d .triangle) (d .drawn); based = d .based }
 
-pub filled-in : {A B : NumberedLine} {ts ts′ : List Triangle} → ((t : Triangle) → Member t ts → Member t ts′) → Filled A B ts → Filled A B ts′
+pub filled-in : {A B : NumberedLine} {ts ts′ : List Triangle} → ((t : Triangle) → Member t ts → Member t ts′) → BandFilled A B ts → BandFilled A B ts′
 filled-in f w = record { first = λ a h. base-in f (w .first a h); second = λ b h. base-in f (w .second b h) }
 
 base-turned : (b : Bool) {A B : NumberedLine} {ts : List Triangle} {a : ℕ} → BaseDrawn A B ts a → BaseDrawn A B (map (turned b) ts) a
@@ -64,7 +64,7 @@ base-turned b d = record {
   based = based-same (same-turned b (d .triangle)) (d .based);
 }
 
-pub filled-turned : (b : Bool) {A B : NumberedLine} {ts : List Triangle} → Filled A B ts → Filled A B (map (turned b) ts)
+pub filled-turned : (b : Bool) {A B : NumberedLine} {ts : List Triangle} → BandFilled A B ts → BandFilled A B (map (turned b) ts)
 filled-turned b w = record { first = λ a h. base-turned b (w .first a h); second = λ c h. base-turned b (w .second c h) }
 
 -- ---- a strip
@@ -132,7 +132,7 @@ module _ (A B : NumberedLine) where
   pub strip-joins : All (Joins A B) (strip (A .vertex) (B .vertex) (A .segments) (B .segments))
   strip-joins = walk-joins (outerNext (A .segments) (B .segments)) (rule (A .segments) (B .segments)) (A .segments + B .segments) 0 0 start
 
-  pub strip-fills : Filled A B (strip (A .vertex) (B .vertex) (A .segments) (B .segments))
+  pub strip-fills : BandFilled A B (strip (A .vertex) (B .vertex) (A .segments) (B .segments))
   strip-fills =
       let next = outerNext (A .segments) (B .segments) in
       let keeps = rule (A .segments) (B .segments) in

@@ -10,7 +10,7 @@ use lib.Ieee.Bits.{is-true}
 use Rattle.level.specs.Discard.{discarded}
 use Rattle.patch.specs.declared.kinds.Patch.{Patch}
 use Rattle.patch.specs.Every.{some}
-use Rattle.patch.specs.Subdivide.{outers, discards}
+use Rattle.patch.specs.Subdivide.{outerLevels, discards}
 use Rattle.vulkan_chapter.specs.Members.{Member}
 use Rattle.vulkan_chapter.specs.Discard.{Discarding, not-above-zero, not-a-number, PatchDiscarded}
 
@@ -63,7 +63,7 @@ discards-where : (p : Patch) → PatchDiscarded p → discards p ≡ true
 discards-where p d = member-some (d .relevant) (discarding-is (d .level) (d .discarding))
 
 discards-only : (p : Patch) → discards p ≡ true → PatchDiscarded p
-discards-only p e = let f = some-member (outers p) e in record { level = f .level; relevant = f .relevant; discarding = is-discarding (f .level) (f .is) }
+discards-only p e = let f = some-member (outerLevels p) e in record { level = f .level; relevant = f .relevant; discarding = is-discarding (f .level) (f .is) }
 
 -- our test is the chapter's
 pub discards-exactly : (p : Patch) → (discards p ≡ true) ↔ PatchDiscarded p

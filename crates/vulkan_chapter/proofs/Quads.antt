@@ -11,7 +11,7 @@ use Rattle.strip.specs.declared.triangle.Triangle.{Triangle}
 use Rattle.strip.specs.Triangles.{turned}
 use Rattle.strip.specs.Mirror.{SameCorners}
 use Rattle.mesh_topology.specs.Sides.{sum}
-use Rattle.mesh_topology.specs.Quad.{joined, quad}
+use Rattle.mesh_topology.specs.Quad.{joinedLists, quad}
 use Rattle.mesh_topology.specs.GridStrips.{outlineOn, gridOn, nearestLine, nearestSegments, gridStrip, cellOn, cellsOn}
 use Rattle.mesh_topology.proofs.Ring.{ring-before}
 use Rattle.mesh_topology.proofs.Sums.{sum-constant, sum-within}
@@ -31,7 +31,7 @@ use Rattle.mesh_geometry.proofs.Located.{located}
 use Rattle.mesh_geometry.proofs.QuadTurns.{joined-all}
 use Rattle.mesh_geometry.proofs.GridPoints.{grid-exactly}
 use Rattle.vulkan_chapter.specs.Members.{Member}
-use Rattle.vulkan_chapter.specs.Between.{NumberedLine, Filled}
+use Rattle.vulkan_chapter.specs.Between.{NumberedLine, BandFilled}
 use Rattle.vulkan_chapter.specs.Quads.{OnLines, OnEdgeOrGrid, on-edge, on-grid, Halves, along-xz, along-yw, HalvesCell, InnerRectangle, innerSide, PairDrawn, InGrid, first-of-pair, second-of-pair, between}
 use Rattle.vulkan_chapter.proofs.Between.{same-turned, joins-same, member-joined, each-turned, filled-in, filled-turned, strip-joins, strip-fills}
 use Rattle.vulkan_chapter.proofs.Outline.{whole-edge}
@@ -133,7 +133,7 @@ module _ (c : ℕ → ℕ) (m n : ℕ) where
   strip-drawn : (k : ℕ) → k < 4 → (t : Triangle) → Member t (gridStrip c m n k) → Member t drawing
   strip-drawn k h t w = rw (quad-exactly c m n) (Memᴰ·append-left (cellsOn c m n) (member-joined (gridStrip c m n) 4 k h w))
 
-  all-filled : (k : ℕ) → k < 4 → Filled (S k) (innerSide G m n k) drawing
+  all-filled : (k : ℕ) → k < 4 → BandFilled (S k) (innerSide G m n k) drawing
   all-filled k h = rw (nearest-is c m n k)
       (filled-in (strip-drawn k h) (strip-fills (S k) (record { segments = nearestSegments m n k; vertex = nearestLine c m n k })))
 
@@ -143,8 +143,8 @@ module _ (c : ℕ → ℕ) (m n : ℕ) where
       let z : s - 1 + 1 ≡ s = omega (arith, i .first-column) in
       let here : Member t (cellOn c n (r - 1 + 1) (s - 1 + 1)) = rw (y, z) w in
       rw (quad-exactly c m n)
-      (Memᴰ·append-right (joined (gridStrip c m n) 4)
-      (member-joined (λ a. joined (λ b. cellOn c n (a + 1) (b + 1)) (n - 2)) (m - 2) (r - 1) (omega (arith, i .first-row, i .last-row))
+      (Memᴰ·append-right (joinedLists (gridStrip c m n) 4)
+      (member-joined (λ a. joinedLists (λ b. cellOn c n (a + 1) (b + 1)) (n - 2)) (m - 2) (r - 1) (omega (arith, i .first-row, i .last-row))
       (member-joined (λ b. cellOn c n (r - 1 + 1) (b + 1)) (n - 2) (s - 1) (omega (arith, i .first-column, i .last-column)) here)))
 
   module _ (b : Bool) where
@@ -163,7 +163,7 @@ module _ (c : ℕ → ℕ) (m n : ℕ) where
     pub each-in : (t : Triangle) → Member t drawn → InGrid m n S G t
     each-in = each-turned b drawing grid-same all-in
 
-    pub edges-filled : (k : ℕ) → k < 4 → Filled (S k) (innerSide G m n k) drawn
+    pub edges-filled : (k : ℕ) → k < 4 → BandFilled (S k) (innerSide G m n k) drawn
     edges-filled k h = filled-turned b (all-filled k h)
 
     pub pairs-drawn : (r s : ℕ) → InnerRectangle m n r s → PairDrawn G r s drawn

@@ -16,7 +16,7 @@ use Rattle.level.specs.declared.Spacing.the-variants.{Equal, FractionalEven, Fr
 use Rattle.level.specs.declared.Clamp.the-variants.{Below, Inside, Above}
 use Rattle.level.specs.Top.{Top}
 use Rattle.level.specs.Clamp.{lowest, highest, clamped, clampedLevel, sideOf, clampOf}
-use Rattle.level.specs.Scale.{parts, ofParts, LeastParts}
+use Rattle.level.specs.Scale.{scaledLevel, ofParts, LeastParts}
 use Rattle.level.specs.Rounding.{LeastCount}
 use Rattle.level.specs.Segments.{segmentsAt, segmentsOf, raised, asInner, innerSegments, Valid}
 use Rattle.level.proofs.Order.{not-below, numbers}
@@ -29,7 +29,7 @@ use Rattle.edge.specs.Positions.{position}
 use Rattle.mesh_geometry.specs.Edge.{Run}
 use Rattle.mesh_geometry.specs.Segmented.{run}
 use Rattle.vulkan_chapter.specs.Lengths.{Decreases}
-use Rattle.vulkan_chapter.specs.Spacing.{lowEnd, highEnd, Clamped, whole, RoundedUp, LengthsOf, Spaced, EdgeRule, onePlus, Subdivides}
+use Rattle.vulkan_chapter.specs.Spacing.{lowEnd, highEnd, LevelClamped, wholeLevel, RoundedUp, LengthsOf, Spaced, EdgeRule, onePlus, Subdivides}
 use Rattle.vulkan_chapter.proofs.Lengths.{divided, additional, vanishes, all-equal, decreases}
 
 -- ---- the clamp
@@ -60,7 +60,7 @@ low-value Equal = (refl, refl)
 low-value FractionalEven = (refl, refl)
 low-value FractionalOdd = (refl, refl)
 
-clamps : (s : Spacing) (t : ℕ) (x : Float) → Top t → Clamped s t x (clampedLevel s t x)
+clamps : (s : Spacing) (t : ℕ) (x : Float) → Top t → LevelClamped s t x (clampedLevel s t x)
 unfolding clampOf
 clamps s t x top = record {
   low = lowest s;
@@ -80,10 +80,10 @@ clamps s t x top = record {
 -- ---- rounding a level is rounding its whole parts
 module _ (f : Float) (p : T (positive f)) (L : ℕ) (l : LeastParts f L) where
   -- f is not above the whole number k exactly if L is not above 65536 k
-  whole-from : (k : ℕ) → T (le f (whole k)) → L ≤ 65536 * k
+  whole-from : (k : ℕ) → T (le f (wholeLevel k)) → L ≤ 65536 * k
   whole-from k h =
-      let above : T (positive (whole k)) = above-of-le f (whole k) p h in
-      let c : num f * 1 ≤ k * 1 * den f = le→cross f (whole k) p above h in
+      let above : T (positive (wholeLevel k)) = above-of-le f (wholeLevel k) p h in
+      let c : num f * 1 ≤ k * 1 * den f = le→cross f (wholeLevel k) p above h in
       l .least (65536 * k)
       (cross→le f (ofParts (65536 * k)) p (lt→ltb 0 (65536 * k) (omega (arith, ltb→lt 0 k above))) (omega arith))
 
@@ -93,10 +93,10 @@ module _ (f : Float) (p : T (positive f)) (L : ℕ) (l : LeastParts f L) where
       let c : num f * 65536 ≤ L * 1 * den f = le→cross f (ofParts L) p above (l .enough) in
       omega arith
 
-  whole-to : (k : ℕ) → L ≤ 65536 * k → T (le f (whole k))
+  whole-to : (k : ℕ) → L ≤ 65536 * k → T (le f (wholeLevel k))
   whole-to k h =
       let above : T (positive (ofParts L)) = above-of-le f (ofParts L) p (l .enough) in
-      cross→le f (whole k) p (lt→ltb 0 k (omega (arith, ltb→lt 0 L above))) (omega (arith, parts-cross, mul-le-mul-right (den f) h))
+      cross→le f (wholeLevel k) p (lt→ltb 0 k (omega (arith, ltb→lt 0 L above))) (omega (arith, parts-cross, mul-le-mul-right (den f) h))
 
   rounded-up : (s : Spacing) (n : ℕ) → LeastCount s L n → RoundedUp s f n
   rounded-up s n c = record {
@@ -122,14 +122,14 @@ lengths-at Equal L v = all-equal _ _ v refl
 lengths-at FractionalEven L v = record { additional = additional _ L v; equal = all-equal _ L v; vanishes = vanishes _ L v }
 lengths-at FractionalOdd L v = record { additional = additional _ L v; equal = all-equal _ L v; vanishes = vanishes _ L v }
 
-spaced-at : (s : Spacing) (f : Float) → T (positive f) → Valid (segmentsAt s (parts f) .count) (segmentsAt s (parts f) .scaled)
-    → Spaced s f (run (segmentsAt s (parts f)))
+spaced-at : (s : Spacing) (f : Float) → T (positive f) → Valid (segmentsAt s (scaledLevel f) .count) (segmentsAt s (scaledLevel f) .scaled)
+    → Spaced s f (run (segmentsAt s (scaledLevel f)))
 spaced-at s f p v =
     let l = least-parts f p in
     record {
-      rounded = rounded-up f p (parts f) l s _ (least-count s (parts f));
+      rounded = rounded-up f p (scaledLevel f) l s _ (least-count s (scaledLevel f));
       divided = divided _ _ v;
-      lengths = λ L h. rw (parts-only f L (parts f) h l) (lengths-at s (parts f) v);
+      lengths = λ L h. rw (parts-only f L (scaledLevel f) h l) (lengths-at s (scaledLevel f) v);
     }
 
 raised-valid : (s : Spacing) → Valid (raised s .count) (raised s .scaled)
@@ -167,7 +167,7 @@ falls s t x y top e h =
     (scaled-rises s _ _ e (parts-rise (clampedLevel s t x) (clampedLevel s t y) (level-positive s t top x) (level-positive s t top y) h))
 
 one : (s : Spacing) (t : ℕ) (x : Float) → segmentsOf s t x .count ≡ 1 → Spaced s onePlus (run (innerSegments s t x))
-unfolding asInner parts
+unfolding asInner scaledLevel
 one s t x e = rw (eq-eqb (segmentsOf s t x .count) 1 e) (spaced-at s onePlus tt (raised-valid s))
 
 own : (s : Spacing) (t : ℕ) (x : Float) → (segmentsOf s t x .count ≡ 1 → ⊥) → run (innerSegments s t x) ≡ run (segmentsOf s t x)
@@ -185,12 +185,12 @@ unfolding segmentsOf
 whole-level s t x y top v f =
     let c = clampedLevel s t x in
     let p = level-positive s t top x in
-    let e = whole-parts c p (parts c) (least-parts c p) (segmentsAt s (parts c) .count) v (least-count s (parts c) .enough) in
-    ap₂ (λ n L. run (record { count = n; scaled = L })) f (scaled-whole s (parts c) e ∙ ap (λ n. 65536 * n) f)
+    let e = whole-parts c p (scaledLevel c) (least-parts c p) (segmentsAt s (scaledLevel c) .count) v (least-count s (scaledLevel c) .enough) in
+    ap₂ (λ n L. run (record { count = n; scaled = L })) f (scaled-whole s (scaledLevel c) e ∙ ap (λ n. 65536 * n) f)
 
 identical : (s : Spacing) (t t′ : ℕ) (x y : Float) → clampedLevel s t x ≡ clampedLevel s t′ y → run (segmentsOf s t x) ≡ run (segmentsOf s t′ y)
 unfolding segmentsOf
-identical s t t′ x y e = ap (λ (f : Float). run (segmentsAt s (parts f))) e
+identical s t t′ x y e = ap (λ (f : Float). run (segmentsAt s (scaledLevel f))) e
 
 pub subdivides : Subdivides ourEdges
 subdivides = record {

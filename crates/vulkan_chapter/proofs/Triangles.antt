@@ -15,7 +15,7 @@ use Rattle.strip.specs.Mirror.{SameCorners}
 use Rattle.mesh_topology.specs.Sides.{sum}
 use Rattle.mesh_topology.specs.Ring.{ringAt}
 use Rattle.mesh_topology.specs.Nest.{nest}
-use Rattle.mesh_topology.specs.Quad.{joined}
+use Rattle.mesh_topology.specs.Quad.{joinedLists}
 use Rattle.mesh_topology.specs.RingVertices.{ringSegments, edgeFirst, ringSize, ringFirst, vertexOn}
 use Rattle.mesh_topology.specs.RingStrips.{ringStrip, stripsBetween, innermost, ringStrips}
 use Rattle.mesh_topology.proofs.Ring.{ring-zero}
@@ -33,7 +33,7 @@ use Rattle.mesh_geometry.proofs.Located.{located}
 use Rattle.mesh_geometry.proofs.QuadTurns.{joined-all}
 use Rattle.mesh_geometry.proofs.RingPoints.{rings-exactly}
 use Rattle.vulkan_chapter.specs.Members.{Member}
-use Rattle.vulkan_chapter.specs.Between.{NumberedLine, Filled}
+use Rattle.vulkan_chapter.specs.Between.{NumberedLine, BandFilled}
 use Rattle.vulkan_chapter.specs.Triangles.{OnPerpendicular, Concentric, OnRing, IsRing, InRings, RingDrawn}
 use Rattle.vulkan_chapter.specs.Triangles as chapter
 use Rattle.vulkan_chapter.proofs.Between.{same-turned, joins-same, member-joined, each-turned, filled-in, filled-turned, strip-joins, strip-fills}
@@ -193,14 +193,14 @@ module _ (c : ℕ → ℕ) (n : ℕ) (two : 2 ≤ n) where
       (Memᴰ·append-left (innermost (ringFirst c n (n / 2)) n)
       (member-joined (stripsBetween c n) (n / 2) j (omega arith) (member-joined (ringStrip c n j) 3 k h m)))
 
-  all-filled : (j k : ℕ) → k < 3 → 2 * suc j ≤ n → Filled (R j k) (R (suc j) k) (nest 0 (c 0) (c 1) (c 2) n)
+  all-filled : (j k : ℕ) → k < 3 → 2 * suc j ≤ n → BandFilled (R j k) (R (suc j) k) (nest 0 (c 0) (c 1) (c 2) n)
   all-filled j k h l = filled-in (strip-drawn j k h l) (strip-fills (R j k) (R (suc j) k))
 
   last-drawn : (j : ℕ) → n ≡ suc (2 * j) → Member (last (ringFirst c n j)) (nest 0 (c 0) (c 1) (c 2) n)
   last-drawn j e =
       let z : j ≡ n / 2 = omega arith in
       let odd : eqb (n % 2) 1 ≡ true = eq-eqb (n % 2) 1 (omega arith) in
-      rw (nest-exactly c n, odd, z) (Memᴰ·append-right (joined (stripsBetween c n) (n / 2)) (List·Memᴰ·head refl))
+      rw (nest-exactly c n, odd, z) (Memᴰ·append-right (joinedLists (stripsBetween c n) (n / 2)) (List·Memᴰ·head refl))
 
   module _ (b : Bool) where
     abbrev drawn : List Triangle
@@ -213,7 +213,7 @@ module _ (c : ℕ → ℕ) (n : ℕ) (two : 2 ≤ n) where
     pub each-in : (t : Triangle) → Member t drawn → InRings n R t
     each-in = each-turned b (nest 0 (c 0) (c 1) (c 2) n) rings-same all-in
 
-    pub rings-filled : (j k : ℕ) → k < 3 → 2 * suc j ≤ n → Filled (R j k) (R (suc j) k) drawn
+    pub rings-filled : (j k : ℕ) → k < 3 → 2 * suc j ≤ n → BandFilled (R j k) (R (suc j) k) drawn
     rings-filled j k h l = filled-turned b (all-filled j k h l)
 
     pub innermost-drawn : (j : ℕ) → n ≡ suc (2 * j) → RingDrawn R j drawn

@@ -29,6 +29,6 @@ pub record BaseDrawn (A B : NumberedLine) (ts : List Triangle) (a : ℕ) : Type 
   pub based : Based A B a triangle
 
 -- every segment of both lines is the base of a triangle. Where B is a single vertex, each segment of A is joined with that vertex
-pub record Filled (A B : NumberedLine) (ts : List Triangle) : Type 0 where
+pub record BandFilled (A B : NumberedLine) (ts : List Triangle) : Type 0 where
   pub first : (a : ℕ) → a < A .segments → BaseDrawn A B ts a
   pub second : (b : ℕ) → b < B .segments → BaseDrawn B A ts b

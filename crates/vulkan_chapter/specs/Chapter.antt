@@ -10,7 +10,7 @@ use Rattle.level.specs.declared.Spacing.the-variants.{Equal}
 use Rattle.patch.specs.declared.kinds.Patch.{Patch}
 use Rattle.patch.specs.declared.kinds.Patch.the-variants.{Triangles, Quads, Isolines}
 use Rattle.patch.specs.declared.settings.Settings.{Settings}
-use Rattle.patch.specs.Subdivide.{outers}
+use Rattle.patch.specs.Subdivide.{outerLevels}
 use Rattle.patch.specs.Turn.{turnAsked}
 use Rattle.mesh_geometry.specs.declared.Point.{Point}
 use Rattle.mesh_geometry.specs.Cover.{Face, Cover}
@@ -57,8 +57,8 @@ module _ (rule : EdgeRule) (set : Settings) where
 
   -- the outline's vertices in walk order
   abbrev pub outlineBy : Patch → List Point
-  outlineBy (Triangles a b c i) = ring trianglePlace 0 (map outerEdge (outers (Triangles a b c i))) 0
-  outlineBy (Quads a b c d i j) = ring quadPlace 0 (map outerEdge (outers (Quads a b c d i j))) 0
+  outlineBy (Triangles a b c i) = ring trianglePlace 0 (map outerEdge (outerLevels (Triangles a b c i))) 0
+  outlineBy (Quads a b c d i j) = ring quadPlace 0 (map outerEdge (outerLevels (Quads a b c d i j))) 0
   outlineBy (Isolines a b) = []
 
   -- where the vertices lie, by kind of patch
@@ -84,7 +84,7 @@ pub record Chapter (rule : EdgeRule) (set : Settings) (p : Patch) (ps : List Poi
   pub discard : PatchDiscarded p → ⊥
   -- 23.3: how levels divide edges; and the vertices on outer edge k are those that its own level gives, with no inner vertex among them
   pub spacing : Subdivides rule
-  pub outer-edges : Surface p → (k : ℕ) → k < length (outers p) → places (edges p k) ps ≡ along (edgeNumber rule set p k)
+  pub outer-edges : Surface p → (k : ℕ) → k < length (outerLevels p) → places (edges p k) ps ≡ along (edgeNumber rule set p k)
   -- 23.5: every triangle turns the way asked for
   pub winding : Surface p → set .«point_mode» ≡ false → (f : Face) → Member f (facesIn ps ws) → Ordered (set .order) (set .origin) (windingArea f)
   -- 23.6, 23.7 and 23.8: triangles, quads and isolines

@@ -13,7 +13,7 @@ use Rattle.mesh_geometry.specs.Edge.{Run}
 use Rattle.mesh_geometry.specs.Faces.{at}
 use Rattle.mesh_geometry.specs.OnEdge.{OnEdge}
 use Rattle.vulkan_chapter.specs.Members.{Member}
-use Rattle.vulkan_chapter.specs.Between.{NumberedLine, Joins, Filled}
+use Rattle.vulkan_chapter.specs.Between.{NumberedLine, Joins, BandFilled}
 
 -- ---- where the vertices lie. `side k` is edge k of the patch; `grid r c` is the vertex where horizontal line r meets vertical line c,
 -- both counted from 1, with no line on an edge of the patch
@@ -97,4 +97,4 @@ pub record QuadFaces (side : ℕ → NumberedLine) (grid : ℕ → ℕ → ℕ) 
   pub pairs : (AllOne4 e own0 own1 → ⊥) → (r c : ℕ) → InnerRectangle (rows .c) (columns .c) r c → PairDrawn grid r c ts
   -- every other triangle lies between an outer edge and the inner rectangle, and these triangles fill all of that area
   pub each : (AllOne4 e own0 own1 → ⊥) → (t : Triangle) → Member t ts → InGrid (rows .c) (columns .c) side grid t
-  pub filled : (AllOne4 e own0 own1 → ⊥) → (k : ℕ) → k < 4 → Filled (side k) (innerSide grid (rows .c) (columns .c) k) ts
+  pub filled : (AllOne4 e own0 own1 → ⊥) → (k : ℕ) → k < 4 → BandFilled (side k) (innerSide grid (rows .c) (columns .c) k) ts

@@ -11,7 +11,7 @@ use Rattle.level.specs.declared.Spacing.{Spacing}
 use Rattle.level.specs.declared.Spacing.the-variants.{Equal, FractionalEven, FractionalOdd}
 use Rattle.level.specs.Top.{Top}
 use Rattle.level.specs.Scale.{LeastParts}
-use Rattle.level.specs.Rounding.{Kind}
+use Rattle.level.specs.Rounding.{FitsSpacing}
 use Rattle.mesh_geometry.specs.Edge.{Run}
 use Rattle.vulkan_chapter.specs.Lengths.{Divided, AllEqual, Additional, Decreases, Vanishes}
 
@@ -28,7 +28,7 @@ highEnd FractionalEven t = t
 highEnd FractionalOdd t = t - 1
 
 -- f is the level x clamped to that range. A NaN fails every comparison; the chapter leaves open what an inner NaN gives
-pub record Clamped (s : Spacing) (t : ℕ) (x f : Float) : Type 0 where
+pub record LevelClamped (s : Spacing) (t : ℕ) (x f : Float) : Type 0 where
   pub low : Float
   pub high : Float
   pub low-is : HasValue low false (lowEnd s) 1
@@ -39,14 +39,14 @@ pub record Clamped (s : Spacing) (t : ℕ) (x f : Float) : Type 0 where
 
 -- ---- the number of segments
 -- the whole number k as a level
-abbrev pub whole : ℕ → Float
-whole k = fin false k (pos 0)
+abbrev pub wholeLevel : ℕ → Float
+wholeLevel k = fin false k (pos 0)
 
 -- n is the level f rounded up to the nearest whole, even or odd number
 pub record RoundedUp (s : Spacing) (f : Float) (n : ℕ) : Type 0 where
-  pub kind : Kind s n
-  pub enough : T (le f (whole n))
-  pub nearest : (k : ℕ) → Kind s k → T (le f (whole k)) → n ≤ k
+  pub kind : FitsSpacing s n
+  pub enough : T (le f (wholeLevel n))
+  pub nearest : (k : ℕ) → FitsSpacing s k → T (le f (wholeLevel k)) → n ≤ k
 
 -- ---- the lengths
 -- fractional spacing; L is the level's 65536 f
@@ -81,7 +81,7 @@ onePlus = fin false 65537 (negsuc 15)
 
 pub record Subdivides (rule : EdgeRule) : Type 0 where
   -- every level is clamped, then rounded up, and its edge is divided as its spacing requires
-  pub clamped : (s : Spacing) (t : ℕ) (x : Float) → Top t → Clamped s t x (rule .clamp s t x)
+  pub clamped : (s : Spacing) (t : ℕ) (x : Float) → Top t → LevelClamped s t x (rule .clamp s t x)
   pub spaced : (s : Spacing) (t : ℕ) (x : Float) → Top t → Spaced s (rule .clamp s t x) (rule .edge s t x)
   -- edges with the same clamped level are the same, even under another maximum level
   pub identical : (s : Spacing) (t t′ : ℕ) (x y : Float) → rule .clamp s t x ≡ rule .clamp s t′ y → rule .edge s t x ≡ rule .edge s t′ y

@@ -13,7 +13,7 @@ use Rattle.mesh_geometry.specs.Edge.{Run}
 use Rattle.mesh_geometry.specs.Faces.{at}
 use Rattle.mesh_geometry.specs.OnEdge.{startCoordinate, endCoordinate, oppositeCoordinate, OnEdge}
 use Rattle.vulkan_chapter.specs.Members.{Member}
-use Rattle.vulkan_chapter.specs.Between.{NumberedLine, Joins, Filled}
+use Rattle.vulkan_chapter.specs.Between.{NumberedLine, Joins, BandFilled}
 
 -- the point lies on the perpendicular to edge k through the point x units along it: on that line the end coordinate less the start
 -- coordinate is everywhere the same
@@ -92,5 +92,5 @@ pub record TriangleFaces (ring : ℕ → ℕ → NumberedLine) (e : ℕ → Run)
   -- else every triangle lies between two neighbouring concentric triangles, or is the innermost one
   pub each : (AllOne3 e own → ⊥) → (t : Triangle) → Member t ts → InRings (inside .c) ring t
   -- the triangles fill all of the area between two neighbours; if the inner one is the centre, each segment around it is joined with it
-  pub filled : (AllOne3 e own → ⊥) → (j k : ℕ) → k < 3 → 2 * suc j ≤ inside .c → Filled (ring j k) (ring (suc j) k) ts
+  pub filled : (AllOne3 e own → ⊥) → (j k : ℕ) → k < 3 → 2 * suc j ≤ inside .c → BandFilled (ring j k) (ring (suc j) k) ts
   pub innermost : (AllOne3 e own → ⊥) → (j : ℕ) → inside .c ≡ suc (2 * j) → RingDrawn ring j ts

@@ -4,13 +4,13 @@ use native.Mathlib.Omega.{arith}
 use Prim.Native.Nat.{_-_}
 use lib.ListN.{length}
 use Rattle.mesh_geometry.specs.QuadPoints.{quadPlace}
-use Rattle.vertices.specs.Rows.{places}
+use Rattle.vertices.specs.Rows.{placeIn}
 use Rattle.vertices.proofs.Loops.{Points, points}
 use Rattle.quad_point_rows.proofs.write_edge.Statement.{statement}
 use Rattle.quad_point_rows.proofs.write_edge.Tie as tie
 
 abbrev Inv-loop : tie.InvT-loop
-Inv-loop out₀ at row k to₀ i₀ out to i = Points (λ n. quadPlace k (places row n) 0) i (length row) out to out₀ at
+Inv-loop out₀ at row k to₀ i₀ out to i = Points (λ n. quadPlace k (placeIn row n) 0) i (length row) out to out₀ at
 
 abbrev μ-loop : tie.MeasureT-loop
 μ-loop out₀ at row k to₀ i₀ out to i = length row - i

@@ -3,7 +3,7 @@ use borrow.Author.Needs.{needs}
 use native.Mathlib.Omega.{arith}
 use mathlib.Core.List.{[], _∷_}
 use Rattle.mesh_geometry.specs.TrianglePoints.{trianglePlace}
-use Rattle.vertices.specs.Rows.{places, listed}
+use Rattle.vertices.specs.Rows.{placeIn, listed}
 use Rattle.vertices.proofs.Edges.{edges-start, edges-fits, edges-step, three-edges}
 use Rattle.triangle_point_rows.proofs.write_ring.Statement.{statement}
 use Rattle.triangle_point_rows.proofs.write_ring.Tie as tie
@@ -17,7 +17,7 @@ write-edge-requires c κs =
     let a = s .args in
     let e = listed (a .row .now) in
     let es = e ∷ e ∷ e ∷ [] in
-    let l = edges-start trianglePlace (places (a .row .now) 0) es (a .out .now) (a .at) (s .pre .1 .1) in
+    let l = edges-start trianglePlace (placeIn (a .row .now) 0) es (a .out .now) (a .at) (s .pre .1 .1) in
     (omega (arith, s .pre .1 .0 0 (omega arith)), (s .pre .1 .0, edges-fits l))
 
 write-edge-requires-2 : tie.Need-write-edge-requires-2
@@ -26,7 +26,7 @@ write-edge-requires-2 c κs =
     let a = s .args in
     let e = listed (a .row .now) in
     let es = e ∷ e ∷ e ∷ [] in
-    let l = edges-start trianglePlace (places (a .row .now) 0) es (a .out .now) (a .at) (s .pre .1 .1) in
+    let l = edges-start trianglePlace (placeIn (a .row .now) 0) es (a .out .now) (a .at) (s .pre .1 .1) in
     let l0 = edges-step (c .before .before .before .write-edge .ensures) l in
     (omega (arith, s .pre .1 .0 0 (omega arith)), (s .pre .1 .0, edges-fits l0))
 
@@ -36,7 +36,7 @@ write-edge-requires-3 c κs =
     let a = s .args in
     let e = listed (a .row .now) in
     let es = e ∷ e ∷ e ∷ [] in
-    let l = edges-start trianglePlace (places (a .row .now) 0) es (a .out .now) (a .at) (s .pre .1 .1) in
+    let l = edges-start trianglePlace (placeIn (a .row .now) 0) es (a .out .now) (a .at) (s .pre .1 .1) in
     let l0 = edges-step (c .before .before .before .before .before .before .before .write-edge .ensures) l in
     let l1 = edges-step (c .before .before .before .write-edge2 .ensures) l0 in
     (omega (arith, s .pre .1 .0 0 (omega arith)), (s .pre .1 .0, edges-fits l1))

@@ -6,7 +6,7 @@ use mathlib.Core.Path.{sym}
 use lib.ListN.{length, take, getD}
 use Rattle.buffer.proofs.Laws.{wrote-as}
 use Rattle.mesh_geometry.specs.TrianglePoints.{trianglePlace}
-use Rattle.vertices.specs.Rows.{places, listed}
+use Rattle.vertices.specs.Rows.{placeIn, listed}
 use Rattle.vertices.proofs.Edges.{three-edges}
 use Rattle.triangle_point_rows.proofs.Eights.{sums-size}
 use Rattle.triangle_point_rows.proofs.Wide.{ring-size, front-size, ring-depth, edge-zero, edge-one, edge-two}
@@ -57,7 +57,7 @@ returns c =
     let clear = s .pre .1 .1 .0 in
     let less = c .before .before .before .before .before .before .before .before .before .before .before .before .negative in
     let e = listed (take (length row - 1) row) in
-    three-edges trianglePlace (places (take (length row - 1) row) 0) e e e (s .pre .1 .1 .1)
+    three-edges trianglePlace (placeIn (take (length row - 1) row) 0) e e e (s .pre .1 .1 .1)
     (wrote-as (λ ys. ys) (sym (edge-zero laid some clear (less .result) (less .ensures))) (c .before .before .before .before .before .before .before .before .before .before .write-run .ensures))
     (wrote-as (λ ys. ys) (sym (edge-one laid some clear (less .result) (less .ensures))) (c .before .before .before .before .before .before .write-run2 .ensures))
     (wrote-as (λ ys. ys) (sym (edge-two laid some clear (less .result) (less .ensures))) (c .before .before .write-run3 .ensures))

@@ -3,7 +3,7 @@ use native.Mathlib.Omega.{arith}
 use Prim.Native.Nat.{_-_, _*_}
 use mathlib.Core.Path.{_≡_, refl, _∙_, sym}
 use Rattle.mesh_geometry.specs.Words.{readTriangles}
-use Rattle.triangle_table.specs.Hits.{Sought}
+use Rattle.triangle_table.specs.Hits.{TriangleSought}
 use Rattle.half_edge_chains.proofs.Table.{link-end}
 use Rattle.triangle_table.proofs.Walks.{seek-begins, seek-here, seek-goes-on, seek-less, seek-meets, seek-ends}
 use borrow.Author.Needs.{needs}
@@ -15,7 +15,7 @@ use Rattle.triangle_table.proofs.is_at.Reads as is-at-reads
 use Rattle.half_edge_chains.proofs.chain.before_in.Reads as before-in-reads
 
 abbrev Inv-loop : tie.InvT-loop
-Inv-loop indices heads links n from t k₀ k = Sought (readTriangles indices) t (n * 3) k
+Inv-loop indices heads links n from t k₀ k = TriangleSought (readTriangles indices) t (n * 3) k
 
 abbrev μ-loop : tie.MeasureT-loop
 μ-loop indices heads links n from t k₀ k = k

@@ -1,13 +1,13 @@
 -- Meets its contract. Assumes nothing.
 use borrow.Author.Needs.{needs}
 use mathlib.Core.Path.{ap}
-use Rattle.tessellate.specs.Answers.{toldSize}
-use Rattle.call_answers.proofs.Replies.{tells-as, tells-more}
+use Rattle.tessellate.specs.Answers.{sizeCode}
+use Rattle.call_answers.proofs.Replies.{reply-as, reply-more}
 use Rattle.call_answers.proofs.reply.of_size.Statement.{statement}
 use Rattle.call_answers.proofs.reply.of_size.Tie as tie
 
 returns : tie.Need-returns
-returns c = tells-as (ap toldSize (c .before .before .size .given .1)) (tells-more (c .success .ensures))
+returns c = reply-as (ap sizeCode (c .before .before .size .given .1)) (reply-more (c .success .ensures))
 
 pub of-size-spec : {M : Type 1} → statement M
 of-size-spec =

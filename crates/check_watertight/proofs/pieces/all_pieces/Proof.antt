@@ -5,7 +5,7 @@ use mathlib.Core.Path.{_≡_, refl, _∙_}
 use lib.ListN.{length}
 use Rattle.mesh_geometry.specs.Words.{readPoints, readTriangles}
 use Rattle.check_searches.proofs.Read.{points-count, triangles-count}
-use Rattle.check_watertight.specs.Closing.{Joins, Marked}
+use Rattle.check_watertight.specs.Closing.{OpensClosed, MarksDrawn}
 use Rattle.check_watertight.proofs.Joins.{joins-none, joins-more, joined-all, joined-before}
 use borrow.Author.Needs.{needs}
 use Rattle.check_watertight.proofs.pieces.all_pieces.Statement.{statement}
@@ -13,7 +13,7 @@ use Rattle.check_watertight.proofs.pieces.all_pieces.Tie as tie
 
 abbrev Inv-loop : tie.InvT-loop
 Inv-loop outline points indices opens count marks₀ positive pieces near₀ k₀ marks near k =
-    (k ≤ count) × Joins positive (readPoints outline) (readPoints points) (readTriangles indices) opens k × Marked positive (readPoints outline) (readPoints points) (readTriangles indices) marks × (length marks ≡ length marks₀)
+    (k ≤ count) × OpensClosed positive (readPoints outline) (readPoints points) (readTriangles indices) opens k × MarksDrawn positive (readPoints outline) (readPoints points) (readTriangles indices) marks × (length marks ≡ length marks₀)
 
 abbrev μ-loop : tie.MeasureT-loop
 μ-loop outline points indices opens count marks₀ positive pieces near₀ k₀ marks near k = count - k

@@ -4,7 +4,7 @@ use native.Mathlib.Omega.{arith}
 use mathlib.Core.Path.{_≡_, sym, _∙_}
 use mathlib.Core.Bool.{_&&_, true≢false}
 use Rattle.check_searches.proofs.Read.{points-count, triangles-count}
-use Rattle.compare_differences.specs.Meshes.{facesIn, sameCorners}
+use Rattle.compare_differences.specs.Meshes.{faceRow, sameCorners}
 use Rattle.compare_differences.proofs.Numbers.{ranged}
 use Rattle.compare_differences.proofs.place.is_in_place.Statement.{statement}
 use Rattle.compare_differences.proofs.place.is_in_place.Tie as tie
@@ -36,8 +36,8 @@ same-place-requires-3 c κs =
 returns : tie.Need-returns
 returns c =
     let a = c .before .before .before .before .before .before .before .before .before .before .args in
-    let f = facesIn (a .points .now) (a .indices .now) .entry (a .k) in
-    let g = facesIn (a .other-points .now) (a .other-indices .now) .entry (a .k) in
+    let f = faceRow (a .points .now) (a .indices .now) .entry (a .k) in
+    let g = faceRow (a .other-points .now) (a .other-indices .now) .entry (a .k) in
     let e : sameCorners g f ≡ (c .before .before .same-place .result && c .before .same-place2 .result && c .same-place3 .result) =
     rw (← c .before .before .before .before .triangle-at .ensures, ← c .before .before .before .triangle-at2 .ensures, c .before .before .same-place .ensures, c .before .same-place2 .ensures, c .same-place3 .ensures) in
     λ h. record { number = omega (arith, triangles-count (a .other-indices .now)); same = e ∙ h }

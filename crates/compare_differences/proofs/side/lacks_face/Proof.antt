@@ -1,7 +1,7 @@
 -- Meets its contract. Assumes nothing.
 use native.Mathlib.Omega.{arith}
 use mathlib.Core.Path.{sym}
-use Rattle.compare_differences.specs.Meshes.{facesIn}
+use Rattle.compare_differences.specs.Meshes.{faceRow}
 use Rattle.check_searches.proofs.Read.{points-count}
 use Rattle.compare_differences.proofs.Lacks.{in-place-found, face-found, face-missing}
 use Rattle.compare_differences.proofs.Numbers.{cornered}
@@ -18,7 +18,7 @@ use Rattle.check_searches.proofs.triangle.triangle_at.Reads as triangle-at-read
 returns : tie.Need-returns
 returns c =
     let a = c .before .before .before .before .before .before .args in
-    sym (in-place-found (facesIn (a .points .now) (a .indices .now)) (facesIn (a .other-points .now) (a .other-indices .now)) (a .k) (c .before .is-in-place .ensures (c .if1 .taken)))
+    sym (in-place-found (faceRow (a .points .now) (a .indices .now)) (faceRow (a .other-points .now) (a .other-indices .now)) (a .k) (c .before .is-in-place .ensures (c .if1 .taken)))
 
 has-face-requires : tie.Need-has-face-requires
 has-face-requires c κs =

@@ -2,7 +2,7 @@
 use native.Mathlib.Omega.{arith}
 use mathlib.Core.Path.{refl}
 use borrow.Author.Tests.{not-false}
-use Rattle.compare_table_flags.specs.Flags.{missing, isFirst}
+use Rattle.compare_table_flags.specs.Flags.{noSameFace, isFirst}
 use Rattle.compare_table_flags.proofs.Tables.{known-all, known-none, flagged-once, flagged-twice, and-turned}
 use borrow.Author.Needs.{needs}
 use Rattle.compare_flags.proofs.meshes.flag_meshes.Statement.{statement}
@@ -43,7 +43,7 @@ returns-3 c =
       points = known-all (flagged-once (a .0) (omega (arith, l .points)) (e .0));
       faces = known-all (flagged-twice (a .1) (omega (arith, l .indices)) (e .1 .0) (f .1 .1) (λ k. refl));
       back-points = known-all (flagged-once (a .2) (omega (arith, r .points)) (f .0));
-      back-faces = known-all (flagged-twice (a .3) (omega (arith, r .indices)) (e .1 .1) (f .1 .0) (λ k. and-turned (isFirst (x .args .right-points .now) (x .args .right-indices .now) k) (missing (x .args .right-points .now) (x .args .right-indices .now) (x .args .left-points .now) (x .args .left-indices .now) k)));
+      back-faces = known-all (flagged-twice (a .3) (omega (arith, r .indices)) (e .1 .1) (f .1 .0) (λ k. and-turned (isFirst (x .args .right-points .now) (x .args .right-indices .now) k) (noSameFace (x .args .right-points .now) (x .args .right-indices .now) (x .args .left-points .now) (x .args .left-indices .now) k)));
     }
 
 pub flag-meshes-spec : {M : Type 1} → statement M

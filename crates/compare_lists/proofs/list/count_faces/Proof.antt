@@ -6,13 +6,13 @@ use mathlib.Core.Path.{sym, ap, _∙_}
 use mathlib.Core.Bool.{Bool, cond}
 use Rattle.check_searches.proofs.Read.{triangles-count}
 use Rattle.compare_differences.specs.Lacking.{lacks}
-use Rattle.compare_differences.specs.Meshes.{facesIn, sameFace}
+use Rattle.compare_differences.specs.Meshes.{faceRow, sameFace}
 use Rattle.compare_lists.proofs.Passing.{cond-most, Tally, tally-start, tally-step, tally-done, flags-pass}
 use Rattle.compare_lists.proofs.list.count_faces.Statement.{statement}
 use Rattle.compare_lists.proofs.list.count_faces.Tie as tie
 
 abbrev Inv-loop : tie.InvT-loop
-Inv-loop points indices other-points other-indices known flags count n₀ k₀ n k = Tally (lacks sameFace (facesIn points indices) (facesIn other-points other-indices)) k count n
+Inv-loop points indices other-points other-indices known flags count n₀ k₀ n k = Tally (lacks sameFace (faceRow points indices) (faceRow other-points other-indices)) k count n
 
 abbrev μ-loop : tie.MeasureT-loop
 μ-loop points indices other-points other-indices known flags count n₀ k₀ n k = count - k

@@ -7,13 +7,13 @@ use mathlib.Core.Bool.{Bool, cond}
 use Rattle.check_searches.specs.Points.{samePoint}
 use Rattle.check_searches.proofs.Read.{points-count}
 use Rattle.compare_differences.specs.Lacking.{lacks}
-use Rattle.compare_differences.specs.Meshes.{pointsIn}
+use Rattle.compare_differences.specs.Meshes.{pointRow}
 use Rattle.compare_lists.proofs.Passing.{cond-most, Tally, tally-start, tally-step, tally-done, flags-pass}
 use Rattle.compare_lists.proofs.list.count_points.Statement.{statement}
 use Rattle.compare_lists.proofs.list.count_points.Tie as tie
 
 abbrev Inv-loop : tie.InvT-loop
-Inv-loop points others known flags count n₀ k₀ n k = Tally (lacks samePoint (pointsIn points) (pointsIn others)) k count n
+Inv-loop points others known flags count n₀ k₀ n k = Tally (lacks samePoint (pointRow points) (pointRow others)) k count n
 
 abbrev μ-loop : tie.MeasureT-loop
 μ-loop points others known flags count n₀ k₀ n k = count - k

@@ -8,14 +8,14 @@ use lib.ListN.{length}
 use Rattle.buffer.proofs.Laws.{Counting, count-start, count-fits, count-step, count-done, wrote-as}
 use Rattle.check_searches.proofs.Read.{triangles-count}
 use Rattle.compare_differences.specs.Lacking.{lacks}
-use Rattle.compare_differences.specs.Meshes.{facesIn, sameFace}
+use Rattle.compare_differences.specs.Meshes.{faceRow, sameFace}
 use Rattle.compare_differences.specs.Differences.{wordsIf}
 use Rattle.compare_lists.proofs.Passing.{passing-words}
 use Rattle.compare_lists.proofs.list.write_faces.Statement.{statement}
 use Rattle.compare_lists.proofs.list.write_faces.Tie as tie
 
 abbrev Inv-loop : tie.InvT-loop
-Inv-loop out₀ at side points indices other-points other-indices known flags count to₀ k₀ out to k = Counting (λ i. wordsIf 1 side (lacks sameFace (facesIn points indices) (facesIn other-points other-indices) i) i) k count out to out₀ at
+Inv-loop out₀ at side points indices other-points other-indices known flags count to₀ k₀ out to k = Counting (λ i. wordsIf 1 side (lacks sameFace (faceRow points indices) (faceRow other-points other-indices) i) i) k count out to out₀ at
 
 abbrev μ-loop : tie.MeasureT-loop
 μ-loop out₀ at side points indices other-points other-indices known flags count to₀ k₀ out to k = count - k
@@ -23,7 +23,7 @@ abbrev μ-loop : tie.MeasureT-loop
 loop-holds : tie.Need-loop-holds Inv-loop μ-loop
 loop-holds c =
     let a = c .before .before .before .before .before .before .args in
-    let e = passing-words 1 (a .side) (lacks sameFace (facesIn (a .points .now) (a .indices .now)) (facesIn (a .other-points .now) (a .other-indices .now))) _ _ (triangles-count (a .indices .now)) in
+    let e = passing-words 1 (a .side) (lacks sameFace (faceRow (a .points .now) (a .indices .now)) (faceRow (a .other-points .now) (a .other-indices .now))) _ _ (triangles-count (a .indices .now)) in
     count-start (omega (arith, ap length e, c .before .before .before .before .before .before .pre .1 .1 .1))
 
 lacks-face-requires : tie.Need-lacks-face-requires Inv-loop μ-loop
@@ -50,7 +50,7 @@ same-length c = search needs
 returns : tie.Need-returns Inv-loop μ-loop
 returns c =
     let a = c .before .before .before .before .before .before .before .before .args in
-    let e = passing-words 1 (a .side) (lacks sameFace (facesIn (a .points .now) (a .indices .now)) (facesIn (a .other-points .now) (a .other-indices .now))) _ _ (triangles-count (a .indices .now)) in
+    let e = passing-words 1 (a .side) (lacks sameFace (faceRow (a .points .now) (a .indices .now)) (faceRow (a .other-points .now) (a .other-indices .now))) _ _ (triangles-count (a .indices .now)) in
     rw e (count-done (c .loop-test .left) (c .before .loop .inv))
 
 pub write-faces-spec : {M : Type 1} → statement M

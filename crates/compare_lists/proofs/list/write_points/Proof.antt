@@ -9,14 +9,14 @@ use Rattle.check_searches.specs.Points.{samePoint}
 use Rattle.buffer.proofs.Laws.{Counting, count-start, count-fits, count-step, count-done, wrote-as}
 use Rattle.check_searches.proofs.Read.{points-count}
 use Rattle.compare_differences.specs.Lacking.{lacks}
-use Rattle.compare_differences.specs.Meshes.{pointsIn}
+use Rattle.compare_differences.specs.Meshes.{pointRow}
 use Rattle.compare_differences.specs.Differences.{wordsIf}
 use Rattle.compare_lists.proofs.Passing.{passing-words}
 use Rattle.compare_lists.proofs.list.write_points.Statement.{statement}
 use Rattle.compare_lists.proofs.list.write_points.Tie as tie
 
 abbrev Inv-loop : tie.InvT-loop
-Inv-loop out₀ at side points others known flags count to₀ k₀ out to k = Counting (λ i. wordsIf 0 side (lacks samePoint (pointsIn points) (pointsIn others) i) i) k count out to out₀ at
+Inv-loop out₀ at side points others known flags count to₀ k₀ out to k = Counting (λ i. wordsIf 0 side (lacks samePoint (pointRow points) (pointRow others) i) i) k count out to out₀ at
 
 abbrev μ-loop : tie.MeasureT-loop
 μ-loop out₀ at side points others known flags count to₀ k₀ out to k = count - k
@@ -24,7 +24,7 @@ abbrev μ-loop : tie.MeasureT-loop
 loop-holds : tie.Need-loop-holds Inv-loop μ-loop
 loop-holds c =
     let a = c .before .before .before .before .args in
-    let e = passing-words 0 (a .side) (lacks samePoint (pointsIn (a .points .now)) (pointsIn (a .others .now))) _ _ (points-count (a .points .now)) in
+    let e = passing-words 0 (a .side) (lacks samePoint (pointRow (a .points .now)) (pointRow (a .others .now))) _ _ (points-count (a .points .now)) in
     count-start (omega (arith, ap length e, c .before .before .before .before .pre .1 .1))
 
 lacks-point-requires : tie.Need-lacks-point-requires Inv-loop μ-loop
@@ -51,7 +51,7 @@ same-length c = search needs
 returns : tie.Need-returns Inv-loop μ-loop
 returns c =
     let a = c .before .before .before .before .before .before .args in
-    let e = passing-words 0 (a .side) (lacks samePoint (pointsIn (a .points .now)) (pointsIn (a .others .now))) _ _ (points-count (a .points .now)) in
+    let e = passing-words 0 (a .side) (lacks samePoint (pointRow (a .points .now)) (pointRow (a .others .now))) _ _ (points-count (a .points .now)) in
     rw e (count-done (c .loop-test .left) (c .before .loop .inv))
 
 pub write-points-spec : {M : Type 1} → statement M

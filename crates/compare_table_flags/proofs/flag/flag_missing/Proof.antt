@@ -2,14 +2,14 @@
 use native.Mathlib.Omega.{arith}
 use Prim.Native.Nat.{_-_, _≤_, _/_}
 use lib.ListN.{length}
-use Rattle.compare_table_flags.specs.Flags.{Narrowed, missing}
+use Rattle.compare_table_flags.specs.Flags.{Narrowed, noSameFace}
 use Rattle.compare_table_flags.proofs.Tables.{narrowed-none, narrowed-more, narrowed-all}
 use borrow.Author.Needs.{needs}
 use Rattle.compare_table_flags.proofs.flag.flag_missing.Statement.{statement}
 use Rattle.compare_table_flags.proofs.flag.flag_missing.Tie as tie
 
 abbrev Inv-loop : tie.InvT-loop
-Inv-loop points indices others other-indices partners heads links flags₀ count k₀ flags k = (k ≤ count) × Narrowed (missing points indices others other-indices) k flags₀ flags
+Inv-loop points indices others other-indices partners heads links flags₀ count k₀ flags k = (k ≤ count) × Narrowed (noSameFace points indices others other-indices) k flags₀ flags
 
 abbrev μ-loop : tie.MeasureT-loop
 μ-loop points indices others other-indices partners heads links flags₀ count k₀ flags k = count - k

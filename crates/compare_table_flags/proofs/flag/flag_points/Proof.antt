@@ -4,7 +4,7 @@ use Prim.Native.Nat.{_-_, _≤_, _/_}
 use lib.ListN.{length}
 use Rattle.check_searches.specs.Points.{samePoint}
 use Rattle.compare_differences.specs.Lacking.{lacks}
-use Rattle.compare_differences.specs.Meshes.{pointsIn}
+use Rattle.compare_differences.specs.Meshes.{pointRow}
 use Rattle.compare_table_flags.specs.Flags.{Narrowed}
 use Rattle.compare_table_flags.proofs.Tables.{narrowed-none, narrowed-more, narrowed-all}
 use borrow.Author.Needs.{needs}
@@ -12,7 +12,7 @@ use Rattle.compare_table_flags.proofs.flag.flag_points.Statement.{state
 use Rattle.compare_table_flags.proofs.flag.flag_points.Tie as tie
 
 abbrev Inv-loop : tie.InvT-loop
-Inv-loop points others partners flags₀ count k₀ flags k = (k ≤ count) × Narrowed (lacks samePoint (pointsIn points) (pointsIn others)) k flags₀ flags
+Inv-loop points others partners flags₀ count k₀ flags k = (k ≤ count) × Narrowed (lacks samePoint (pointRow points) (pointRow others)) k flags₀ flags
 
 abbrev μ-loop : tie.MeasureT-loop
 μ-loop points others partners flags₀ count k₀ flags k = count - k

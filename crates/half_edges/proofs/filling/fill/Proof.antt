@@ -8,13 +8,13 @@ use borrow.Author.Tests.{not-false}
 use borrow.Author.Needs.{needs}
 use Rattle.mesh_geometry.specs.Words.{readTriangles}
 use Rattle.check_searches.proofs.Read.{triangles-count}
-use Rattle.half_edges.specs.Tables.{Filled}
+use Rattle.half_edges.specs.Tables.{FilledTable}
 use Rattle.half_edges.proofs.Forms.{numbered-as, room-as, filled-none, filled-as}
 use Rattle.half_edges.proofs.filling.fill.Statement.{statement}
 use Rattle.half_edges.proofs.filling.fill.Tie as tie
 
 abbrev Inv-loop : tie.InvT-loop
-Inv-loop indices small rows₀ heads₀ links₀ count k₀ rows heads links k = (k ≤ count) × Filled small (readTriangles indices) (k * 3) rows heads links × (length rows ≡ length rows₀) × (length heads ≡ length heads₀) × (length links ≡ length links₀)
+Inv-loop indices small rows₀ heads₀ links₀ count k₀ rows heads links k = (k ≤ count) × FilledTable small (readTriangles indices) (k * 3) rows heads links × (length rows ≡ length rows₀) × (length heads ≡ length heads₀) × (length links ≡ length links₀)
 
 abbrev μ-loop : tie.MeasureT-loop
 μ-loop indices small rows₀ heads₀ links₀ count k₀ rows heads links k = count - k

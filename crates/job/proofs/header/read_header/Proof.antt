@@ -6,15 +6,15 @@ use mathlib.Core.Bool.{true}
 use lib.ListN.{length}
 use denote.Ref.{now}
 use Rattle.job_fields.specs.declared.version.Version.the-variants.{One, Two}
-use Rattle.job.specs.Header.{mark, startsWith}
+use Rattle.job.specs.Header.{jobMark, startsWith}
 use Rattle.job.proofs.Marks.{has-mark}
 use Rattle.job.proofs.Headers.{header-read, header-lacks, header-version, header-right}
 use Rattle.job.proofs.header.read_header.Statement.{statement}
 use Rattle.job.proofs.header.read_header.Tie as tie
 
 -- when the version is read, there are 5 bytes, and the mark matches
-found : (c : tie.Else1) → (5 ≤ length (now (c .before .before .before .before .args .bytes))) × (startsWith mark (now (c .before .before .before .before .args .bytes)) ≡ true)
-found c = has-mark mark _ (sym (c .before .lacks-mark .ensures) ∙ c .if1 .left)
+found : (c : tie.Else1) → (5 ≤ length (now (c .before .before .before .before .args .bytes))) × (startsWith jobMark (now (c .before .before .before .before .args .bytes)) ≡ true)
+found c = has-mark jobMark _ (sym (c .before .lacks-mark .ensures) ∙ c .if1 .left)
 
 lacks-mark-requires : tie.Need-lacks-mark-requires
 lacks-mark-requires c κs = search needs

@@ -2,7 +2,7 @@
 use borrow.Author.Needs.{needs}
 use mathlib.Core.Path.{sym, ap}
 use Rattle.call_answers.proofs.Replies.{said-one, says-as}
-use Rattle.job_exports.specs.Calls.{toldRead}
+use Rattle.job_exports.specs.Calls.{readCode}
 use Rattle.job_exports.proofs.read.yoktvarim_read_header.Statement.{statement}
 use Rattle.job_exports.proofs.read.yoktvarim_read_header.Tie as tie
 
@@ -16,7 +16,7 @@ say-one-requires : tie.Need-say-one-requires
 say-one-requires c κs = search needs
 
 returns : tie.Need-returns
-returns c = says-as (ap toldRead (sym (c .before .before .before .read-header .ensures .is))) (said-one (c .before .before .of-header .ensures) (c .say-one .ensures))
+returns c = says-as (ap readCode (sym (c .before .before .before .read-header .ensures .is))) (said-one (c .before .before .of-header .ensures) (c .say-one .ensures))
 
 pub yoktvarim-read-header-spec : {M : Type 1} → statement M
 yoktvarim-read-header-spec =

@@ -4,7 +4,7 @@ use native.Mathlib.Omega.{arith}
 use mathlib.Core.Path.{refl, sym, ap}
 use Rattle.level.proofs.Top.{good, bad}
 use Rattle.call_answers.specs.Replies.{unknownSetting}
-use Rattle.call_answers.proofs.Replies.{said-one, tells-as}
+use Rattle.call_answers.proofs.Replies.{said-one, reply-as}
 use Rattle.job_exports.proofs.Calls.{kept, done, record-other, record-top, record-unknown, record-known}
 use Rattle.job_exports.proofs.write.yoktvarim_write_record.Statement.{statement}
 use Rattle.job_exports.proofs.write.yoktvarim_write_record.Tie as tie
@@ -38,7 +38,7 @@ returns-3 c =
     kept
     (record-unknown _ _ _ (good (version .is-version .result) (version .is-version .ensures) (known .before .if1 .left)) (good (takes .takes-top .result) taken (first .before .before .if2 .left))
     (omega (arith, is, c .before .before .before .if3 .taken)))
-    7 refl (said-one (tells-as (ap unknownSetting (sym is)) (c .before .before .unknown-setting .ensures)) (c .say-one3 .ensures))
+    7 refl (said-one (reply-as (ap unknownSetting (sym is)) (c .before .before .unknown-setting .ensures)) (c .say-one3 .ensures))
 
 returns-4 : tie.Need-returns-4
 returns-4 c =

@@ -7,14 +7,14 @@ use lib.ListN.{length}
 use denote.Ref.{now}
 use Rattle.job.specs.Header.{startsWith}
 use Rattle.job.proofs.Marks.{has-mark}
-use Rattle.replay.specs.Replays.{mark}
+use Rattle.replay.specs.Replays.{recordingMark}
 use Rattle.replay.proofs.Headers.{start-lacks, start-version, start-right}
 use Rattle.replay.proofs.recording.read_start.Statement.{statement}
 use Rattle.replay.proofs.recording.read_start.Tie as tie
 
 -- when the version is read, there are 5 bytes, and the mark matches
-found : (c : tie.Else1) → (5 ≤ length (now (c .before .before .before .before .args .bytes))) × (startsWith mark (now (c .before .before .before .before .args .bytes)) ≡ true)
-found c = has-mark mark _ (sym (c .before .lacks-mark .ensures) ∙ c .if1 .left)
+found : (c : tie.Else1) → (5 ≤ length (now (c .before .before .before .before .args .bytes))) × (startsWith recordingMark (now (c .before .before .before .before .args .bytes)) ≡ true)
+found c = has-mark recordingMark _ (sym (c .before .lacks-mark .ensures) ∙ c .if1 .left)
 
 lacks-mark-requires : tie.Need-lacks-mark-requires
 lacks-mark-requires c κs = search needs

@@ -1,7 +1,7 @@
 -- Meets its contract. Assumes nothing.
 use borrow.Author.Needs.{needs}
 use mathlib.Core.Path.{sym, ap}
-use Rattle.tessellate.specs.Answers.{toldIndices}
+use Rattle.tessellate.specs.Answers.{indicesCode}
 use Rattle.replay_entry.specs.Outcomes.{partOf}
 use Rattle.replay_entry.proofs.Drawings.{no-indices}
 use Rattle.replay_entry.proofs.patch_outcome.index_count.Statement.{statement}
@@ -11,7 +11,7 @@ enum-known-answer : tie.Need-enum-known-answer
 enum-known-answer c = search needs
 
 returns : tie.Need-returns
-returns c = sym (ap (λ r. partOf (toldIndices r) .count) (c .before .answer .given .1))
+returns c = sym (ap (λ r. partOf (indicesCode r) .count) (c .before .answer .given .1))
 
 returns-2 : tie.Need-returns-2
 returns-2 c = no-indices (c .before .args .answer) (c .match .keys2)

@@ -2,7 +2,7 @@
 use borrow.Author.Needs.{needs}
 use mathlib.Core.Path.{ap, _∙_}
 use Rattle.replay.specs.declared.answer.Replay.{Replay}
-use Rattle.replay.specs.Told.{toldReplay}
+use Rattle.replay.specs.ReplayCode.{replayCode}
 use Rattle.replay_exports.specs.Calls.{callNumber, sevenWords}
 use Rattle.replay_exports.proofs.call.yoktvarim_replay.Statement.{statement}
 use Rattle.replay_exports.proofs.call.yoktvarim_replay.Tie as tie
@@ -22,7 +22,7 @@ returns c =
     let said = words .before .replay .ensures .is in
     record {
       number = c .number-of .ensures ∙ ap callNumber said;
-      told = words .words-of .ensures ∙ ap (λ (x : Replay). sevenWords (toldReplay x .values)) said;
+      values = words .words-of .ensures ∙ ap (λ (x : Replay). sevenWords (replayCode x .values)) said;
     }
 
 pub yoktvarim-replay-spec : {M : Type 1} → statement M

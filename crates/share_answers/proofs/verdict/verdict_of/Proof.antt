@@ -2,17 +2,17 @@
 use borrow.Author.Needs.{needs}
 use Rattle.level.proofs.Top.{good, bad}
 use Rattle.share_state.specs.Answers.{lent, soundState}
-use Rattle.share_answers.specs.Answers.{verdict}
+use Rattle.share_answers.specs.Answers.{shareVerdict}
 use Rattle.share_state.proofs.Sound.{both}
 use Rattle.share_answers.proofs.verdict.verdict_of.Statement.{statement}
 use Rattle.share_answers.proofs.verdict.verdict_of.Tie as tie
 
 returns : tie.Need-returns
-unfolding verdict
+unfolding shareVerdict
 returns c = rw (bad (c .before .is-top .result) (c .before .is-top .ensures) (c .if1 .taken))
 
 returns-2 : tie.Need-returns-2
-unfolding verdict
+unfolding shareVerdict
 returns-2 c = rw (good (c .before .before .before .is-top .result) (c .before .before .before .is-top .ensures) (c .before .before .if1 .left), bad (c .before .accepts .result) (c .before .accepts .ensures) (c .if2 .taken))
 
 part-verdict-requires : tie.Need-part-verdict-requires
@@ -25,7 +25,7 @@ part-verdict-requires c κs =
     )
 
 returns-3 : tie.Need-returns-3
-unfolding verdict
+unfolding shareVerdict
 returns-3 c = rw (good (c .before .before .before .before .is-top .result) (c .before .before .before .before .is-top .ensures) (c .before .before .before .if1 .left), good (c .before .before .accepts .result) (c .before .before .accepts .ensures) (c .before .if2 .left)) (c .part-verdict .ensures)
 
 pub verdict-of-spec : {M : Type 1} → statement M

@@ -1,7 +1,7 @@
 -- Meets its contract. Assumes nothing.
 use mathlib.Core.Path.{ap, _∙_}
 use Rattle.level.specs.Top.{isTop}
-use Rattle.call_answers.proofs.Replies.{tells-as}
+use Rattle.call_answers.proofs.Replies.{reply-as}
 use Rattle.level.proofs.Top.{good, bad}
 use Rattle.share_exports.proofs.Calls.{found-top, found-state, found-designer, found-setting, found-none}
 use borrow.Author.Needs.{needs}
@@ -14,7 +14,7 @@ returns c =
     let top = test .before in
     let a = top .before .before .args in
     let is = test .is-top .ensures ∙ ap isTop (top .top-in .ensures) in
-    tells-as (found-top (a .settings .now) (a .designer) _ (bad (test .is-top .result) is (c .before .if1 .taken))) (c .bad-top .ensures)
+    reply-as (found-top (a .settings .now) (a .designer) _ (bad (test .is-top .result) is (c .before .if1 .taken))) (c .bad-top .ensures)
 
 returns-2 : tie.Need-returns-2
 returns-2 c =
@@ -24,7 +24,7 @@ returns-2 c =
     let top = test .before in
     let a = top .before .before .args in
     let is = test .is-top .ensures ∙ ap isTop (top .top-in .ensures) in
-    tells-as (found-state (a .settings .now) (a .designer) _ (good (test .is-top .result) is (left .if1 .left)) (bad (accepts .accepts .result) (accepts .accepts .ensures) (c .before .if2 .taken))) (c .refusal .ensures)
+    reply-as (found-state (a .settings .now) (a .designer) _ (good (test .is-top .result) is (left .if1 .left)) (bad (accepts .accepts .result) (accepts .accepts .ensures) (c .before .if2 .taken))) (c .refusal .ensures)
 
 returns-3 : tie.Need-returns-3
 returns-3 c =
@@ -35,7 +35,7 @@ returns-3 c =
     let top = test .before in
     let a = top .before .before .args in
     let is = test .is-top .ensures ∙ ap isTop (top .top-in .ensures) in
-    tells-as (found-designer (a .settings .now) (a .designer) _ (good (test .is-top .result) is (left .if1 .left)) (good (accepts .accepts .result) (accepts .accepts .ensures) (fits .if2 .left)) (c .before .if3 .taken)) (c .refusal2 .ensures)
+    reply-as (found-designer (a .settings .now) (a .designer) _ (good (test .is-top .result) is (left .if1 .left)) (good (accepts .accepts .result) (accepts .accepts .ensures) (fits .if2 .left)) (c .before .if3 .taken)) (c .refusal2 .ensures)
 
 returns-4 : tie.Need-returns-4
 returns-4 c =
@@ -48,7 +48,7 @@ returns-4 c =
     let top = test .before in
     let a = top .before .before .args in
     let is = test .is-top .ensures ∙ ap isTop (top .top-in .ensures) in
-    tells-as (found-setting (a .settings .now) (a .designer) _ (good (test .is-top .result) is (left .if1 .left)) (good (accepts .accepts .result) (accepts .accepts .ensures) (fits .if2 .left)) (known .if3 .left) (first .first-unknown .ensures) (c .before .if4 .taken)) (c .unknown-setting .ensures)
+    reply-as (found-setting (a .settings .now) (a .designer) _ (good (test .is-top .result) is (left .if1 .left)) (good (accepts .accepts .result) (accepts .accepts .ensures) (fits .if2 .left)) (known .if3 .left) (first .first-unknown .ensures) (c .before .if4 .taken)) (c .unknown-setting .ensures)
 
 returns-5 : tie.Need-returns-5
 returns-5 c =
@@ -61,7 +61,7 @@ returns-5 c =
     let top = test .before in
     let a = top .before .before .args in
     let is = test .is-top .ensures ∙ ap isTop (top .top-in .ensures) in
-    tells-as (found-none (a .settings .now) (a .designer) _ (good (test .is-top .result) is (left .if1 .left)) (good (accepts .accepts .result) (accepts .accepts .ensures) (fits .if2 .left)) (known .if3 .left) (first .first-unknown .ensures) (c .before .if4 .left)) (c .refusal3 .ensures)
+    reply-as (found-none (a .settings .now) (a .designer) _ (good (test .is-top .result) is (left .if1 .left)) (good (accepts .accepts .result) (accepts .accepts .ensures) (fits .if2 .left)) (known .if3 .left) (first .first-unknown .ensures) (c .before .if4 .left)) (c .refusal3 .ensures)
 
 pub objection-spec : {M : Type 1} → statement M
 objection-spec =

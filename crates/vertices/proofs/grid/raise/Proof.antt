@@ -5,19 +5,19 @@ use Prim.Native.Nat.{_+_, _-_, _*_, _≤_}
 use mathlib.Core.Path.{_≡_, refl, ap, _∙_}
 use mathlib.Core.List.{_++_}
 use lib.ListN.{length, set, take, drop, length-set}
-use Rattle.vertices.specs.Grids.{raised}
+use Rattle.vertices.specs.Grids.{withSecond}
 use Rattle.vertices.proofs.Raised.{raised-more}
 use Rattle.vertices.proofs.grid.raise.Statement.{statement}
 use Rattle.vertices.proofs.grid.raise.Tie as tie
 
 abbrev Inv-loop : tie.InvT-loop
-Inv-loop row₀ n v i₀ row i = (i ≤ n) × (length row ≡ length row₀) × (row ≡ raised v (take (3 * i) row₀) ++ drop (3 * i) row₀)
+Inv-loop row₀ n v i₀ row i = (i ≤ n) × (length row ≡ length row₀) × (row ≡ withSecond v (take (3 * i) row₀) ++ drop (3 * i) row₀)
 
 abbrev μ-loop : tie.MeasureT-loop
 μ-loop row₀ n v i₀ row i = n - i
 
 loop-holds : tie.Need-loop-holds Inv-loop μ-loop
-unfolding raised
+unfolding withSecond
 loop-holds c =
     (omega arith, refl, refl)
 

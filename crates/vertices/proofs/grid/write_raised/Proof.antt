@@ -8,8 +8,8 @@ use mathlib.Core.List.{List}
 use lib.ListN.{length, take, length-take}
 use Rattle.buffer.proofs.Laws.{count-step, over-front, wrote-as}
 use Rattle.mesh_geometry.specs.Words.{vertexWords}
-use Rattle.vertices.specs.Rows.{places}
-use Rattle.vertices.specs.Grids.{crossing, rowPoints, raised}
+use Rattle.vertices.specs.Rows.{placeIn}
+use Rattle.vertices.specs.Grids.{crossing, rowPoints, withSecond}
 use Rattle.vertices.proofs.Loops.{Rows, rows-start, rows-fits, rows-done}
 use Rattle.vertices.proofs.Words.{table-words}
 use Rattle.vertices.proofs.Raised.{row-raised, raised-front, raised-size}
@@ -18,7 +18,7 @@ use Rattle.vertices.proofs.grid.write_raised.Tie as tie
 
 abbrev Inv-loop : tie.InvT-loop
 Inv-loop out₀ at rows columns n words row₀ to₀ r₀ out row to r =
-    Rows (crossing rows columns) (length columns) r (length rows) out to out₀ at × (length row ≡ 195) × ((v : ℕ) → raised v (take words row) ≡ vertexWords (rowPoints columns v))
+    Rows (crossing rows columns) (length columns) r (length rows) out to out₀ at × (length row ≡ 195) × ((v : ℕ) → withSecond v (take words row) ≡ vertexWords (rowPoints columns v))
 
 abbrev μ-loop : tie.MeasureT-loop
 μ-loop out₀ at rows columns n words row₀ to₀ r₀ out row to r = length rows - r
@@ -39,10 +39,10 @@ loop-holds c =
     let columns = a .columns .now in
     let stands : take (3 * length columns) (w .last .0) ≡ vertexWords (rowPoints columns 0) =
     ap (take (3 * length columns)) (w .ensures .is)
-    ∙ over-front _ (vertexWords (rowPoints columns 0)) (3 * length columns) (sym (table-words (λ n. record { u = places columns n; v = 0; w = 0 }) (length columns))) in (
+    ∙ over-front _ (vertexWords (rowPoints columns 0)) (3 * length columns) (sym (table-words (λ n. record { u = placeIn columns n; v = 0; w = 0 }) (length columns))) in (
       rows-start (crossing (a .rows .now) columns) (length columns) (c .before .before .before .before .before .before .pre .1),
       search needs,
-      λ v. ap (raised v) stands ∙ row-raised columns 0 v,
+      λ v. ap (withSecond v) stands ∙ row-raised columns 0 v,
     )
 
 slice-aggregate-raise : tie.Need-slice-aggregate-raise Inv-loop μ-loop
@@ -85,12 +85,12 @@ loop-again c =
     let up = c .before .before .before .before .before .before .before .raise in
     let columns = a .columns .now in
     let n = 3 * length columns in
-    let v = places (a .rows .now) (l .r) in
+    let v = placeIn (a .rows .now) (l .r) in
     let room : n ≤ length (l .row) = omega arith in
     let front : take n (up .last .0) ≡ vertexWords (rowPoints columns v) = raised-front v n (l .row) room (up .ensures) ∙ l .inv .2 v in (
       count-step (omega arith) (wrote-as (λ (zs : List ℕ). zs) (sym front ∙ ap (λ (k : ℕ). take k (up .last .0)) (sym (sub-zero n))) (c .before .before .copy-row .ensures)) (l .inv .0),
       raised-size v n (l .row) room (up .ensures) ∙ l .inv .1,
-      λ h. ap (raised h) front ∙ row-raised columns v h,
+      λ h. ap (withSecond h) front ∙ row-raised columns v h,
     )
 
 same-length : tie.Need-same-length Inv-loop μ-loop

@@ -5,13 +5,13 @@ use Prim.Native.Nat.{_-_}
 use mathlib.Core.Path.{refl}
 use lib.ListN.{length}
 use Rattle.buffer.proofs.Laws.{count-fits}
-use Rattle.vertices.specs.Rows.{places}
+use Rattle.vertices.specs.Rows.{placeIn}
 use Rattle.vertices.proofs.Loops.{Points, points-start, points-step, points-done}
 use Rattle.vertices.proofs.grid.write_row.Statement.{statement}
 use Rattle.vertices.proofs.grid.write_row.Tie as tie
 
 abbrev Inv-loop : tie.InvT-loop
-Inv-loop out₀ at columns v to₀ c₀ out to c = Points (λ n. record { u = places columns n; v = v; w = 0 }) c (length columns) out to out₀ at
+Inv-loop out₀ at columns v to₀ c₀ out to c = Points (λ n. record { u = placeIn columns n; v = v; w = 0 }) c (length columns) out to out₀ at
 
 abbrev μ-loop : tie.MeasureT-loop
 μ-loop out₀ at columns v to₀ c₀ out to c = length columns - c
