@@ -11,6 +11,10 @@ pub record AnswerCode : Type 0 where
 abbrev pub refused : ℕ → AnswerCode
 refused n = record { number = n; values = [] }
 
+-- answer 0 without values
+abbrev pub done : AnswerCode
+done = record { number = 0; values = [] }
+
 -- drawn, with the count of one list
 abbrev pub drew : ℕ → AnswerCode
 drew n = record { number = 0; values = n ∷ [] }

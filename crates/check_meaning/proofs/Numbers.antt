@@ -18,7 +18,7 @@ use Rattle.check_searches.specs.Triangles.{firstReused}
 use Rattle.check_faults.specs.Inside.{firstOutside}
 use Rattle.check_faults.specs.Turns.{firstTurned}
 use Rattle.check_faults.specs.Outline.{firstOpen, firstMissing}
-use Rattle.answer_codes.specs.AnswerCode.{AnswerCode, refused}
+use Rattle.answer_codes.specs.AnswerCode.{AnswerCode, refused, done}
 use Rattle.check_verdict.specs.declared.Verdict.{Verdict}
 use Rattle.check_verdict.specs.declared.Verdict.the-variants.{BadTop, Isolines, Dots, ShouldBeDiscarded, NotThrees, UnknownIndex, Outside, EqualPoints, Turned, SideTwice, OpenSide, MissingPiece, Accepted}
 use Rattle.check_verdict.specs.Faults.{openSide, sideTwice, equalPoints, outlineFault, sideFault, pointFault, meshFault}
@@ -98,7 +98,7 @@ module _ (set : Settings) (p : Patch) (pw iw : List ℕ) where
   verdict-has = go (isTop (set .top)) (isIsolines p) (set .«point_mode») (discards p) (isEmpty pw iw)
     where
       go : (t i m d e : Bool) → Has (cond t (cond i Isolines (cond m Dots (cond d (cond e Accepted ShouldBeDiscarded) (patchFault set p pw iw)))) BadTop)
-          (cond t (cond i (refused 20) (cond m (refused 21) (cond d (cond e (refused 0) (refused 22)) (meshVerdict set p pw iw)))) (refused 11))
+          (cond t (cond i (refused 20) (cond m (refused 21) (cond d (cond e done (refused 22)) (meshVerdict set p pw iw)))) (refused 11))
       go false i m d e = record { told = refl }
       go true true m d e = record { told = refl }
       go true false true d e = record { told = refl }

@@ -20,7 +20,7 @@ use Rattle.check_searches.specs.Triangles.{triangleAt, firstSharing, firstReuse
 use Rattle.check_faults.specs.Inside.{firstOutside}
 use Rattle.check_faults.specs.Turns.{firstTurned}
 use Rattle.check_faults.specs.Outline.{firstOpen, firstMissing}
-use Rattle.answer_codes.specs.AnswerCode.{AnswerCode, refused}
+use Rattle.answer_codes.specs.AnswerCode.{AnswerCode, refused, done}
 use Rattle.check_meaning.specs.Checks.{isIsolines, isTriangles, isEmpty}
 
 -- the fault with its values if x is below n, so that a search among n places found one; otherwise the rest
@@ -39,7 +39,7 @@ faultVerdict triangles positive outline ps ts =
     (faultAt 27 (length ts) (firstTurned positive ps ts) here
     (faultAt 28 (length ts) (firstReused ts) (λ j. firstSharing ts (triangleAt ts j) j ∷ j ∷ [])
     (faultAt 29 (length ts * 3) (firstOpen positive outline ps ts) (λ m. m / 3 ∷ m % 3 ∷ [])
-    (faultAt 30 (length outline) (firstMissing positive outline ps ts) here (refused 0))))))
+    (faultAt 30 (length outline) (firstMissing positive outline ps ts) here done)))))
 
 -- the answer for a mesh, given as words, of a patch that is not discarded
 unfoldable pub meshVerdict : Settings → Patch → List ℕ → List ℕ → AnswerCode
@@ -55,5 +55,5 @@ checkVerdict set p pw iw =
     cond (isTop (set .top))
     (cond (isIsolines p) (refused 20)
     (cond (set .«point_mode») (refused 21)
-    (cond (discards p) (cond (isEmpty pw iw) (refused 0) (refused 22)) (meshVerdict set p pw iw))))
+    (cond (discards p) (cond (isEmpty pw iw) done (refused 22)) (meshVerdict set p pw iw))))
     (refused 11)

@@ -1,12 +1,12 @@
 -- The number and the values of each answer. Assumes nothing.
 use mathlib.Core.List.{[], _∷_}
-use Rattle.answer_codes.specs.AnswerCode.{AnswerCode, refused}
+use Rattle.answer_codes.specs.AnswerCode.{AnswerCode, refused, done}
 use Rattle.check_verdict.specs.declared.Verdict.{Verdict}
 use Rattle.check_verdict.specs.declared.Verdict.the-variants.{BadTop, Isolines, Dots, ShouldBeDiscarded, NotThrees, UnknownIndex, Outside, EqualPoints, Turned, SideTwice, OpenSide, MissingPiece, Accepted}
 
 -- 0 is accepted, 11 a bad top level, 20 and up are the faults in the order of finding
 abbrev pub verdictCode : Verdict → AnswerCode
-verdictCode Accepted = refused 0
+verdictCode Accepted = done
 verdictCode BadTop = refused 11
 verdictCode Isolines = refused 20
 verdictCode Dots = refused 21

@@ -11,12 +11,12 @@ use lib.Ieee.{Float}
 use lib.ListN.{length}
 use Rattle.level.specs.Top.{isTop}
 use Rattle.job_fields.specs.Settings.{firstUnknownSetting}
-use Rattle.answer_codes.specs.AnswerCode.{AnswerCode, refused}
+use Rattle.answer_codes.specs.AnswerCode.{AnswerCode, refused, done}
 use Rattle.call_answers.specs.Replies.{unknownSetting, badTop, twoWords}
 use Rattle.call_inputs.specs.Inputs.{topIn, patchIn, settingsIn}
 use Rattle.share_state.specs.declared.state.Designer.{Designer}
 use Rattle.share_state.specs.declared.state.State.{State}
-use Rattle.share_state.specs.Answers.{done, accepted, lent, soundState, clearVerdict}
+use Rattle.share_state.specs.Answers.{accepted, lent, soundState, clearVerdict}
 use Rattle.share_state.specs.Operations.{unlessRefused, clearedState}
 use Rattle.share_state.proofs.Sound.{and-true, state-test}
 use Rattle.share_answers.specs.Answers.{drawVerdict}

@@ -21,7 +21,7 @@ use Rattle.patch_mesh.specs.Demand.{Demand}
 use Rattle.patch_mesh.specs.Inside.{SpotsOnce}
 use Rattle.mesh_geometry.proofs.ReadBack.{read-points}
 use Rattle.tessellate.specs.Answers.{pointsOf, indicesOf}
-use Rattle.answer_codes.specs.AnswerCode.{AnswerCode, refused, drewBoth}
+use Rattle.answer_codes.specs.AnswerCode.{AnswerCode, refused, drewBoth, done}
 use Rattle.tessellate.specs.Draws.{pointWords, connectionWords}
 use Rattle.level.proofs.Top.{top-as}
 use Rattle.call_answers.specs.Replies.{unknownSetting, badTop, twoWords}
@@ -29,7 +29,7 @@ use Rattle.call_inputs.specs.Inputs.{topIn, patchIn, settingsIn}
 use Rattle.share_state.specs.declared.state.Designer.{Designer}
 use Rattle.share_state.specs.declared.state.State.{State}
 use Rattle.share_state.specs.SharedList.{firstFree, left}
-use Rattle.share_state.specs.Answers.{done, accepted}
+use Rattle.share_state.specs.Answers.{accepted}
 use Rattle.share_draw.specs.declared.answer.DrawResult.{DrawResult}
 use Rattle.share_answers.specs.declared.answer.DrawAnswer.the-variants.{Drawn}
 use Rattle.share_answers.specs.Answers.{drawCode, roomVerdict, partVerdict, shareVerdict, drawVerdict, pointsHeld}

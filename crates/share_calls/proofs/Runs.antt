@@ -6,9 +6,9 @@ use mathlib.Core.List.{List, [], _∷_}
 use native.Mathlib.Omega.{arith}
 use lib.Dec.{eqb}
 use lib.ListN.{length}
-use Rattle.answer_codes.specs.AnswerCode.{AnswerCode, refused}
+use Rattle.answer_codes.specs.AnswerCode.{AnswerCode, refused, done}
 use Rattle.share_state.specs.declared.state.State.{State}
-use Rattle.share_state.specs.Answers.{done, quotasFit}
+use Rattle.share_state.specs.Answers.{quotasFit}
 use Rattle.share_state.specs.Operations.{startState}
 use Rattle.share_words.specs.Words.{stateIn, quotaIn, designerOf}
 use Rattle.share_isolation.specs.Session.{Session, OwnState, View, ownState, begun}

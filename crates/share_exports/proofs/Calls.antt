@@ -12,7 +12,7 @@ use Rattle.level.specs.Top.{isTop}
 use Rattle.patch.specs.declared.kinds.Patch.{Patch}
 use Rattle.patch.specs.declared.settings.Settings.{Settings}
 use Rattle.job_fields.specs.Settings.{firstUnknownSetting}
-use Rattle.answer_codes.specs.AnswerCode.{AnswerCode, refused}
+use Rattle.answer_codes.specs.AnswerCode.{AnswerCode, refused, done}
 use Rattle.call_answers.specs.declared.reply.Reply.{Reply}
 use Rattle.call_answers.specs.Replies.{IsReply, unknownSetting, badTop}
 use Rattle.call_answers.proofs.Replies.{said-two, says-as}
@@ -25,7 +25,7 @@ use Rattle.share_state.specs.declared.answer.StartAnswer.the-variants as starti
 use Rattle.share_state.specs.declared.answer.StartAnswer.the-variants.{QuotasTooLarge}
 use Rattle.share_draw.specs.declared.answer.DrawResult.{DrawResult}
 use Rattle.share_state.specs.declared.answer.ClearResult.{ClearResult}
-use Rattle.share_state.specs.Answers.{done, startCode, clearCode, quotasFit, accepted, clearVerdict}
+use Rattle.share_state.specs.Answers.{startCode, clearCode, quotasFit, accepted, clearVerdict}
 use Rattle.share_answers.specs.Answers.{drawCode, drawVerdict}
 use Rattle.share_state.specs.Operations.{unlessRefused, startState, clearedState, DidStart, DidClear}
 use Rattle.share_draw.specs.Operations.{drawnState, DidDraw}

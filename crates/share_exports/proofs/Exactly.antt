@@ -16,7 +16,7 @@ use Rattle.patch.specs.Subdivide.{discards}
 use Rattle.job_fields.specs.Settings.{choices, firstUnknownSetting, AllBelow}
 use Rattle.job_fields.proofs.Limits.{first-is, first-none, first-all}
 use Rattle.tessellate.specs.Answers.{pointsOf, indicesOf}
-use Rattle.answer_codes.specs.AnswerCode.{AnswerCode, refused, drewBoth}
+use Rattle.answer_codes.specs.AnswerCode.{AnswerCode, refused, drewBoth, done}
 use Rattle.level.proofs.Top.{top-as, is-top, no-top, top-no}
 use Rattle.call_answers.specs.Replies.{unknownSetting, badTop, twoWords}
 use Rattle.call_inputs.specs.Inputs.{topIn, patchIn, settingsIn}
@@ -24,7 +24,7 @@ use Rattle.answer_codes.specs.Reports.{Reports}
 use Rattle.answer_codes.proofs.Exactly.{answered-exactly}
 use Rattle.share_state.specs.declared.state.Quota.{Quota}
 use Rattle.share_state.specs.SharedList.{left}
-use Rattle.share_state.specs.Answers.{done, quotasFit, accepted}
+use Rattle.share_state.specs.Answers.{quotasFit, accepted}
 use Rattle.share_answers.specs.declared.answer.DrawAnswer.the-variants as drawing
 use Rattle.share_answers.specs.Answers.{roomVerdict, partVerdict, shareVerdict, pointsHeld}
 use Rattle.share_words.specs.Words.{stateIn, quotaIn, designerOf}

@@ -11,7 +11,7 @@ use Rattle.level.specs.Top.{isTop}
 use Rattle.patch.specs.declared.kinds.Patch.{Patch}
 use Rattle.patch.specs.declared.settings.Settings.{Settings}
 use Rattle.job_fields.specs.Settings.{firstUnknownSetting}
-use Rattle.answer_codes.specs.AnswerCode.{AnswerCode, refused}
+use Rattle.answer_codes.specs.AnswerCode.{AnswerCode, refused, done}
 use Rattle.tessellate.specs.Draws.{pointWords}
 use Rattle.call_answers.specs.Replies.{unknownSetting, badTop, twoWords, Says}
 use Rattle.call_inputs.specs.Inputs.{topIn, patchIn, settingsIn}
@@ -19,7 +19,7 @@ use Rattle.share_state.specs.declared.state.Designer.{Designer}
 use Rattle.share_state.specs.declared.state.Quota.{Quota}
 use Rattle.share_state.specs.declared.state.State.{State}
 use Rattle.share_state.specs.SharedList.{appended}
-use Rattle.share_state.specs.Answers.{done, accepted, startVerdict}
+use Rattle.share_state.specs.Answers.{accepted, startVerdict}
 use Rattle.share_answers.specs.Answers.{drawVerdict}
 use Rattle.share_state.specs.Operations.{unlessRefused, startState, clearedState}
 use Rattle.share_draw.specs.Operations.{newIndices, drawnState}

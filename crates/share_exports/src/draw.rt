@@ -1,7 +1,8 @@
 // Drawing into a designer's part.
 ghost use lib.ListN.{length};
 ghost use Rattle.call_answers.specs.Replies.{IsReply};
-ghost use Rattle.share_state.specs.Answers.{done, accepted};
+ghost use Rattle.answer_codes.specs.AnswerCode.{done};
+ghost use Rattle.share_state.specs.Answers.{accepted};
 ghost use Rattle.share_answers.specs.Answers.{drawVerdict};
 ghost use Rattle.share_exports.specs.Calls.{asked, DrawCalled, ShareCalled};
 use call_answers::reply::Reply;

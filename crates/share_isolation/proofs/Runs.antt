@@ -5,14 +5,14 @@ use mathlib.Core.Bool.{Bool, true, false, cond}
 use mathlib.Core.List.{List}
 use native.Mathlib.Omega.{arith}
 use lib.ListN.{length}
-use Rattle.answer_codes.specs.AnswerCode.{AnswerCode, refused}
+use Rattle.answer_codes.specs.AnswerCode.{AnswerCode, refused, done}
 use Rattle.tessellate.specs.Draws.{pointWords}
 use Rattle.share_state.specs.declared.state.Designer.{Designer}
 use Rattle.share_state.specs.declared.state.State.{State}
 use Rattle.share_state.specs.declared.state.Quota.{Quota}
 use Rattle.share_state.specs.SharedList.{appended}
 use Rattle.share_state.specs.declared.answer.StartAnswer.the-variants.{Started, QuotasTooLarge}
-use Rattle.share_state.specs.Answers.{done, clearCode, quotasFit}
+use Rattle.share_state.specs.Answers.{clearCode, quotasFit}
 use Rattle.share_answers.specs.Answers.{drawCode}
 use Rattle.share_state.specs.Operations.{unlessRefused, startState, clearedState}
 use Rattle.share_draw.specs.Operations.{newIndices, drawnState}

@@ -1,9 +1,8 @@
 -- The numbers and values of the answers to starting and clearing, and which answer applies. Assumes nothing.
 use Prim.Native.Nat.{ℕ, _+_}
 use mathlib.Core.Bool.{Bool, cond, _&&_}
-use mathlib.Core.List.{[]}
 use lib.Dec.{leb, eqb}
-use Rattle.answer_codes.specs.AnswerCode.{AnswerCode, refused}
+use Rattle.answer_codes.specs.AnswerCode.{AnswerCode, refused, done}
 use Rattle.share_state.specs.declared.state.Quota.{Quota}
 use Rattle.share_state.specs.declared.state.State.{State}
 use Rattle.share_state.specs.declared.answer.StartAnswer.{StartAnswer}
@@ -11,10 +10,6 @@ use Rattle.share_state.specs.declared.answer.StartAnswer.the-variants.{S
 use Rattle.share_state.specs.declared.answer.ClearAnswer.{ClearAnswer}
 use Rattle.share_state.specs.declared.answer.ClearAnswer.the-variants as clearing
 use Rattle.share_state.specs.SharedList.{sound, wholePoints}
-
--- answer 0 without values
-abbrev pub done : AnswerCode
-done = record { number = 0; values = [] }
 
 -- the numbers of the answers of both operations
 abbrev pub startCode : StartAnswer → AnswerCode
