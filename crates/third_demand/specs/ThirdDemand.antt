@@ -10,19 +10,16 @@ use Rattle.patch.specs.declared.settings.Settings.{Settings}
 use Rattle.patch.specs.Subdivide.{outerLevels}
 use Rattle.patch.specs.Turn.{turnAsked}
 use Rattle.mesh_geometry.specs.declared.Point.{Point}
-use Rattle.mesh_geometry.specs.Cover.{Face, Side, missing, sides, side, reversed, piece, Occurs, HasSign, twiceArea, totalTwiceArea, signed}
+use Rattle.mesh_geometry.specs.Cover.{Side, missing, sides, side, reversed, piece, Occurs, HasSign, twiceArea, totalTwiceArea, signed}
 use Rattle.mesh_geometry.specs.Seam.{Mirrors}
-use Rattle.patch_mesh.specs.Demand.{outline, outlineOf, twiceAreaOf}
+use Rattle.patch_mesh.specs.Demand.{outlineOf, twiceAreaOf}
 use Rattle.mesh_geometry.specs.Faces.{facesIn}
+use Rattle.mesh_geometry.specs.Held.{face}
 use Rattle.third_demand.specs.Seams.{IsEdge, EdgesAlike, placesOn, edgePlaces}
 
 -- point mode is off
 abbrev pub AsTriangles : Settings → Type 0
 AsTriangles set = set .«point_mode» ≡ false
-
--- triangle number k
-abbrev pub face : List Face → ℕ → Face
-face ts k = getD ts k (record { p = missing; q = missing; r = missing })
 
 -- the side occurs exactly once
 pub record OccursOnce (s : Side) (ss : List Side) : Type 0 where
