@@ -2,10 +2,9 @@
 use Prim.Native.Nat.{ℕ, _*_}
 use mathlib.Core.Bool.{cond}
 use lib.Dec.{ltb}
-use Rattle.level.specs.Top.{isTop}
 use Rattle.patch.specs.declared.kinds.Patch.{Patch}
 use Rattle.patch.specs.declared.settings.Settings.{Settings}
-use Rattle.patch.specs.Subdivide.{discards}
+use Rattle.tessellate.specs.IfDrawn.{ifDrawn}
 use Rattle.tessellate.specs.Answers.{pointsOf, indicesOf}
 use Rattle.answer_codes.specs.AnswerCode.{AnswerCode, refused, drewBoth}
 use Rattle.draw_floats.specs.declared.answer.FloatsAnswer.{FloatsAnswer}
@@ -29,4 +28,4 @@ floatsRoomVerdict points indices v i f =
 -- the answer of drawing with floats: a bad top level first, then the lowest number that applies
 unfoldable pub floatsVerdict : Settings → Patch → ℕ → ℕ → ℕ → AnswerCode
 unfolding floatsRoomVerdict
-floatsVerdict set p v i f = cond (isTop (set .top)) (cond (discards p) (refused 1) (floatsRoomVerdict (pointsOf set p) (indicesOf set p) v i f)) (refused 11)
+floatsVerdict set p v i f = ifDrawn set p (refused 11) (refused 1) (floatsRoomVerdict (pointsOf set p) (indicesOf set p) v i f)

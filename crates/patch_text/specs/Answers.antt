@@ -1,12 +1,10 @@
 -- The text of the answer to one patch. Assumes nothing.
 use Prim.Native.Nat.{ℕ}
 use mathlib.Core.Path.{_≡_}
-use mathlib.Core.Bool.{cond}
 use mathlib.Core.List.{List}
-use Rattle.level.specs.Top.{isTop}
 use Rattle.patch.specs.declared.kinds.Patch.{Patch}
 use Rattle.patch.specs.declared.settings.Settings.{Settings}
-use Rattle.patch.specs.Subdivide.{discards}
+use Rattle.tessellate.specs.IfDrawn.{ifDrawn}
 use Rattle.tessellate.specs.Answers.{pointsOf, indicesOf}
 use Rattle.tessellate.specs.Draws.{pointWords, connectionWords}
 use Rattle.decimal_text.specs.Heads.{discardedLine, refusedLine}
@@ -25,4 +23,4 @@ drawnText set p = listText (widthOf (set .«point_mode») p) (pointWords set p) 
 
 -- the text of the answer for a patch with full-size lists: bad top level, discarded or drawn
 abbrev pub recordText : Settings → Patch → List ℕ
-recordText set p = cond (isTop (set .top)) (cond (discards p) discardedLine (drawnText set p)) (refusedLine 11)
+recordText set p = ifDrawn set p (refusedLine 11) discardedLine (drawnText set p)

@@ -4,10 +4,9 @@ use mathlib.Core.Bool.{cond}
 use mathlib.Core.List.{List, [], _∷_}
 use lib.Dec.{ltb}
 use lib.ListN.{length}
-use Rattle.level.specs.Top.{isTop}
 use Rattle.patch.specs.declared.kinds.Patch.{Patch}
 use Rattle.patch.specs.declared.settings.Settings.{Settings}
-use Rattle.patch.specs.Subdivide.{discards, subdivisionOf}
+use Rattle.patch.specs.Subdivide.{subdivisionOf}
 use Rattle.level_clamps.specs.Clamps.{clampsOf}
 use Rattle.level_clamps.specs.Numbers.{clampNumbers}
 use Rattle.patch_mesh.specs.Points.{points}
@@ -19,6 +18,7 @@ use Rattle.tessellate.specs.declared.answer.IndicesAnswer.{IndicesAnswer
 use Rattle.tessellate.specs.declared.answer.IndicesAnswer.the-variants as indices
 use Rattle.tessellate.specs.declared.answer.Size.{Size}
 use Rattle.tessellate.specs.declared.answer.Size.the-variants.{Counts, Discarded as NoCounts, BadTop as NoTop}
+use Rattle.tessellate.specs.IfDrawn.{ifDrawn}
 
 -- the number and values of each answer; 2 once meant more points than an index can number, and is not used again
 abbrev pub pointsCode : PointsAnswer → AnswerCode
@@ -49,8 +49,7 @@ indicesOf set p = length (indexWords set (subdivisionOf set p))
 -- the answer of an operation that writes `count` points or indices as `need` words into a list of `have` words: a bad top first, then the
 -- lowest number that applies; `short` is the number for a list that is too short
 unfoldable pub listVerdict : Settings → Patch → ℕ → ℕ → ℕ → ℕ → AnswerCode
-listVerdict set p short need have count =
-    cond (isTop (set .top)) (cond (discards p) (refused 1) (cond (ltb have need) (refused short) (drew count))) (refused 11)
+listVerdict set p short need have count = ifDrawn set p (refused 11) (refused 1) (cond (ltb have need) (refused short) (drew count))
 
 -- the answer to drawing points into a vertex list of v words
 abbrev pub pointsVerdict : Settings → Patch → ℕ → AnswerCode
@@ -63,6 +62,5 @@ indicesVerdict set p i = listVerdict set p 4 (indicesOf set p) i (indicesOf set 
 -- the answer to measuring: a bad top first; a discarded patch has neither counts nor clamps
 unfoldable pub measureVerdict : Settings → Patch → AnswerCode
 measureVerdict set p =
-    cond (isTop (set .top))
-    (cond (discards p) (refused 1) (record { number = 0; values = pointsOf set p ∷ indicesOf set p ∷ clampNumbers (clampsOf (set .spacing) (set .top) p) }))
-    (refused 11)
+    ifDrawn set p (refused 11) (refused 1)
+    (record { number = 0; values = pointsOf set p ∷ indicesOf set p ∷ clampNumbers (clampsOf (set .spacing) (set .top) p) })
