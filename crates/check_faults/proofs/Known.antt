@@ -9,9 +9,9 @@ use lib.ListN.{length, getD}
 use borrow.Author.Tests.{eqb-true, leb-true, leb-false, not-false}
 use Rattle.mesh_geometry.specs.declared.Point.{Point}
 use Rattle.mesh_geometry.specs.Faces.{at}
-use Rattle.check_searches.specs.Indices.{firstUnknownIndex}
+use Rattle.check_searches.specs.Indices.{firstUnknownIndex, AllNumbered}
 use Rattle.check_faults.specs.Inside.{inside, firstOutside}
-use Rattle.check_faults.specs.Turns.{Small, AllSmall, AllNumbered}
+use Rattle.check_faults.specs.Turns.{Small, AllSmall}
 use Rattle.check_searches.proofs.First.{first-before}
 
 -- every index is the number of a point

@@ -14,9 +14,10 @@ use Rattle.mesh_geometry.specs.declared.Point.{Point}
 use Rattle.mesh_geometry.specs.Faces.{at, faceOf}
 use Rattle.mesh_geometry.proofs.Signed.{Is, is-above, is-area, loop}
 use Rattle.check_searches.specs.Triangles.{triangleAt}
-use Rattle.check_faults.specs.Turns.{hasSign, Numbered, AllNumbered, firstTurned}
+use Rattle.check_faults.specs.Turns.{hasSign, Numbered, firstTurned}
 use Rattle.check_searches.proofs.Read.{triangle-read}
 use Rattle.check_searches.proofs.First.{first-none, first-all}
+use Rattle.check_searches.specs.Indices.{AllNumbered}
 
 -- the corners of every triangle are numbers of points
 pub numbered : (n : ℕ) (ws : List ℕ) (k : ℕ) → AllNumbered n ws → k < length ws / 3 → Numbered n (triangleAt (readTriangles ws) k)

@@ -2,7 +2,7 @@
 use Prim.Native.Nat.{ℕ, _≤_, _<_}
 use mathlib.Core.Bool.{Bool, true, false, not}
 use mathlib.Core.List.{List}
-use lib.ListN.{length, getD}
+use lib.ListN.{length}
 use lib.IntN.{ℤ, pos}
 use lib.Signed.{ltZ}
 use Rattle.strip.specs.declared.triangle.Triangle.{Triangle}
@@ -31,10 +31,6 @@ pub record Numbered (count : ℕ) (t : Triangle) : Type 0 where
   pub a : t .a < count
   pub b : t .b < count
   pub c : t .c < count
-
--- every index is the number of a point
-pub record AllNumbered (count : ℕ) (ws : List ℕ) : Type 0 where
-  pub at : (k : ℕ) → k < length ws → getD ws k 0 < count
 
 -- whether the triangle has no area or the wrong orientation
 abbrev pub turnsWrong : Bool → List Point → Triangle → Bool

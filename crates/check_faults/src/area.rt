@@ -9,7 +9,8 @@ ghost use Rattle.mesh_geometry.specs.Cover.{difference, twiceArea};
 ghost use Rattle.mesh_geometry.specs.Faces.{at, faceOf};
 ghost use Rattle.mesh_geometry.specs.Words.{readPoints, readTriangles};
 ghost use Rattle.check_searches.specs.Triangles.{triangleAt};
-ghost use Rattle.check_faults.specs.Turns.{hasSign, Small, AllSmall, Numbered, AllNumbered, firstTurned};
+ghost use Rattle.check_searches.specs.Indices.{AllNumbered};
+ghost use Rattle.check_faults.specs.Turns.{hasSign, Small, AllSmall, Numbered, firstTurned};
 use mesh_geometry::Point;
 use strip::triangle::Triangle;
 

@@ -3,7 +3,7 @@ ghost use mathlib.Core.Path.{_≡_};
 ghost use Prim.Native.Nat.{_*_, _/_, _≤_, _<_};
 ghost use lib.ListN.{length};
 ghost use Rattle.mesh_geometry.specs.Words.{readPoints, readTriangles};
-ghost use Rattle.check_faults.specs.Turns.{AllNumbered};
+ghost use Rattle.check_searches.specs.Indices.{AllNumbered};
 ghost use Rattle.check_faults.specs.Outline.{startCorner, endOf, sideClosed, closes, ClosedTo, firstOpen};
 use check_searches::point::point_at;
 use check_searches::triangle::triangle_at;

@@ -19,7 +19,7 @@ use Rattle.patch_mesh.specs.Demand.{outlineOf}
 use Rattle.check_soundness.specs.Sound.{sidesIn, SoundWords}
 use Rattle.check_searches.specs.Triangles.{triangleAt}
 use Rattle.check_searches.proofs.Read.{triangles-count}
-use Rattle.check_faults.specs.Turns.{Numbered, AllNumbered}
+use Rattle.check_faults.specs.Turns.{Numbered}
 use Rattle.check_faults.specs.Outline.{startCorner, endOf}
 use Rattle.check_faults.proofs.Turns.{numbered, Apart, area-apart}
 use Rattle.check_meaning.specs.Firsts.{Every, NoPair}

@@ -10,6 +10,10 @@ use Rattle.check_searches.specs.First.{first}
 unfoldable pub firstUnknownIndex : List ℕ → ℕ → ℕ
 firstUnknownIndex ws count = first (λ k. leb count (getD ws k 0)) (length ws)
 
+-- every index is the number of a point
+pub record AllNumbered (count : ℕ) (ws : List ℕ) : Type 0 where
+  pub at : (k : ℕ) → k < length ws → getD ws k 0 < count
+
 -- neither x nor y is among the indices from place `from` up to, not including, `to`
 pub record Lacks (ws : List ℕ) (from to x y : ℕ) : Type 0 where
   pub x-no : (k : ℕ) → from ≤ k → k < to → getD ws k 0 ≡ x → ⊥

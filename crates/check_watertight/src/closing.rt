@@ -3,7 +3,7 @@
 ghost use Prim.Native.Nat.{_≤_, _<_};
 ghost use lib.ListN.{length};
 ghost use Rattle.mesh_geometry.specs.Words.{readPoints, readTriangles};
-ghost use Rattle.check_faults.specs.Turns.{AllNumbered};
+ghost use Rattle.check_searches.specs.Indices.{AllNumbered};
 ghost use Rattle.half_edges.specs.Tables.{vertices, Room, EmptyTable};
 ghost use Rattle.check_watertight.specs.Closing.{Blank, Shown};
 

@@ -5,7 +5,7 @@ ghost use Prim.Native.Nat.{_*_, _/_, _≤_, _<_};
 ghost use lib.ListN.{length, set};
 ghost use Rattle.mesh_geometry.specs.Cover.{piece};
 ghost use Rattle.mesh_geometry.specs.Words.{readPoints, readTriangles};
-ghost use Rattle.check_faults.specs.Turns.{AllNumbered};
+ghost use Rattle.check_searches.specs.Indices.{AllNumbered};
 ghost use Rattle.check_faults.specs.Outline.{sameEnds, closes, ClosedTo};
 ghost use Rattle.half_edges.specs.Opens.{OpensListed};
 ghost use Rattle.check_watertight.specs.Closing.{MarksDrawn, AllMarked};

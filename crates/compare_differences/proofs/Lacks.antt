@@ -16,10 +16,11 @@ use Rattle.check_side_searches.specs.Same.{sameTriangle, TriangleFound}
 use Rattle.check_searches.proofs.First.{some-here, some-none}
 use Rattle.check_searches.proofs.Read.{points-count, triangles-count}
 use Rattle.strip.specs.declared.triangle.Triangle.{Triangle}
+use Rattle.check_searches.specs.Indices.{AllNumbered}
 use Rattle.compare_differences.specs.declared.corners.Match.{Match}
 use Rattle.compare_differences.specs.declared.corners.Match.the-variants.{Corners, Missing}
 use Rattle.compare_differences.specs.Lacking.{Row, among, lacks}
-use Rattle.compare_differences.specs.Meshes.{NoneRepeated, Indexed, DistinctAndNumbered, pointRow, faceRow, sameFace}
+use Rattle.compare_differences.specs.Meshes.{NoneRepeated, DistinctAndNumbered, pointRow, faceRow, sameFace}
 use Rattle.compare_differences.specs.Found.{PointFound, Matched, isMatch, someTriangle, InPlace}
 use Rattle.compare_differences.proofs.Tests.{in-order, some-same, lacks-single, lacks-found, lacks-other}
 use Rattle.compare_differences.proofs.Numbers.{single-before, numbers-same, lies-itself, cornered}
@@ -54,15 +55,15 @@ pub held-near : (ts : List Triangle) (t : Triangle) (from to : ℕ) (r : Bool) �
 held-near ts t from to r h l e = let w = h .yes e in sym (some-here (λ i. sameTriangle (triangleAt ts i) t) (length ts) (w .0) (omega (arith, w .1)) (w .2))
 
 -- searching a mesh's triangles by number for a match
-pub among-match : (pw iw : List ℕ) → Indexed pw iw → ((k : ℕ) → getD iw k 0 < 65536) → (f : Face) (m : Match) → Matched (readPoints pw) f m
+pub among-match : (pw iw : List ℕ) → AllNumbered (length (readPoints pw)) iw → ((k : ℕ) → getD iw k 0 < 65536) → (f : Face) (m : Match) → Matched (readPoints pw) f m
     → someBelow (λ i. isMatch m (triangleAt (readTriangles iw) i)) (length (readTriangles iw)) ≡ among sameFace (faceRow pw iw) (faceRow pw iw .count) f
 among-match pw iw h small f m w = some-same _ _ _ (λ i l. sym (w .each (triangleAt (readTriangles iw) i) (cornered pw iw h small i (omega (arith, triangles-count iw)))))
 
-pub has-found : (pw iw : List ℕ) → Indexed pw iw → ((k : ℕ) → getD iw k 0 < 65536) → (f : Face) (m : Match) (s : Triangle) (r : Bool) → Matched (readPoints pw) f m
+pub has-found : (pw iw : List ℕ) → AllNumbered (length (readPoints pw)) iw → ((k : ℕ) → getD iw k 0 < 65536) → (f : Face) (m : Match) (s : Triangle) (r : Bool) → Matched (readPoints pw) f m
     → m ≡ Corners s → r ≡ someTriangle (readTriangles iw) s → r ≡ among sameFace (faceRow pw iw) (faceRow pw iw .count) f
 has-found pw iw h small f m s r w e t = t ∙ among-match pw iw h small f (Corners s) (rw e at w)
 
-pub has-missing : (pw iw : List ℕ) → Indexed pw iw → ((k : ℕ) → getD iw k 0 < 65536) → (f : Face) (m : Match) → Matched (readPoints pw) f m
+pub has-missing : (pw iw : List ℕ) → AllNumbered (length (readPoints pw)) iw → ((k : ℕ) → getD iw k 0 < 65536) → (f : Face) (m : Match) → Matched (readPoints pw) f m
     → m ≡ Missing → false ≡ among sameFace (faceRow pw iw) (faceRow pw iw .count) f
 has-missing pw iw h small f m w e = sym (some-none (λ i. false) (length (readTriangles iw)) (λ i l. refl)) ∙ among-match pw iw h small f Missing (rw e at w)
 
@@ -70,7 +71,7 @@ has-missing pw iw h small f m w e = sym (some-none (λ i. false) (length (readTr
 pub among-own : (pw iw : List ℕ) → DistinctAndNumbered pw iw → ((k : ℕ) → getD iw k 0 < 65536) → (k : ℕ) → k < length iw / 3
     → someBelow (λ i. sameTriangle (triangleAt (readTriangles iw) i) (triangleAt (readTriangles iw) k)) k ≡ among sameFace (faceRow pw iw) k (faceRow pw iw .entry k)
 among-own pw iw h small k l = some-same _ _ k (λ i m. sym
-    (numbers-same pw (h .single) (triangleAt (readTriangles iw) i) (triangleAt (readTriangles iw) k) _ (cornered pw iw (h .indexed) small i (omega arith)) (cornered pw iw (h .indexed) small k l) (lies-itself _ _)))
+    (numbers-same pw (h .single) (triangleAt (readTriangles iw) i) (triangleAt (readTriangles iw) k) _ (cornered pw iw (h .numbered) small i (omega arith)) (cornered pw iw (h .numbered) small k l) (lies-itself _ _)))
 
 -- a triangle is found in the other mesh, or not
 module _ (pw iw ow jw : List ℕ) (k : ℕ) (t : Triangle) (e : t ≡ triangleAt (readTriangles iw) k) (r : Bool)

@@ -19,8 +19,9 @@ use Rattle.check_searches.proofs.First.{first-all, some-all}
 use Rattle.check_searches.proofs.Read.{points-count, triangle-read}
 use Rattle.check_searches.proofs.Equal.{same-is, is-same}
 use Rattle.strip.specs.declared.triangle.Triangle.{Triangle}
+use Rattle.check_searches.specs.Indices.{AllNumbered}
 use Rattle.compare_differences.specs.declared.corners.Match.the-variants.{Corners, Missing}
-use Rattle.compare_differences.specs.Meshes.{NoneRepeated, Indexed, sameFace}
+use Rattle.compare_differences.specs.Meshes.{NoneRepeated, sameFace}
 use Rattle.compare_differences.specs.Found.{PointFound, Cornered, Matched}
 
 -- no point equals an earlier point
@@ -116,14 +117,14 @@ pub record Ranged (n : ℕ) (t : Triangle) : Type 0 where
   pub b : t .b < n
   pub c : t .c < n
 
-pub ranged : (pw iw : List ℕ) → Indexed pw iw → (k : ℕ) → k < length iw / 3 → Ranged (length (readPoints pw)) (triangleAt (readTriangles iw) k)
-ranged pw iw h k l = rw (← triangle-read iw k l) (record { a = h .each (k * 3) (omega arith); b = h .each (k * 3 + 1) (omega arith); c = h .each (k * 3 + 2) (omega arith) })
+pub ranged : (pw iw : List ℕ) → AllNumbered (length (readPoints pw)) iw → (k : ℕ) → k < length iw / 3 → Ranged (length (readPoints pw)) (triangleAt (readTriangles iw) k)
+ranged pw iw h k l = rw (← triangle-read iw k l) (record { a = h .at (k * 3) (omega arith); b = h .at (k * 3 + 1) (omega arith); c = h .at (k * 3 + 2) (omega arith) })
 
-pub cornered : (pw iw : List ℕ) → Indexed pw iw → ((k : ℕ) → getD iw k 0 < 65536) → (k : ℕ) → k < length iw / 3 → Cornered (length (readPoints pw)) (triangleAt (readTriangles iw) k)
+pub cornered : (pw iw : List ℕ) → AllNumbered (length (readPoints pw)) iw → ((k : ℕ) → getD iw k 0 < 65536) → (k : ℕ) → k < length iw / 3 → Cornered (length (readPoints pw)) (triangleAt (readTriangles iw) k)
 cornered pw iw h small k l = rw (← triangle-read iw k l) (record {
-  a = h .each (k * 3) (omega arith);
-  b = h .each (k * 3 + 1) (omega arith);
-  c = h .each (k * 3 + 2) (omega arith);
+  a = h .at (k * 3) (omega arith);
+  b = h .at (k * 3 + 1) (omega arith);
+  c = h .at (k * 3 + 2) (omega arith);
   small-a = small (k * 3);
   small-b = small (k * 3 + 1);
   small-c = small (k * 3 + 2);

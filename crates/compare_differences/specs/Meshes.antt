@@ -1,15 +1,16 @@
 -- Meshes to compare: their points and triangles, and when two are the same. Assumes nothing.
-use Prim.Native.Nat.{ℕ, _<_}
+use Prim.Native.Nat.{ℕ}
 use mathlib.Core.Path.{_≡_}
 use mathlib.Core.Bool.{Bool, _&&_, _||_}
 use mathlib.Core.List.{List}
-use lib.ListN.{length, getD}
+use lib.ListN.{length}
 use Rattle.mesh_geometry.specs.declared.Point.{Point}
 use Rattle.mesh_geometry.specs.Cover.{Face}
 use Rattle.mesh_geometry.specs.Faces.{at, faceOf}
 use Rattle.mesh_geometry.specs.Words.{readPoints, readTriangles}
 use Rattle.check_searches.specs.Points.{samePoint, firstRepeated}
 use Rattle.check_searches.specs.Triangles.{triangleAt}
+use Rattle.check_searches.specs.Indices.{AllNumbered}
 use Rattle.compare_differences.specs.Lacking.{Row}
 
 -- a mesh: its points, and its triangles with points as corners
@@ -45,11 +46,7 @@ sameFace f g = sameCorners f g || sameCorners f (rotated g) || sameCorners f (ro
 pub record NoneRepeated (pw : List ℕ) : Type 0 where
   pub is : firstRepeated (readPoints pw) ≡ length (readPoints pw)
 
--- every index is the number of a point
-pub record Indexed (pw iw : List ℕ) : Type 0 where
-  pub each : (k : ℕ) → k < length iw → getD iw k 0 < length (readPoints pw)
-
 -- the mesh can be compared
 pub record DistinctAndNumbered (pw iw : List ℕ) : Type 0 where
   pub single : NoneRepeated pw
-  pub indexed : Indexed pw iw
+  pub numbered : AllNumbered (length (readPoints pw)) iw

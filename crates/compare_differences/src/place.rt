@@ -4,7 +4,9 @@ ghost use mathlib.Core.Bool.{true};
 ghost use Prim.Native.Nat.{_/_, _<_};
 ghost use lib.ListN.{length};
 ghost use Rattle.check_searches.specs.Points.{samePoint};
-ghost use Rattle.compare_differences.specs.Meshes.{Indexed, pointRow, faceRow};
+ghost use Rattle.mesh_geometry.specs.Words.{readPoints};
+ghost use Rattle.check_searches.specs.Indices.{AllNumbered};
+ghost use Rattle.compare_differences.specs.Meshes.{pointRow, faceRow};
 ghost use Rattle.compare_differences.specs.Found.{InPlace};
 use check_searches::point::point_at;
 use check_searches::point::same_point;
@@ -26,7 +28,7 @@ pub(crate) fn is_in_place(
     other_points: &[u32],
     other_indices: &[u16],
 ) -> bool
-    requires { ⌜ k < length (now indices) / 3 ⌝ ∗ ⌜ Indexed (now points) (now indices) ⌝ ∗ ⌜ Indexed (now «other_points») (now «other_indices») ⌝ }
+    requires { ⌜ k < length (now indices) / 3 ⌝ ∗ ⌜ AllNumbered (length (readPoints (now points))) (now indices) ⌝ ∗ ⌜ AllNumbered (length (readPoints (now «other_points»))) (now «other_indices») ⌝ }
     ensures { λ z. ⌜ (z ≡ true → InPlace (faceRow (now (points .entry)) (now (indices .entry))) (faceRow (now («other_points» .entry)) (now («other_indices» .entry))) k) ⌝ }
 {
     if k < other_indices.len() / 3 {

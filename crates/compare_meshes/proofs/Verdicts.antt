@@ -82,5 +82,5 @@ sound-good pw iw h =
     let v = ltb-false (firstRepeated (readPoints pw)) n (t .1) in
     record {
       single = record { is = omega (arith, first-most (repeats (readPoints pw)) n) };
-      indexed = record { each = λ k l. leb-false n (getD iw k 0) (first-before (λ i. leb n (getD iw i 0)) (length iw) k (omega arith)) };
+      numbered = record { at = λ k l. leb-false n (getD iw k 0) (first-before (λ i. leb n (getD iw i 0)) (length iw) k (omega arith)) };
     }

@@ -9,7 +9,7 @@ use lib.Dec.{ltb, leb, eqb}
 use borrow.Author.Tests.{lt-ltb, le-ltb, ltb-true, ltb-false, le-leb, lt-leb, leb-true, leb-false, eq-eqb, eqb-true}
 use Rattle.mesh_geometry.specs.Faces.{at}
 use Rattle.mesh_geometry.specs.Words.{readPoints}
-use Rattle.check_searches.specs.Indices.{firstUnknownIndex}
+use Rattle.check_searches.specs.Indices.{firstUnknownIndex, AllNumbered}
 use Rattle.check_searches.specs.Points.{samePoint, repeats, firstRepeated}
 use Rattle.check_searches.proofs.First.{some-which, some-here, some-none, some-all}
 use Rattle.check_searches.proofs.Equal.{same-is, is-same}
@@ -22,7 +22,7 @@ use Rattle.compare_meshes.specs.Answers.{checked, unlessFault, compareVerdict}
 use Rattle.compare_differences.specs.Meshes.{readMesh}
 use Rattle.compare_differences.specs.Differences.{differences}
 use Rattle.compare_sameness.specs.Same.{SameMesh}
-use Rattle.compare_sameness.specs.Refusals.{InThrees, IndicesNumbered, DistinctPoints, Comparable, PastPoints, TwoEqual, CheckMeans, AnswerMeans}
+use Rattle.compare_sameness.specs.Refusals.{InThrees, DistinctPoints, Comparable, PastPoints, TwoEqual, CheckMeans, AnswerMeans}
 use Rattle.compare_sameness.proofs.Sames.{empty, none-same, same-none}
 
 -- ---- the three tests of a mesh
@@ -66,13 +66,13 @@ module _ (pw iw : List ℕ) where
   unfolding firstUnknownIndex
   is-unknown h = some-here (λ k. leb (length (readPoints pw)) (getD iw k 0)) (length iw) (h .k) (h .index) (le-leb (length (readPoints pw)) (getD iw (h .k) 0) (h .past))
 
-  known-is : unknown ≡ false → IndicesNumbered pw iw
+  known-is : unknown ≡ false → AllNumbered (length (readPoints pw)) iw
   unfolding firstUnknownIndex
-  known-is h k l = leb-false (length (readPoints pw)) (getD iw k 0) (some-all (λ i. leb (length (readPoints pw)) (getD iw i 0)) (length iw) h k l)
+  known-is h = record { at = λ k l. leb-false (length (readPoints pw)) (getD iw k 0) (some-all (λ i. leb (length (readPoints pw)) (getD iw i 0)) (length iw) h k l) }
 
-  is-known : IndicesNumbered pw iw → unknown ≡ false
+  is-known : AllNumbered (length (readPoints pw)) iw → unknown ≡ false
   unfolding firstUnknownIndex
-  is-known h = some-none (λ k. leb (length (readPoints pw)) (getD iw k 0)) (length iw) (λ k l. lt-leb (length (readPoints pw)) (getD iw k 0) (h k l))
+  is-known h = some-none (λ k. leb (length (readPoints pw)) (getD iw k 0)) (length iw) (λ k l. lt-leb (length (readPoints pw)) (getD iw k 0) (h .at k l))
 
   equal-is : equal ≡ true → TwoEqual pw
   unfolding firstRepeated
@@ -112,11 +112,11 @@ module _ (pw iw : List ℕ) where
       go false u v a b c = λ h. true≢false (sym (is-threes h) ∙ a)
       go true true v a b c = (threes-is a, unknown-is b)
       go true false true a b c = (threes-is a, known-is b, equal-is c)
-      go true false false a b c = record { threes = threes-is a; known = known-is b; apart = apart-is c }
+      go true false false a b c = record { threes = threes-is a; numbered = known-is b; distinct = apart-is c }
 
   pub means-check : (x : Checked) → CheckMeans x pw iw → checked pw iw ≡ x
   unfolding checked
-  means-check Sound h = rw (is-threes (h .threes), is-known (h .known), is-apart (h .apart))
+  means-check Sound h = rw (is-threes (h .threes), is-known (h .numbered), is-apart (h .distinct))
   means-check (Refused NotThrees) h = rw (not-threes h)
   means-check (Refused UnknownIndex) h = rw (is-threes (h .0), is-unknown (h .1))
   means-check (Refused EqualPoints) h = rw (is-threes (h .0), is-known (h .1), is-equal (h .2))

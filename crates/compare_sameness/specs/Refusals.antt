@@ -5,6 +5,7 @@ use mathlib.Core.List.{List}
 use lib.ListN.{length, getD}
 use Rattle.mesh_geometry.specs.Faces.{at}
 use Rattle.mesh_geometry.specs.Words.{readPoints}
+use Rattle.check_searches.specs.Indices.{AllNumbered}
 use Rattle.compare_meshes.specs.declared.answer.Fault.{Fault}
 use Rattle.compare_meshes.specs.declared.answer.Fault.the-variants.{NotThrees, UnknownIndex, EqualPoints}
 use Rattle.compare_meshes.specs.declared.answer.Checked.{Checked}
@@ -19,10 +20,6 @@ pub record InThrees (pw iw : List ℕ) : Type 0 where
   pub points : length pw % 3 ≡ 0
   pub indices : length iw % 3 ≡ 0
 
--- every index is the number of a point
-abbrev pub IndicesNumbered : List ℕ → List ℕ → Type 0
-IndicesNumbered pw iw = (k : ℕ) → k < length iw → getD iw k 0 < length (readPoints pw)
-
 -- no two points are equal
 abbrev pub DistinctPoints : List ℕ → Type 0
 DistinctPoints pw = (i j : ℕ) → i < j → j < length (readPoints pw) → at (readPoints pw) i ≡ at (readPoints pw) j → ⊥
@@ -30,8 +27,8 @@ DistinctPoints pw = (i j : ℕ) → i < j → j < length (readPoints pw) → at 
 -- the mesh can be compared
 pub record Comparable (pw iw : List ℕ) : Type 0 where
   pub threes : InThrees pw iw
-  pub known : IndicesNumbered pw iw
-  pub apart : DistinctPoints pw
+  pub numbered : AllNumbered (length (readPoints pw)) iw
+  pub distinct : DistinctPoints pw
 
 -- index k is not the number of a point
 pub record PastPoints (pw iw : List ℕ) : Type 0 where
@@ -51,7 +48,7 @@ pub record TwoEqual (pw : List ℕ) : Type 0 where
 abbrev pub FaultMeans : Fault → List ℕ → List ℕ → Type 0
 FaultMeans NotThrees pw iw = InThrees pw iw → ⊥
 FaultMeans UnknownIndex pw iw = InThrees pw iw × PastPoints pw iw
-FaultMeans EqualPoints pw iw = InThrees pw iw × IndicesNumbered pw iw × TwoEqual pw
+FaultMeans EqualPoints pw iw = InThrees pw iw × AllNumbered (length (readPoints pw)) iw × TwoEqual pw
 
 -- what the check of one mesh means
 abbrev pub CheckMeans : Checked → List ℕ → List ℕ → Type 0

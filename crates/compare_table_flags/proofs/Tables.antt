@@ -17,14 +17,14 @@ use Rattle.check_searches.specs.First.{someBelow}
 use Rattle.check_searches.specs.Points.{firstRepeated}
 use Rattle.check_searches.specs.Triangles.{triangleAt}
 use Rattle.check_searches.proofs.Read.{points-count, triangles-count}
-use Rattle.check_faults.specs.Turns.{AllNumbered}
 use Rattle.check_side_searches.specs.Same.{sameTriangle}
 use Rattle.strip.specs.declared.triangle.Triangle.{Triangle}
+use Rattle.check_searches.specs.Indices.{AllNumbered}
 use Rattle.point_table.specs.Trees.{PointTable}
 use Rattle.triangle_table.specs.Hits.{someFace}
 use Rattle.compare_differences.specs.declared.corners.Match.the-variants.{Corners, Missing}
 use Rattle.compare_differences.specs.Lacking.{among}
-use Rattle.compare_differences.specs.Meshes.{NoneRepeated, Indexed, DistinctAndNumbered, faceRow, sameFace}
+use Rattle.compare_differences.specs.Meshes.{NoneRepeated, DistinctAndNumbered, faceRow, sameFace}
 use Rattle.compare_differences.specs.Found.{PointFound, Cornered, Matched}
 use Rattle.compare_differences.proofs.Numbers.{match-found, missing-p, missing-q, missing-r}
 use Rattle.compare_differences.proofs.Lacks.{has-found, has-missing, among-own}
@@ -124,22 +124,22 @@ module _ (pw ow jw ms : List ℕ) (g : DistinctAndNumbered ow jw) (small : (k : 
   face = faceOf (at (readPoints pw)) t
 
   pub corner-missing-a : length ow / 3 ≤ getD ms (t .a) 0 → false ≡ among sameFace (faceRow ow jw) (faceRow ow jw .count) (faceOf (at (readPoints pw)) t)
-  corner-missing-a l = has-missing ow jw (g .indexed) small (faceOf (at (readPoints pw)) t) Missing
+  corner-missing-a l = has-missing ow jw (g .numbered) small (faceOf (at (readPoints pw)) t) Missing
       (missing-p ow (length ow / 3) (faceOf (at (readPoints pw)) t) (λ i k j. k) (at (readPoints pw) (t .a)) (getD ms (t .a) 0) (p .all .each (t .a) (m .a)) l refl) refl
 
   pub corner-missing-b : length ow / 3 ≤ getD ms (t .b) 0 → false ≡ among sameFace (faceRow ow jw) (faceRow ow jw .count) (faceOf (at (readPoints pw)) t)
-  corner-missing-b l = has-missing ow jw (g .indexed) small (faceOf (at (readPoints pw)) t) Missing
+  corner-missing-b l = has-missing ow jw (g .numbered) small (faceOf (at (readPoints pw)) t) Missing
       (missing-q ow (length ow / 3) (faceOf (at (readPoints pw)) t) (λ i k j. k) (at (readPoints pw) (t .b)) (getD ms (t .b) 0) (p .all .each (t .b) (m .b)) l refl) refl
 
   pub corner-missing-c : length ow / 3 ≤ getD ms (t .c) 0 → false ≡ among sameFace (faceRow ow jw) (faceRow ow jw .count) (faceOf (at (readPoints pw)) t)
-  corner-missing-c l = has-missing ow jw (g .indexed) small (faceOf (at (readPoints pw)) t) Missing
+  corner-missing-c l = has-missing ow jw (g .numbered) small (faceOf (at (readPoints pw)) t) Missing
       (missing-r ow (length ow / 3) (faceOf (at (readPoints pw)) t) (λ i k j. k) (at (readPoints pw) (t .c)) (getD ms (t .c) 0) (p .all .each (t .c) (m .c)) l refl) refl
 
   pub corners-found : (x y z : ℕ) (r : Bool) → x ≡ getD ms (t .a) 0 → y ≡ getD ms (t .b) 0 → z ≡ getD ms (t .c) 0 → x < length ow / 3 → y < length ow / 3 → z < length ow / 3
       → length ow / 3 ≤ 65536 → r ≡ someFace (readTriangles jw) (record { a = x; b = y; c = z }) (length jw / 3)
       → r ≡ among sameFace (faceRow ow jw) (faceRow ow jw .count) (faceOf (at (readPoints pw)) t)
   corners-found x y z r ex ey ez lx ly lz few h =
-      has-found ow jw (g .indexed) small (faceOf (at (readPoints pw)) t) (Corners (record { a = x; b = y; c = z })) (record { a = x; b = y; c = z }) r
+      has-found ow jw (g .numbered) small (faceOf (at (readPoints pw)) t) (Corners (record { a = x; b = y; c = z })) (record { a = x; b = y; c = z }) r
       (match-found ow (length ow / 3) (faceOf (at (readPoints pw)) t) (at (readPoints pw) (t .a)) (at (readPoints pw) (t .b)) (at (readPoints pw) (t .c)) x y z (g .single) (omega arith) few
       (rw ex (p .all .each (t .a) (m .a))) (rw ey (p .all .each (t .b) (m .b))) (rw ez (p .all .each (t .c) (m .c))) refl refl refl lx ly lz)
       refl (rw (triangles-count jw) h)
@@ -163,4 +163,4 @@ known-none = record { is = λ e. absurd (true≢false (sym e)) }
 
 -- ---- the indices of a mesh that can be compared fit a table for its points
 pub numbered-in : (pw iw : List ℕ) (n : ℕ) → DistinctAndNumbered pw iw → length pw / 3 ≤ n → AllNumbered n iw
-numbered-in pw iw n g l = record { at = λ k m. omega (arith, g .indexed .each k m, points-count pw) }
+numbered-in pw iw n g l = record { at = λ k m. omega (arith, g .numbered .at k m, points-count pw) }

@@ -12,8 +12,8 @@ use Rattle.strip.specs.declared.triangle.Triangle.{Triangle}
 use Rattle.mesh_geometry.specs.Words.{readTriangles}
 use Rattle.check_searches.specs.Triangles.{triangleAt, hasSide, shareSide}
 use Rattle.check_searches.proofs.Read.{triangle-read}
+use Rattle.check_searches.specs.Indices.{AllNumbered}
 use Rattle.check_faults.specs.Outline.{startCorner, endOf}
-use Rattle.check_faults.specs.Turns.{AllNumbered}
 use Rattle.check_faults.proofs.Turns.{numbered}
 use Rattle.check_faults.proofs.Corners.{start-known as corner-known, end-known as corner-end-known}
 use Rattle.half_edge_chains.specs.Sides.{sideStart, sideEnd}

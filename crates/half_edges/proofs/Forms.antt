@@ -14,8 +14,8 @@ use Rattle.half_edge_chains.proofs.Table.{linked-none}
 use Rattle.half_edge_chains.proofs.Numbers.{numbered-start, numbered-end, start-known, end-known}
 use Rattle.mesh_geometry.specs.Words.{readTriangles}
 use Rattle.check_searches.specs.Triangles.{triangleAt}
+use Rattle.check_searches.specs.Indices.{AllNumbered}
 use Rattle.check_faults.specs.Outline.{startCorner, endOf}
-use Rattle.check_faults.specs.Turns.{AllNumbered}
 use Rattle.half_edge_bits.specs.Rows.{Rowed}
 use Rattle.half_edge_bits.proofs.Rows.{rowed-none}
 use Rattle.half_edges.specs.Tables.{vertices, SideAt, Room, EmptyTable, Tabled, FilledTable}

@@ -2,7 +2,7 @@
 ghost use Prim.Native.Nat.{_+_, _*_, _/_, _<_};
 ghost use lib.ListN.{length};
 ghost use Rattle.mesh_geometry.specs.Words.{readTriangles};
-ghost use Rattle.check_faults.specs.Turns.{AllNumbered};
+ghost use Rattle.check_searches.specs.Indices.{AllNumbered};
 ghost use Rattle.half_edges.specs.Tables.{vertices, SideAt, Tabled};
 ghost use Rattle.half_edges.specs.Opens.{Opens};
 use crate::table::has_side;

@@ -5,7 +5,7 @@ ghost use Prim.Native.Nat.{_*_, _/_, _%_, _≤_, _<_};
 ghost use lib.ListN.{length};
 ghost use Rattle.mesh_geometry.specs.Words.{readTriangles};
 ghost use Rattle.check_searches.specs.Triangles.{triangleAt};
-ghost use Rattle.check_faults.specs.Turns.{AllNumbered};
+ghost use Rattle.check_searches.specs.Indices.{AllNumbered};
 ghost use Rattle.half_edge_chains.specs.Sides.{sideStart, sideEnd};
 ghost use Rattle.half_edge_chains.specs.Links.{lastFrom, Linked, Zeros};
 ghost use Rattle.triangle_table.specs.Hits.{hits, someFace};

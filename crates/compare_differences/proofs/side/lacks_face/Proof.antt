@@ -24,7 +24,7 @@ has-face-requires : tie.Need-has-face-requires
 has-face-requires c κs =
     let x = c .before .before .before .before .before .before .before in
     let a = x .args in
-    (rw (c .triangle-at .ensures, ← points-count (a .points .now)) (cornered (a .points .now) (a .indices .now) (x .pre .1 .0 .indexed) (λ i. omega (arith, c .before .before .before .before .before .shared-slice-known2 .given i)) (a .k) (x .pre .0)), x .pre .1 .1)
+    (rw (c .triangle-at .ensures, ← points-count (a .points .now)) (cornered (a .points .now) (a .indices .now) (x .pre .1 .0 .numbered) (λ i. omega (arith, c .before .before .before .before .before .shared-slice-known2 .given i)) (a .k) (x .pre .0)), x .pre .1 .1)
 
 returns-2 : tie.Need-returns-2
 returns-2 c = sym (face-found _ _ _ _ _ _ (c .before .before .triangle-at .ensures) _ (c .before .has-face .ensures) (c .if2 .taken))
