@@ -11,7 +11,7 @@ use Rattle.patch.specs.declared.kinds.Patch.{Patch}
 use Rattle.patch.specs.declared.settings.Settings.{Settings}
 use Rattle.strip.specs.declared.triangle.Triangle.{Triangle}
 use Rattle.mesh_geometry.specs.declared.Point.{Point}
-use Rattle.mesh_geometry.specs.Cover.{Face, Side, reversed, side, piece, twiceArea, Occurs}
+use Rattle.mesh_geometry.specs.Cover.{Face, Side, reversed, side, piece, twiceArea, Occurs, AllDistinct}
 use Rattle.mesh_geometry.specs.Faces.{at, faceOf}
 use Rattle.mesh_geometry.specs.Words.{readTriangles}
 use Rattle.patch_mesh.specs.Demand.{outline, outlineOf}
@@ -63,7 +63,7 @@ module _ (set : Settings) (p : Patch) (ps : List Point) (iw : List ℕ) where
   }
 
   -- for distinct points
-  module _ (apart : (i j : ℕ) → i < length ps → j < length ps → at ps i ≡ at ps j → i ≡ j)
+  module _ (apart : AllDistinct ps)
       (num : (k : ℕ) → k < length ts → Numbered (length ps) (triangleAt ts k)) where
     pub same-numbers : (s t : Triangle) (d e : ℕ) → Numbered (length ps) s → Numbered (length ps) t
         → sideNo (faceOf (at ps) s) d ≡ sideNo (faceOf (at ps) t) e → (startCorner s d ≡ startCorner t e) × (endOf s d ≡ endOf t e)

@@ -11,7 +11,7 @@ use Rattle.patch.specs.declared.settings.Settings.{Settings}
 use Rattle.patch.specs.Turn.{turnAsked}
 use Rattle.strip.specs.declared.triangle.Triangle.{Triangle}
 use Rattle.mesh_geometry.specs.declared.Point.{Point}
-use Rattle.mesh_geometry.specs.Cover.{side}
+use Rattle.mesh_geometry.specs.Cover.{side, AllDistinct}
 use Rattle.mesh_geometry.specs.Faces.{at, faceOf}
 use Rattle.mesh_geometry.proofs.Lists.{neither}
 use Rattle.mesh_geometry.specs.Words.{readPoints, readTriangles}
@@ -28,7 +28,7 @@ use Rattle.check_meaning.proofs.Sides.{by-numbers, drawn-count, side-sp
 use Rattle.check_meaning.proofs.SideTests.{same-numbers}
 
 -- no two points are equal
-pub distinct-of : (ps : List Point) → NoPair (EqualAt ps) (length ps) → (i j : ℕ) → i < length ps → j < length ps → at ps i ≡ at ps j → i ≡ j
+pub distinct-of : (ps : List Point) → NoPair (EqualAt ps) (length ps) → AllDistinct ps
 distinct-of ps h i j l m e = neither i j (λ k. h i j k m e) (λ k. h j i k l (sym e))
 
 -- the corners of every triangle are numbers of points

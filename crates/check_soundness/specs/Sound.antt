@@ -10,7 +10,7 @@ use Rattle.patch.specs.declared.kinds.Patch.{Patch}
 use Rattle.patch.specs.declared.settings.Settings.{Settings}
 use Rattle.patch.specs.Turn.{turnAsked}
 use Rattle.mesh_geometry.specs.declared.Point.{Point}
-use Rattle.mesh_geometry.specs.Cover.{Side, missing, reversed, sides, side, twiceArea, HasSign, piece, Occurs}
+use Rattle.mesh_geometry.specs.Cover.{Side, missing, reversed, sides, side, twiceArea, HasSign, piece, Occurs, AllDistinct}
 use Rattle.mesh_geometry.specs.Words.{readPoints}
 use Rattle.patch_mesh.specs.Demand.{outline, outlineOf}
 use Rattle.mesh_geometry.specs.Faces.{facesIn}
@@ -30,8 +30,7 @@ pub record Sound (domain : Domain) (turn : Bool) (rim points : List Point) (word
   pub numbered : (k : ℕ) → k < length words → getD words k 0 < length points
   -- every point lies in the patch
   pub inside : (i : ℕ) → i < length points → InPatch domain (getD points i missing)
-  -- no two points are equal
-  pub distinct : (i j : ℕ) → i < length points → j < length points → getD points i missing ≡ getD points j missing → i ≡ j
+  pub distinct : AllDistinct points
   -- every triangle has an area, and the orientation asked for
   pub turned : (k : ℕ) → k < length (facesIn points words) → HasSign turn (twiceArea (face (facesIn points words) k))
   -- no directed side occurs twice

@@ -1,5 +1,5 @@
 -- Each answer is given exactly if it is right; "no differences" exactly if both meshes are the same. Assumes nothing.
-use Prim.Native.Nat.{ℕ, _*_, _%_}
+use Prim.Native.Nat.{ℕ, _*_, _%_, _<_}
 use mathlib.Core.Path.{_≡_, refl, sym, ap, _∙_}
 use mathlib.Core.Bool.{Bool, true, false, cond, _&&_, true≢false}
 use mathlib.Core.List.{List}
@@ -7,8 +7,10 @@ use native.Mathlib.Omega.{arith}
 use lib.ListN.{length, getD}
 use lib.Dec.{ltb, leb, eqb}
 use borrow.Author.Tests.{lt-ltb, le-ltb, ltb-true, ltb-false, le-leb, lt-leb, leb-true, leb-false, eq-eqb, eqb-true}
+use Rattle.mesh_geometry.specs.Cover.{AllDistinct}
 use Rattle.mesh_geometry.specs.Faces.{at}
 use Rattle.mesh_geometry.specs.Words.{readPoints}
+use Rattle.mesh_geometry.proofs.Lists.{neither}
 use Rattle.check_searches.specs.Indices.{firstUnknownIndex, AllNumbered}
 use Rattle.check_searches.specs.Points.{samePoint, repeats, firstRepeated}
 use Rattle.check_searches.proofs.First.{some-which, some-here, some-none, some-all}
@@ -22,7 +24,7 @@ use Rattle.compare_meshes.specs.Answers.{checked, unlessFault, compareVerdict}
 use Rattle.compare_differences.specs.Meshes.{readMesh}
 use Rattle.compare_differences.specs.Differences.{differences}
 use Rattle.compare_sameness.specs.Same.{SameMesh}
-use Rattle.compare_sameness.specs.Refusals.{InThrees, DistinctPoints, Comparable, PastPoints, TwoEqual, CheckMeans, AnswerMeans}
+use Rattle.compare_sameness.specs.Refusals.{InThrees, Comparable, PastPoints, TwoEqual, CheckMeans, AnswerMeans}
 use Rattle.compare_sameness.proofs.Sames.{empty, none-same, same-none}
 
 -- ---- the three tests of a mesh
@@ -89,18 +91,21 @@ module _ (pw iw : List ℕ) where
       some-here (repeats ps) (length ps) (h .j) (h .point)
       (some-here (λ i. samePoint (at ps i) (at ps (h .j))) (h .j) (h .i) (h .earlier) (is-same (at ps (h .i)) (at ps (h .j)) (h .equal)))
 
-  apart-is : equal ≡ false → DistinctPoints pw
+  earlier-differs : equal ≡ false → (i j : ℕ) → i < j → j < length (readPoints pw) → at (readPoints pw) i ≡ at (readPoints pw) j → ⊥
   unfolding firstRepeated
-  apart-is h i j l m e =
+  earlier-differs h i j l m e =
       let ps = readPoints pw in
       true≢false (sym (is-same (at ps i) (at ps j) e) ∙ some-all (λ k. samePoint (at ps k) (at ps j)) j (some-all (repeats ps) (length ps) h j m) i l)
+
+  apart-is : equal ≡ false → AllDistinct (readPoints pw)
+  apart-is h i j l m e = neither i j (λ k. earlier-differs h i j k m e) (λ k. earlier-differs h j i k l (sym e))
 
   not-true : (b : Bool) → (b ≡ true → ⊥) → b ≡ false
   not-true true h = absurd (h refl)
   not-true false h = refl
 
-  is-apart : DistinctPoints pw → equal ≡ false
-  is-apart h = not-true equal (λ e. let w = equal-is e in h (w .i) (w .j) (w .earlier) (w .point) (w .equal))
+  is-apart : AllDistinct (readPoints pw) → equal ≡ false
+  is-apart h = not-true equal (λ e. let w = equal-is e in let z = h (w .i) (w .j) (omega (arith, w .earlier, w .point)) (w .point) (w .equal) in omega (arith, z, w .earlier))
 
   -- a mesh is refused exactly if the refusal is right
   pub check-means : CheckMeans (checked pw iw) pw iw

@@ -3,6 +3,7 @@ use Prim.Native.Nat.{ℕ, _*_, _%_, _≤_, _<_}
 use mathlib.Core.Path.{_≡_}
 use mathlib.Core.List.{List}
 use lib.ListN.{length, getD}
+use Rattle.mesh_geometry.specs.Cover.{AllDistinct}
 use Rattle.mesh_geometry.specs.Faces.{at}
 use Rattle.mesh_geometry.specs.Words.{readPoints}
 use Rattle.check_searches.specs.Indices.{AllNumbered}
@@ -20,15 +21,11 @@ pub record InThrees (pw iw : List ℕ) : Type 0 where
   pub points : length pw % 3 ≡ 0
   pub indices : length iw % 3 ≡ 0
 
--- no two points are equal
-abbrev pub DistinctPoints : List ℕ → Type 0
-DistinctPoints pw = (i j : ℕ) → i < j → j < length (readPoints pw) → at (readPoints pw) i ≡ at (readPoints pw) j → ⊥
-
 -- the mesh can be compared
 pub record Comparable (pw iw : List ℕ) : Type 0 where
   pub threes : InThrees pw iw
   pub numbered : AllNumbered (length (readPoints pw)) iw
-  pub distinct : DistinctPoints pw
+  pub distinct : AllDistinct (readPoints pw)
 
 -- index k is not the number of a point
 pub record PastPoints (pw iw : List ℕ) : Type 0 where

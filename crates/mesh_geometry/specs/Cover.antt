@@ -81,11 +81,14 @@ piece positive ps k = directed positive (record { start = getD ps k missing; end
 abbrev pub Occurs : Side → List Side → Type 0
 Occurs s ss = (i : ℕ) × (i < length ss) × (side ss i ≡ s)
 
+-- no two points are equal
+abbrev pub AllDistinct : List Point → Type 0
+AllDistinct ps = (i j : ℕ) → i < length ps → j < length ps → getD ps i missing ≡ getD ps j missing → i ≡ j
+
 -- the mesh covers its patch: `positive` is the orientation asked for, `area` twice the area of the patch, `outline` the points
 -- of the outline in walk order
 pub record Cover (positive : Bool) (area : ℕ) (outline points : List Point) (faces : List Face) : Type 0 where
-  -- no two points are equal
-  pub distinct : (i j : ℕ) → i < length points → j < length points → getD points i missing ≡ getD points j missing → i ≡ j
+  pub distinct : AllDistinct points
   -- every triangle has an area, and the orientation asked for
   pub turned : (k : ℕ) → k < length faces
       → HasSign positive (twiceArea (getD faces k (record { p = missing; q = missing; r = missing })))

@@ -1,10 +1,8 @@
 -- The points of every drawn patch, isolines included, are distinct. Assumes nothing.
-use Prim.Native.Nat.{ℕ, _<_}
+use Prim.Native.Nat.{ℕ}
 use mathlib.Core.Path.{_≡_, ap}
 use mathlib.Core.Bool.{true, false}
-use mathlib.Core.List.{List}
 use native.Mathlib.Omega.{arith}
-use lib.ListN.{length, getD}
 use Rattle.level.specs.declared.Spacing.{Spacing}
 use Rattle.level.specs.declared.Spacing.the-variants.{Equal}
 use Rattle.level.specs.Top.{Top}
@@ -14,7 +12,7 @@ use Rattle.patch.specs.declared.kinds.Patch.{Patch}
 use Rattle.patch.specs.declared.kinds.Patch.the-variants.{Triangles, Quads, Isolines}
 use Rattle.patch.specs.Subdivide.{discards, cut, subdivision}
 use Rattle.mesh_geometry.specs.declared.Point.{Point}
-use Rattle.mesh_geometry.specs.Cover.{missing}
+use Rattle.mesh_geometry.specs.Cover.{missing, AllDistinct}
 use Rattle.mesh_geometry.specs.Edge.{Run, GoodRun}
 use Rattle.mesh_geometry.specs.Segmented.{isolinePoints}
 use Rattle.mesh_geometry.proofs.Lists.{Distinct, distinct-at}
@@ -31,12 +29,8 @@ isolines-distinct lines along gl ga =
     (λ r s c d l m u v e. omega (arith, ap (λ (p : Point). p .v) e, span-less (good-span gl) r s l (omega arith)))
     (λ r c d u l m e. omega (arith, ap (λ (p : Point). p .u) e, span-less (good-span ga) c d l (omega arith)))
 
--- all points of a list are distinct
-abbrev Apart : List Point → Type 0
-Apart ps = (i j : ℕ) → i < length ps → j < length ps → getD ps i missing ≡ getD ps j missing → i ≡ j
-
 module _ (s : Spacing) (t : ℕ) (top : Top t) where
-  cut-distinct : (p : Patch) → Apart (points (cut s t p))
+  cut-distinct : (p : Patch) → AllDistinct (points (cut s t p))
   unfolding points
   cut-distinct (Triangles a b c i) = covered s t top (Triangles a b c i) .cover tt true .distinct
   cut-distinct (Quads a b c d i j) = covered s t top (Quads a b c d i j) .cover tt true .distinct
@@ -44,6 +38,5 @@ module _ (s : Spacing) (t : ℕ) (top : Top t) where
       distinct-at _ missing i j h k
       (isolines-distinct _ _ (good-run (segmentsOf Equal t a) (segments-valid Equal t top a)) (good-run (segmentsOf s t b) (segments-valid s t top b)))
 
-  pub points-distinct : (p : Patch) → discards p ≡ false → (i j : ℕ) → i < length (points (subdivision s t p)) → j < length (points (subdivision s t p))
-      → getD (points (subdivision s t p)) i missing ≡ getD (points (subdivision s t p)) j missing → i ≡ j
+  pub points-distinct : (p : Patch) → discards p ≡ false → AllDistinct (points (subdivision s t p))
   points-distinct p h = rw (not-discarded s t p h) (cut-distinct p)

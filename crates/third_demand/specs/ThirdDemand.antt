@@ -10,7 +10,7 @@ use Rattle.patch.specs.declared.settings.Settings.{Settings}
 use Rattle.patch.specs.Subdivide.{outerLevels}
 use Rattle.patch.specs.Turn.{turnAsked}
 use Rattle.mesh_geometry.specs.declared.Point.{Point}
-use Rattle.mesh_geometry.specs.Cover.{Side, missing, sides, side, reversed, piece, Occurs, HasSign, twiceArea, totalTwiceArea, signed}
+use Rattle.mesh_geometry.specs.Cover.{Side, sides, side, reversed, piece, Occurs, AllDistinct, HasSign, twiceArea, totalTwiceArea, signed}
 use Rattle.mesh_geometry.specs.Seam.{Mirrors}
 use Rattle.patch_mesh.specs.Demand.{outlineOf, twiceAreaOf}
 use Rattle.mesh_geometry.specs.Faces.{facesIn}
@@ -33,7 +33,7 @@ pub record ThirdDemand (Drew : Settings → Patch → List Point → Type 0) (se
   -- every index is the number of a point
   pub numbered : (k : ℕ) → k < length ws → getD ws k 0 < length ps
   -- drawn as triangles: no two points are equal
-  pub distinct : AsTriangles set → (i j : ℕ) → i < length ps → j < length ps → getD ps i missing ≡ getD ps j missing → i ≡ j
+  pub distinct : AsTriangles set → AllDistinct ps
   -- every triangle has an area, and the orientation asked for
   pub turned : AsTriangles set → (k : ℕ) → k < length (facesIn ps ws) → HasSign (turnAsked set) (twiceArea (face (facesIn ps ws) k))
   -- no directed side occurs twice

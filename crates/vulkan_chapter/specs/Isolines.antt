@@ -6,7 +6,7 @@ use mathlib.Core.List.{List}
 use mathlib.Core.Logic.{_⊎_}
 use lib.ListN.{length, getD}
 use Rattle.mesh_geometry.specs.declared.Point.{Point}
-use Rattle.mesh_geometry.specs.Cover.{missing}
+use Rattle.mesh_geometry.specs.Cover.{AllDistinct}
 use Rattle.mesh_geometry.specs.Faces.{at}
 use Rattle.mesh_geometry.specs.Edge.{Run}
 use Rattle.vulkan_chapter.specs.Members.{Member}
@@ -44,4 +44,4 @@ pub record LineSegments (line : ℕ → NumberedLine) (m n : ℕ) (ws : List ℕ
 pub record EachOnce (ps : List Point) (ws : List ℕ) : Type 0 where
   pub count : length ws ≡ length ps
   pub each : (v : ℕ) → v < length ps → Member v ws
-  pub distinct : (i j : ℕ) → i < length ps → j < length ps → getD ps i missing ≡ getD ps j missing → i ≡ j
+  pub distinct : AllDistinct ps
