@@ -7,4 +7,4 @@ use Rattle.tessellate.specs.declared.cut.Cut.the-variants.{BadTop, Disca
 use Rattle.tessellate.specs.IfDrawn.{ifDrawn}
 
 unfoldable pub cutOf : Settings → Patch → Cut
-cutOf set p = ifDrawn set p BadTop Discarded (Ready (subdivision (set .spacing) (set .top) p))
+cutOf set p = ifDrawn set p BadTop Discarded (Ready (subdivisionOf set p))
