@@ -193,7 +193,8 @@ module _ {A : Type 0} where
       → w + c ≤ length out
   count-room {i = i} p h e = omega (arith, count-fits h p, e i)
 
-  pub count-step : {f : ℕ → List A} {i n : ℕ} {out out′ : List A} {w w′ : ℕ} {xs : List A} {at : ℕ} → i < n → Wrote out w (f i) out′ w′ → Counting f i n out w xs at → Counting f (i + 1) n out′ w′ xs at
+  pub count-step : {f : ℕ → List A} {i n : ℕ} {out out′ : List A} {w w′ : ℕ} {xs : List A} {at : ℕ} → i < n → Wrote out w (f i) out′ w′ → Counting f i n out w
+      xs at → Counting f (i + 1) n out′ w′ xs at
   count-step {f} {i} {n} h p c = record { within = omega arith; left = left-step p (flat-step f i n h) (c .left) }
 
   pub count-done : {f : ℕ → List A} {i n : ℕ} {out : List A} {w : ℕ} {xs : List A} {at : ℕ} → n ≤ i → Counting f i n out w xs at → Wrote xs at (flat f 0 n) out w

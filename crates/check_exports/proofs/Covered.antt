@@ -8,7 +8,21 @@ use lib.Ieee.{Float}
 use Rattle.patch.specs.Subdivide.{discards}
 use Rattle.answer_codes.specs.AnswerCode.{AnswerCode}
 use Rattle.check_verdict.specs.declared.Verdict.{Verdict}
-use Rattle.check_verdict.specs.declared.Verdict.the-variants.{BadTop, Isolines, Dots, ShouldBeDiscarded, NotThrees, UnknownIndex, Outside, EqualPoints, Turned, SideTwice, OpenSide, MissingPiece, Accepted}
+use Rattle.check_verdict.specs.declared.Verdict.the-variants.{
+  BadTop,
+  Isolines,
+  Dots,
+  ShouldBeDiscarded,
+  NotThrees,
+  UnknownIndex,
+  Outside,
+  EqualPoints,
+  Turned,
+  SideTwice,
+  OpenSide,
+  MissingPiece,
+  Accepted,
+}
 use Rattle.check_meaning.specs.Answers.{checkVerdict}
 use Rattle.check_meaning.specs.Numbers.{verdictCode}
 use Rattle.check_meaning.specs.Covered.{Covered}

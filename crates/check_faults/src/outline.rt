@@ -121,7 +121,8 @@ pub fn first_missing(
     positive: bool,
     from: usize,
 ) -> usize
-    requires { ⌜ AllNumbered (length (readPoints (now points))) (now indices) ⌝ ∗ ⌜ from ≤ length (now outline) / 3 ⌝ ∗ ⌜ DrawnTo positive (readPoints (now outline)) (readPoints (now points)) (readTriangles (now indices)) from ⌝ }
+    requires { ⌜ AllNumbered (length (readPoints (now points))) (now indices) ⌝ ∗ ⌜ from ≤ length (now outline) / 3 ⌝ ∗
+        ⌜ DrawnTo positive (readPoints (now outline)) (readPoints (now points)) (readTriangles (now indices)) from ⌝ }
     ensures { λ r. ⌜ r ≡ firstMissing positive (readPoints (now (outline .entry))) (readPoints (now (points .entry))) (readTriangles (now (indices .entry))) ⌝ }
 {
     let count = outline.len() / 3;

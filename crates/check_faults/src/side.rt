@@ -76,7 +76,8 @@ pub fn first_open(
     positive: bool,
     from: usize,
 ) -> usize
-    requires { ⌜ AllNumbered (length (readPoints (now points))) (now indices) ⌝ ∗ ⌜ from ≤ length (now indices) / 3 * 3 ⌝ ∗ ⌜ ClosedTo positive (readPoints (now outline)) (readPoints (now points)) (readTriangles (now indices)) from ⌝ }
+    requires { ⌜ AllNumbered (length (readPoints (now points))) (now indices) ⌝ ∗ ⌜ from ≤ length (now indices) / 3 * 3 ⌝ ∗
+        ⌜ ClosedTo positive (readPoints (now outline)) (readPoints (now points)) (readTriangles (now indices)) from ⌝ }
     ensures { λ r. ⌜ r ≡ firstOpen positive (readPoints (now (outline .entry))) (readPoints (now (points .entry))) (readTriangles (now (indices .entry))) ⌝ }
 {
     let count = indices.len() / 3 * 3;

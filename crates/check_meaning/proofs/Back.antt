@@ -25,7 +25,24 @@ use Rattle.check_verdict.specs.Faults.{orElse, openSide, sideTwice, equalPoints
 use Rattle.check_soundness.specs.Sound.{SoundWords}
 use Rattle.check_meaning.specs.Checks.{isTriangles}
 use Rattle.check_meaning.specs.Firsts.{FirstNot, FirstPair}
-use Rattle.check_meaning.specs.Means.{NumberedAt, InsideAt, EqualAt, TurnsAt, SharedAt, ClosedAt, DrawnAt, Threes, Kept, PassedThrees, PassedNumbered, PassedInside, PassedDistinct, PassedTurned, PassedSingle, PassedClosed}
+use Rattle.check_meaning.specs.Means.{
+  NumberedAt,
+  InsideAt,
+  EqualAt,
+  TurnsAt,
+  SharedAt,
+  ClosedAt,
+  DrawnAt,
+  Threes,
+  Kept,
+  PassedThrees,
+  PassedNumbered,
+  PassedInside,
+  PassedDistinct,
+  PassedTurned,
+  PassedSingle,
+  PassedClosed,
+}
 use Rattle.patch.specs.Turn.{turnAsked}
 use Rattle.patch_mesh.specs.Demand.{outlineOf}
 use Rattle.check_meaning.proofs.Decides.{all-none, first-is, none-pair, later-is, earlier-is}
@@ -51,7 +68,8 @@ module _ (set : Settings) (p : Patch) (pw iw : List ℕ) where
   mesh = meshFault (isTriangles p) (turnAsked set) (outlineOf set p) pw iw
 
   -- the answer, as far as the stages before are passed
-  to-index : PassedThrees set p pw iw → mesh ≡ orElse (firstUnknownIndex iw (length ps)) (length iw) (said.UnknownIndex (firstUnknownIndex iw (length ps))) (pointFault (isTriangles p) (turnAsked set) (outlineOf set p) ps ts)
+  to-index : PassedThrees set p pw iw → mesh ≡ orElse (firstUnknownIndex iw (length ps)) (length iw) (said.UnknownIndex (firstUnknownIndex iw (length ps)))
+      (pointFault (isTriangles p) (turnAsked set) (outlineOf set p) ps ts)
   unfolding meshFault
   to-index c = rw (eq-eqb (length pw % 3) 0 (c .1 .0), eq-eqb (length iw % 3) 0 (c .1 .1))
 
@@ -77,7 +95,8 @@ module _ (set : Settings) (p : Patch) (pw iw : List ℕ) where
       to-reused (c .0)
       ∙ pass _ _ _ _ (none-pair (λ i j. shareSide (triangleAt ts i) (triangleAt ts j)) (share-decides set p ps iw (distinct-of ps (c .0 .0 .1)) (numbers-of ps iw (c .0 .0 .0 .0 .1))) (c .1))
 
-  to-missing : PassedClosed set p pw iw → mesh ≡ orElse (firstMissing (turnAsked set) (outlineOf set p) ps ts) (length (outlineOf set p)) (said.MissingPiece (firstMissing (turnAsked set) (outlineOf set p) ps ts)) said.Accepted
+  to-missing : PassedClosed set p pw iw → mesh ≡ orElse (firstMissing (turnAsked set) (outlineOf set p) ps ts) (length (outlineOf set p))
+      (said.MissingPiece (firstMissing (turnAsked set) (outlineOf set p) ps ts)) said.Accepted
   unfolding outlineFault firstOpen
   to-missing c =
       to-outline (c .0)

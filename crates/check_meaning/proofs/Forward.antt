@@ -59,7 +59,9 @@ module _ (set : Settings) (p : Patch) (pw iw : List ℕ) where
       stage M _ _ _ _
       (λ l. let e : m / 3 * 3 + m % 3 ≡ m = omega arith in (s, omega arith, rw e (decides-first h l)))
       (λ l. let c : PassedClosed set p pw iw = (s, decides-all h l) in
-      stage M (firstMissing (turnAsked set) (outlineOf set p) ps ts) (length (outlineOf set p)) (said.MissingPiece (firstMissing (turnAsked set) (outlineOf set p) ps ts)) said.Accepted (λ k. (c, decides-first g k)) (λ k. inr (s .0 .0 .0 .0 .0 .0, passed-sound set p pw iw c (decides-all g k))))
+      stage M (firstMissing (turnAsked set) (outlineOf set p) ps ts) (length (outlineOf set p))
+      (said.MissingPiece (firstMissing (turnAsked set) (outlineOf set p) ps ts)) said.Accepted (λ k. (c, decides-first g k))
+      (λ k. inr (s .0 .0 .0 .0 .0 .0, passed-sound set p pw iw c (decides-all g k))))
 
   side-means : PassedDistinct set p pw iw → M (sideFault (turnAsked set) (outlineOf set p) ps ts)
   unfolding sideFault firstTurned firstReused
@@ -86,7 +88,8 @@ module _ (set : Settings) (p : Patch) (pw iw : List ℕ) where
   mesh-means d = go (eqb (length pw % 3) 0) (eqb (length iw % 3) 0) refl refl
     where
       go : (x y : Bool) → eqb (length pw % 3) 0 ≡ x → eqb (length iw % 3) 0 ≡ y
-          → M (cond (x && y) (orElse (firstUnknownIndex iw (length ps)) (length iw) (said.UnknownIndex (firstUnknownIndex iw (length ps))) (pointFault (isTriangles p) (turnAsked set) (outlineOf set p) ps ts)) said.NotThrees)
+          → M (cond (x && y) (orElse (firstUnknownIndex iw (length ps)) (length iw) (said.UnknownIndex (firstUnknownIndex iw (length ps)))
+          (pointFault (isTriangles p) (turnAsked set) (outlineOf set p) ps ts)) said.NotThrees)
       go true true e f =
           let t : PassedThrees set p pw iw = (d, (eqb-true (length pw % 3) 0 e, eqb-true (length iw % 3) 0 f)) in
           let h = numbered-decides ps iw in

@@ -20,7 +20,21 @@ use Rattle.check_faults.specs.Turns.{firstTurned}
 use Rattle.check_faults.specs.Outline.{firstOpen, firstMissing}
 use Rattle.answer_codes.specs.AnswerCode.{AnswerCode, refused, done}
 use Rattle.check_verdict.specs.declared.Verdict.{Verdict}
-use Rattle.check_verdict.specs.declared.Verdict.the-variants.{BadTop, Isolines, Dots, ShouldBeDiscarded, NotThrees, UnknownIndex, Outside, EqualPoints, Turned, SideTwice, OpenSide, MissingPiece, Accepted}
+use Rattle.check_verdict.specs.declared.Verdict.the-variants.{
+  BadTop,
+  Isolines,
+  Dots,
+  ShouldBeDiscarded,
+  NotThrees,
+  UnknownIndex,
+  Outside,
+  EqualPoints,
+  Turned,
+  SideTwice,
+  OpenSide,
+  MissingPiece,
+  Accepted,
+}
 use Rattle.check_verdict.specs.Faults.{openSide, sideTwice, equalPoints, outlineFault, sideFault, pointFault, meshFault}
 use Rattle.check_meaning.specs.Checks.{isIsolines, isEmpty}
 use Rattle.check_meaning.proofs.Named.{patchFault, verdict}

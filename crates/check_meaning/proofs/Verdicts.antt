@@ -84,7 +84,8 @@ module _ (set : Settings) (p : Patch) (pw iw : List ℕ) where
       lines t false e = dots t (surface-is p e) (set .«point_mode») refl
 
       top : (b : Bool) → isTop (set .top) ≡ b
-          → Means set p pw iw (cond b (cond (isIsolines p) said.Isolines (cond (set .«point_mode») said.Dots (cond (discards p) (cond (isEmpty pw iw) said.Accepted said.ShouldBeDiscarded) (patchFault set p pw iw)))) said.BadTop)
+          → Means set p pw iw (cond b (cond (isIsolines p) said.Isolines (cond (set .«point_mode») said.Dots
+          (cond (discards p) (cond (isEmpty pw iw) said.Accepted said.ShouldBeDiscarded) (patchFault set p pw iw)))) said.BadTop)
       top true e = lines (top-as (set .top) e) (isIsolines p) refl
       top false e = no-top (set .top) e
 

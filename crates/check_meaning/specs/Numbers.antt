@@ -2,7 +2,21 @@
 use mathlib.Core.List.{[], _∷_}
 use Rattle.answer_codes.specs.AnswerCode.{AnswerCode, refused, done}
 use Rattle.check_verdict.specs.declared.Verdict.{Verdict}
-use Rattle.check_verdict.specs.declared.Verdict.the-variants.{BadTop, Isolines, Dots, ShouldBeDiscarded, NotThrees, UnknownIndex, Outside, EqualPoints, Turned, SideTwice, OpenSide, MissingPiece, Accepted}
+use Rattle.check_verdict.specs.declared.Verdict.the-variants.{
+  BadTop,
+  Isolines,
+  Dots,
+  ShouldBeDiscarded,
+  NotThrees,
+  UnknownIndex,
+  Outside,
+  EqualPoints,
+  Turned,
+  SideTwice,
+  OpenSide,
+  MissingPiece,
+  Accepted,
+}
 
 -- 0 is accepted, 11 a bad top level, 20 and up are the faults in the order of finding
 abbrev pub verdictCode : Verdict → AnswerCode

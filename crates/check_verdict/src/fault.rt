@@ -19,7 +19,9 @@ fn outline_fault(
     joined: usize,
     drawn: usize,
 ) -> Verdict
-    requires { ⌜ AllNumbered (length (readPoints (now points))) (now indices) ⌝ ∗ ⌜ joined ≤ length (now indices) / 3 * 3 ⌝ ∗ ⌜ ClosedTo positive (readPoints (now outline)) (readPoints (now points)) (readTriangles (now indices)) joined ⌝ ∗ ⌜ drawn ≤ length (now outline) / 3 ⌝ ∗ ⌜ DrawnTo positive (readPoints (now outline)) (readPoints (now points)) (readTriangles (now indices)) drawn ⌝ }
+    requires { ⌜ AllNumbered (length (readPoints (now points))) (now indices) ⌝ ∗ ⌜ joined ≤ length (now indices) / 3 * 3 ⌝ ∗
+        ⌜ ClosedTo positive (readPoints (now outline)) (readPoints (now points)) (readTriangles (now indices)) joined ⌝ ∗ ⌜ drawn ≤ length (now outline) / 3 ⌝ ∗
+        ⌜ DrawnTo positive (readPoints (now outline)) (readPoints (now points)) (readTriangles (now indices)) drawn ⌝ }
     ensures { λ r. ⌜ r ≡ outlineFault positive (readPoints (now (outline .entry))) (readPoints (now (points .entry))) (readTriangles (now (indices .entry))) ⌝ }
 {
     let side = check_faults::side::first_open(outline, points, indices, positive, joined);

@@ -28,7 +28,9 @@ fn reach_by(
     marks: &mut [u16],
     positive: bool,
 ) -> Reached
-    requires { ⌜ EmptyTable small (now rows) (now heads) ⌝ ∗ ⌜ Room small (length (now indices)) (now links) ⌝ ∗ ⌜ AllNumbered (length (readPoints (now points))) (now indices) ⌝ ∗ ⌜ length (readPoints (now points)) ≤ vertices small (now heads) ⌝ ∗ ⌜ (length (now indices) < 65536) × Blank (now marks) ⌝ }
+    requires { ⌜ EmptyTable small (now rows) (now heads) ⌝ ∗ ⌜ Room small (length (now indices)) (now links) ⌝ ∗
+        ⌜ AllNumbered (length (readPoints (now points))) (now indices) ⌝ ∗ ⌜ length (readPoints (now points)) ≤ vertices small (now heads) ⌝ ∗
+        ⌜ (length (now indices) < 65536) × Blank (now marks) ⌝ }
     ensures { λ r. ⌜ Shown positive (readPoints (now (outline .entry))) (readPoints (now (points .entry))) (readTriangles (now (indices .entry))) r ⌝ }
 {
     let once = half_edges::filling::fill(indices, small, rows, heads, links);

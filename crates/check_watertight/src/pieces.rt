@@ -53,8 +53,11 @@ fn mark_piece(
     near: usize,
     m: usize,
 ) -> usize
-    requires { ⌜ AllNumbered (length (readPoints (now points))) (now indices) ⌝ ∗ ⌜ m < length (now indices) / 3 * 3 ⌝ ∗ ⌜ MarksDrawn positive (readPoints (now outline)) (readPoints (now points)) (readTriangles (now indices)) (now marks) ⌝ }
-    ensures { λ r. ⌜ (r < length (readPoints (now (outline .entry))) → closes positive (readPoints (now (outline .entry))) (readPoints (now (points .entry))) (readTriangles (now (indices .entry))) m ≡ true) ⌝ ∗ ⌜ MarksDrawn positive (readPoints (now (outline .entry))) (readPoints (now (points .entry))) (readTriangles (now (indices .entry))) (now (marks .exit)) ⌝ }
+    requires { ⌜ AllNumbered (length (readPoints (now points))) (now indices) ⌝ ∗ ⌜ m < length (now indices) / 3 * 3 ⌝ ∗
+        ⌜ MarksDrawn positive (readPoints (now outline)) (readPoints (now points)) (readTriangles (now indices)) (now marks) ⌝ }
+    ensures { λ r. ⌜ (r < length (readPoints (now (outline .entry))) → closes positive (readPoints (now (outline .entry))) (readPoints (now (points .entry)))
+        (readTriangles (now (indices .entry))) m ≡ true) ⌝ ∗ ⌜ MarksDrawn positive (readPoints (now (outline .entry))) (readPoints (now (points .entry)))
+        (readTriangles (now (indices .entry))) (now (marks .exit)) ⌝ }
 {
     let p = point_at(points, indices[m] as usize);
     let q = point_at(points, end_at(indices, m) as usize);
@@ -76,8 +79,13 @@ pub(crate) fn all_pieces(
     marks: &mut [u16],
     positive: bool,
 ) -> usize
-    requires { ⌜ AllNumbered (length (readPoints (now points))) (now indices) ⌝ ∗ ⌜ count ≤ length (now opens) ⌝ ∗ ⌜ OpensListed (readTriangles (now indices)) (length (readTriangles (now indices)) * 3) (now opens) count ⌝ ∗ ⌜ MarksDrawn positive (readPoints (now outline)) (readPoints (now points)) (readTriangles (now indices)) (now marks) ⌝ }
-    ensures { λ r. ⌜ (r ≤ length (readTriangles (now (indices .entry))) * 3) × ClosedTo positive (readPoints (now (outline .entry))) (readPoints (now (points .entry))) (readTriangles (now (indices .entry))) r ⌝ ∗ ⌜ MarksDrawn positive (readPoints (now (outline .entry))) (readPoints (now (points .entry))) (readTriangles (now (indices .entry))) (now (marks .exit)) ⌝ }
+    requires { ⌜ AllNumbered (length (readPoints (now points))) (now indices) ⌝ ∗ ⌜ count ≤ length (now opens) ⌝ ∗
+        ⌜ OpensListed (readTriangles (now indices)) (length (readTriangles (now indices)) * 3) (now opens) count ⌝ ∗
+        ⌜ MarksDrawn positive (readPoints (now outline)) (readPoints (now points)) (readTriangles (now indices)) (now marks) ⌝ }
+    ensures { λ r. ⌜ (r ≤ length (readTriangles (now (indices .entry))) * 3) × ClosedTo positive (readPoints (now (outline .entry)))
+        (readPoints (now (points .entry))) (readTriangles (now (indices .entry))) r ⌝ ∗
+        ⌜ MarksDrawn positive (readPoints (now (outline .entry))) (readPoints (now (points .entry))) (readTriangles (now (indices .entry))) (now (marks .exit))
+        ⌝ }
 {
     let pieces = outline.len() / 3;
     let mut near = 0;

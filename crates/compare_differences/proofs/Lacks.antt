@@ -35,7 +35,8 @@ module _ (pw ow : List ℕ) (k : ℕ) where
   pub point-missing : (p : Point) (r : ℕ) → p ≡ at (readPoints pw) k → NoneRepeated pw → k < length pw / 3 → PointFound (readPoints ow) (length ow / 3) p r
       → length ow / 3 ≤ r → lacks samePoint (pointRow pw) (pointRow ow) k ≡ true
   point-missing p r e s m h l =
-      lacks-single samePoint (pointRow pw) (pointRow ow) k (some-none (λ i. samePoint (at (readPoints pw) i) (at (readPoints pw) k)) k (λ i n. single-before pw s i k n (omega (arith, points-count pw))))
+      lacks-single samePoint (pointRow pw) (pointRow ow) k (some-none (λ i. samePoint (at (readPoints pw) i) (at (readPoints pw) k)) k
+      (λ i n. single-before pw s i k n (omega (arith, points-count pw))))
       ∙ ap not none
     where
       none : among samePoint (pointRow ow) (pointRow ow .count) (at (readPoints pw) k) ≡ false
@@ -71,7 +72,8 @@ has-missing pw iw h small f m w e = sym (some-none (λ i. false) (length (readTr
 pub among-own : (pw iw : List ℕ) → DistinctAndNumbered pw iw → ((k : ℕ) → getD iw k 0 < 65536) → (k : ℕ) → k < length iw / 3
     → someBelow (λ i. sameTriangle (triangleAt (readTriangles iw) i) (triangleAt (readTriangles iw) k)) k ≡ among sameFace (faceRow pw iw) k (faceRow pw iw .entry k)
 among-own pw iw h small k l = some-same _ _ k (λ i m. sym
-    (numbers-same pw (h .single) (triangleAt (readTriangles iw) i) (triangleAt (readTriangles iw) k) _ (cornered pw iw (h .numbered) small i (omega arith)) (cornered pw iw (h .numbered) small k l) (lies-itself _ _)))
+    (numbers-same pw (h .single) (triangleAt (readTriangles iw) i) (triangleAt (readTriangles iw) k) _ (cornered pw iw (h .numbered) small i (omega arith))
+    (cornered pw iw (h .numbered) small k l) (lies-itself _ _)))
 
 -- a triangle is found in the other mesh, or not
 module _ (pw iw ow jw : List ℕ) (k : ℕ) (t : Triangle) (e : t ≡ triangleAt (readTriangles iw) k) (r : Bool)

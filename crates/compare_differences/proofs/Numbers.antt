@@ -38,7 +38,8 @@ apart : (pw : List ℕ) → NoneRepeated pw → (i x : ℕ) → i < length (read
     → samePoint (at (readPoints pw) i) (at (readPoints pw) x) ≡ false
 apart pw h i x l m n = elim (decLe i x) [
   | yes q ↦ single-before pw h i x (lower i x q n) m
-  | no q ↦ test-false _ (λ e. true≢false (sym (is-same (at (readPoints pw) x) (at (readPoints pw) i) (sym (same-is (at (readPoints pw) i) (at (readPoints pw) x) e))) ∙ single-before pw h x i (omega arith) l))
+  | no q ↦ test-false _ (λ e. true≢false (sym (is-same (at (readPoints pw) x) (at (readPoints pw) i)
+      (sym (same-is (at (readPoints pw) i) (at (readPoints pw) x) e))) ∙ single-before pw h x i (omega arith) l))
 ]
   where
     lower : (i x : ℕ) → i ≤ x → (i ≡ x → ⊥) → i < x
@@ -120,7 +121,8 @@ pub record Ranged (n : ℕ) (t : Triangle) : Type 0 where
 pub ranged : (pw iw : List ℕ) → AllNumbered (length (readPoints pw)) iw → (k : ℕ) → k < length iw / 3 → Ranged (length (readPoints pw)) (triangleAt (readTriangles iw) k)
 ranged pw iw h k l = rw (← triangle-read iw k l) (record { a = h .at (k * 3) (omega arith); b = h .at (k * 3 + 1) (omega arith); c = h .at (k * 3 + 2) (omega arith) })
 
-pub cornered : (pw iw : List ℕ) → AllNumbered (length (readPoints pw)) iw → ((k : ℕ) → getD iw k 0 < 65536) → (k : ℕ) → k < length iw / 3 → Cornered (length (readPoints pw)) (triangleAt (readTriangles iw) k)
+pub cornered : (pw iw : List ℕ) → AllNumbered (length (readPoints pw)) iw → ((k : ℕ) → getD iw k 0 < 65536) → (k : ℕ) → k < length iw / 3 → Cornered
+    (length (readPoints pw)) (triangleAt (readTriangles iw) k)
 cornered pw iw h small k l = rw (← triangle-read iw k l) (record {
   a = h .at (k * 3) (omega arith);
   b = h .at (k * 3 + 1) (omega arith);

@@ -39,7 +39,8 @@ fn has_face(
     other_indices: &[u16],
 ) -> bool
     requires { ⌜ Cornered (length (now points) / 3) t ⌝ ∗ ⌜ DistinctAndNumbered (now «other_points») (now «other_indices») ⌝ }
-    ensures { λ r. ⌜ r ≡ among sameFace (faceRow (now («other_points» .entry)) (now («other_indices» .entry))) (faceRow (now («other_points» .entry)) (now («other_indices» .entry)) .count) (faceOf (at (readPoints (now (points .entry)))) t) ⌝ }
+    ensures { λ r. ⌜ r ≡ among sameFace (faceRow (now («other_points» .entry)) (now («other_indices» .entry)))
+        (faceRow (now («other_points» .entry)) (now («other_indices» .entry)) .count) (faceOf (at (readPoints (now (points .entry)))) t) ⌝ }
 {
     let found = match_corners(points, t, other_points);
     if let Match::Corners(s) = found {

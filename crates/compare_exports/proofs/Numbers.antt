@@ -25,7 +25,8 @@ fault-told n UnknownIndex = refl
 fault-told n EqualPoints = refl
 
 -- the call reports the answer by its number and count
-pub called : (right a : Comparison) (ws xs xs′ : List ℕ) (p : CountReply) → ListAnswered right a ws xs xs′ → p ≡ comparisonReply (comparisonCode a) → ListCalled (comparisonCode right) ws xs xs′ (p .count ∷ []) (p .number)
+pub called : (right a : Comparison) (ws xs xs′ : List ℕ) (p : CountReply) → ListAnswered right a ws xs xs′ → p ≡ comparisonReply (comparisonCode a) → ListCalled
+    (comparisonCode right) ws xs xs′ (p .count ∷ []) (p .number)
 called right a ws xs xs′ p h e =
     let f : p ≡ comparisonReply (comparisonCode right) = e ∙ ap (λ (b : Comparison). comparisonReply (comparisonCode b)) (h .answer) in
     record {

@@ -30,8 +30,11 @@ pub fn flag_meshes(
     right_point_flags: &mut [u8],
     right_face_flags: &mut [u8],
 ) -> bool
-    requires { ⌜ DistinctAndNumbered (now «left_points») (now «left_indices») ⌝ ∗ ⌜ DistinctAndNumbered (now «right_points») (now «right_indices») ⌝ ∗ ⌜ AllSet 8192 (now «left_point_flags») × AllSet 8448 (now «left_face_flags») × AllSet 8192 (now «right_point_flags») × AllSet 8448 (now «right_face_flags») ⌝ }
-    ensures { λ r. ⌜ MeshFlags r (now («left_points» .entry)) (now («left_indices» .entry)) (now («right_points» .entry)) (now («right_indices» .entry)) (now («left_point_flags» .exit)) (now («left_face_flags» .exit)) (now («right_point_flags» .exit)) (now («right_face_flags» .exit)) ⌝ }
+    requires { ⌜ DistinctAndNumbered (now «left_points») (now «left_indices») ⌝ ∗ ⌜ DistinctAndNumbered (now «right_points») (now «right_indices») ⌝ ∗
+        ⌜ AllSet 8192 (now «left_point_flags») × AllSet 8448 (now «left_face_flags») × AllSet 8192 (now «right_point_flags») × AllSet 8448
+        (now «right_face_flags») ⌝ }
+    ensures { λ r. ⌜ MeshFlags r (now («left_points» .entry)) (now («left_indices» .entry)) (now («right_points» .entry)) (now («right_indices» .entry))
+        (now («left_point_flags» .exit)) (now («left_face_flags» .exit)) (now («right_point_flags» .exit)) (now («right_face_flags» .exit)) ⌝ }
 {
     if !has_room(left_points, left_indices) {
         return false;

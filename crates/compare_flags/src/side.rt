@@ -27,8 +27,11 @@ fn flag_by(
     flags: &mut [u8],
     other_flags: &mut [u8],
 )
-    requires { ⌜ Flaggable (now points) (now indices) (now others) (now «other_indices») (now partners) (now flags) (now «other_flags») ⌝ ∗ ⌜ ManySides (now others) (now «other_indices») ⌝ ∗ ⌜ Zeros (now heads) ⌝ ∗ ⌜ (length (now others) / 3 ≤ length (now heads)) × (length (now «other_indices») ≤ length (now links)) ⌝ }
-    ensures { λ r. ⌜ FacesFlagged (now (points .entry)) (now (indices .entry)) (now (others .entry)) (now («other_indices» .entry)) (now (flags .entry)) (now (flags .exit)) (now («other_flags» .entry)) (now («other_flags» .exit)) ⌝ }
+    requires { ⌜ Flaggable (now points) (now indices) (now others) (now «other_indices») (now partners) (now flags) (now «other_flags») ⌝ ∗
+        ⌜ ManySides (now others) (now «other_indices») ⌝ ∗ ⌜ Zeros (now heads) ⌝ ∗
+        ⌜ (length (now others) / 3 ≤ length (now heads)) × (length (now «other_indices») ≤ length (now links)) ⌝ }
+    ensures { λ r. ⌜ FacesFlagged (now (points .entry)) (now (indices .entry)) (now (others .entry)) (now («other_indices» .entry)) (now (flags .entry))
+        (now (flags .exit)) (now («other_flags» .entry)) (now («other_flags» .exit)) ⌝ }
 {
     triangle_table::fill(other_indices, heads, links);
     flag_missing(
@@ -56,7 +59,9 @@ fn flag_by_few(
     other_flags: &mut [u8],
 ) -> bool
     requires { ⌜ Flaggable (now points) (now indices) (now others) (now «other_indices») (now partners) (now flags) (now «other_flags») ⌝ }
-    ensures { λ r. ⌜ (r ≡ true → FacesFlagged (now (points .entry)) (now (indices .entry)) (now (others .entry)) (now («other_indices» .entry)) (now (flags .entry)) (now (flags .exit)) (now («other_flags» .entry)) (now («other_flags» .exit))) × (r ≡ false → (now (flags .exit) ≡ now (flags .entry)) × (now («other_flags» .exit) ≡ now («other_flags» .entry))) ⌝ }
+    ensures { λ r. ⌜ (r ≡ true → FacesFlagged (now (points .entry)) (now (indices .entry)) (now (others .entry)) (now («other_indices» .entry))
+        (now (flags .entry)) (now (flags .exit)) (now («other_flags» .entry)) (now («other_flags» .exit))) ×
+        (r ≡ false → (now (flags .exit) ≡ now (flags .entry)) × (now («other_flags» .exit) ≡ now («other_flags» .entry))) ⌝ }
 {
     if 192 < others.len() {
         return false;
@@ -91,7 +96,8 @@ fn flag_by_many(
     other_flags: &mut [u8],
 )
     requires { ⌜ Flaggable (now points) (now indices) (now others) (now «other_indices») (now partners) (now flags) (now «other_flags») ⌝ ∗ ⌜ ManySides (now others) (now «other_indices») ⌝ }
-    ensures { λ r. ⌜ FacesFlagged (now (points .entry)) (now (indices .entry)) (now (others .entry)) (now («other_indices» .entry)) (now (flags .entry)) (now (flags .exit)) (now («other_flags» .entry)) (now («other_flags» .exit)) ⌝ }
+    ensures { λ r. ⌜ FacesFlagged (now (points .entry)) (now (indices .entry)) (now (others .entry)) (now («other_indices» .entry)) (now (flags .entry))
+        (now (flags .exit)) (now («other_flags» .entry)) (now («other_flags» .exit)) ⌝ }
 {
     let mut heads = [0u16; 8192];
     let mut links = [0u32; 25344];
@@ -118,8 +124,15 @@ pub(crate) fn flag_side(
     face_flags: &mut [u8],
     other_flags: &mut [u8],
 )
-    requires { ⌜ DistinctAndNumbered (now points) (now indices) × ManySides (now points) (now indices) ⌝ ∗ ⌜ DistinctAndNumbered (now others) (now «other_indices») × ManySides (now others) (now «other_indices») ⌝ ∗ ⌜ (length (now points) / 3 ≤ length (now «point_flags»)) × (length (now indices) / 3 ≤ length (now «face_flags»)) × (length (now «other_indices») / 3 ≤ length (now «other_flags»)) ⌝ }
-    ensures { λ r. ⌜ Narrowed (lacks samePoint (pointRow (now (points .entry))) (pointRow (now (others .entry)))) (length (now (points .entry)) / 3) (now («point_flags» .entry)) (now («point_flags» .exit)) ⌝ ∗ ⌜ Narrowed (noSameFace (now (points .entry)) (now (indices .entry)) (now (others .entry)) (now («other_indices» .entry))) (length (now (indices .entry)) / 3) (now («face_flags» .entry)) (now («face_flags» .exit)) ⌝ ∗ ⌜ Narrowed (isFirst (now (others .entry)) (now («other_indices» .entry))) (length (now («other_indices» .entry)) / 3) (now («other_flags» .entry)) (now («other_flags» .exit)) ⌝ }
+    requires { ⌜ DistinctAndNumbered (now points) (now indices) × ManySides (now points) (now indices) ⌝ ∗
+        ⌜ DistinctAndNumbered (now others) (now «other_indices») × ManySides (now others) (now «other_indices») ⌝ ∗
+        ⌜ (length (now points) / 3 ≤ length (now «point_flags»)) × (length (now indices) / 3 ≤ length (now «face_flags»)) ×
+        (length (now «other_indices») / 3 ≤ length (now «other_flags»)) ⌝ }
+    ensures { λ r. ⌜ Narrowed (lacks samePoint (pointRow (now (points .entry))) (pointRow (now (others .entry)))) (length (now (points .entry)) / 3)
+        (now («point_flags» .entry)) (now («point_flags» .exit)) ⌝ ∗ ⌜ Narrowed (noSameFace (now (points .entry)) (now (indices .entry)) (now (others .entry))
+        (now («other_indices» .entry))) (length (now (indices .entry)) / 3) (now («face_flags» .entry)) (now («face_flags» .exit)) ⌝ ∗
+        ⌜ Narrowed (isFirst (now (others .entry)) (now («other_indices» .entry))) (length (now («other_indices» .entry)) / 3) (now («other_flags» .entry))
+        (now («other_flags» .exit)) ⌝ }
 {
     let mut partners = [0u16; 8192];
     match_points(points, others, &mut partners);

@@ -26,7 +26,8 @@ module _ (l r : Mesh) where
   unfolding differences
   parts-words =
       words-append ((leftPoints l r) ++ (rightPoints l r) ++ (leftFaces l r)) (rightFaces l r)
-      ∙ ap (λ (w : List ℕ). w ++ words (rightFaces l r)) (words-append ((leftPoints l r) ++ (rightPoints l r)) (leftFaces l r) ∙ ap (λ (w : List ℕ). w ++ words (leftFaces l r)) (words-append (leftPoints l r) (rightPoints l r)))
+      ∙ ap (λ (w : List ℕ). w ++ words (rightFaces l r)) (words-append ((leftPoints l r) ++ (rightPoints l r)) (leftFaces l r) ∙
+      ap (λ (w : List ℕ). w ++ words (leftFaces l r)) (words-append (leftPoints l r) (rightPoints l r)))
       ∙ simp append-assoc
 
   -- what is left to write after the points

@@ -44,8 +44,11 @@ fn list_by_flags(
     known: bool,
     out: &mut [u64],
 ) -> Comparison
-    requires { ⌜ DistinctAndNumbered (now «left_points») (now «left_indices») ⌝ ∗ ⌜ DistinctAndNumbered (now «right_points») (now «right_indices») ⌝ ∗ ⌜ MeshFlags known (now «left_points») (now «left_indices») (now «right_points») (now «right_indices») (now «left_point_flags») (now «left_face_flags») (now «right_point_flags») (now «right_face_flags») ⌝ }
-    ensures { λ r. ⌜ DifferencesListed (differences (readMesh (now («left_points» .entry)) (now («left_indices» .entry))) (readMesh (now («right_points» .entry)) (now («right_indices» .entry)))) (now (out .entry)) (now (out .exit)) r ⌝ }
+    requires { ⌜ DistinctAndNumbered (now «left_points») (now «left_indices») ⌝ ∗ ⌜ DistinctAndNumbered (now «right_points») (now «right_indices») ⌝ ∗
+        ⌜ MeshFlags known (now «left_points») (now «left_indices») (now «right_points») (now «right_indices») (now «left_point_flags») (now «left_face_flags»)
+        (now «right_point_flags») (now «right_face_flags») ⌝ }
+    ensures { λ r. ⌜ DifferencesListed (differences (readMesh (now («left_points» .entry)) (now («left_indices» .entry)))
+        (readMesh (now («right_points» .entry)) (now («right_indices» .entry)))) (now (out .entry)) (now (out .exit)) r ⌝ }
 {
     let n = count_differences(
         left_points,
@@ -88,7 +91,8 @@ fn list_differences(
     out: &mut [u64],
 ) -> Comparison
     requires { ⌜ DistinctAndNumbered (now «left_points») (now «left_indices») ⌝ ∗ ⌜ DistinctAndNumbered (now «right_points») (now «right_indices») ⌝ }
-    ensures { λ r. ⌜ DifferencesListed (differences (readMesh (now («left_points» .entry)) (now («left_indices» .entry))) (readMesh (now («right_points» .entry)) (now («right_indices» .entry)))) (now (out .entry)) (now (out .exit)) r ⌝ }
+    ensures { λ r. ⌜ DifferencesListed (differences (readMesh (now («left_points» .entry)) (now («left_indices» .entry)))
+        (readMesh (now («right_points» .entry)) (now («right_indices» .entry)))) (now (out .entry)) (now (out .exit)) r ⌝ }
 {
     if same_mesh(left_points, left_indices, right_points, right_indices) {
         return Comparison::Differences(0);

@@ -31,7 +31,8 @@ use Rattle.compare_differences.proofs.Lacks.{has-found, has-missing, among-own}
 use Rattle.compare_table_flags.specs.Flags.{Partners, Partnered, AllSet, Narrowed, Flagged, KnownFlags, noSameFace, isFirst}
 
 -- ---- a table of all points
-pub table-whole : {ow : List ℕ} {slots r : ℕ} {t : List ℕ} → NoneRepeated ow → r ≡ firstRepeated (readPoints ow) → PointTable (readPoints ow) slots r t → PointTable (readPoints ow) slots (length ow / 3) t
+pub table-whole : {ow : List ℕ} {slots r : ℕ} {t : List ℕ} → NoneRepeated ow → r ≡ firstRepeated (readPoints ow) → PointTable (readPoints ow) slots r t →
+    PointTable (readPoints ow) slots (length ow / 3) t
 table-whole {ow} s e h = rw (e ∙ s .is ∙ points-count ow) at h
 
 -- ---- partners
@@ -145,12 +146,14 @@ module _ (pw ow jw ms : List ℕ) (g : DistinctAndNumbered ow jw) (small : (k : 
       refl (rw (triangles-count jw) h)
 
 -- ---- a triangle that the other mesh has
-pub missing-is : (pw iw ow jw : List ℕ) (k : ℕ) (t : Triangle) (r : Bool) → t ≡ triangleAt (readTriangles iw) k → r ≡ among sameFace (faceRow ow jw) (faceRow ow jw .count) (faceOf (at (readPoints pw)) t)
+pub missing-is : (pw iw ow jw : List ℕ) (k : ℕ) (t : Triangle) (r : Bool) → t ≡ triangleAt (readTriangles iw) k → r ≡ among sameFace (faceRow ow jw)
+    (faceRow ow jw .count) (faceOf (at (readPoints pw)) t)
     → not r ≡ noSameFace pw iw ow jw k
 missing-is pw iw ow jw k t r e h = ap not (h ∙ ap (λ (u : Triangle). among sameFace (faceRow ow jw) (faceRow ow jw .count) (faceOf (at (readPoints pw)) u)) e)
 
 -- ---- a triangle that its own mesh has earlier
-pub first-is : (pw iw : List ℕ) (k : ℕ) (t : Triangle) (q : Bool) → t ≡ triangleAt (readTriangles iw) k → DistinctAndNumbered pw iw → ((i : ℕ) → getD iw i 0 < 65536) → k < length iw / 3 → q ≡ someFace (readTriangles iw) t k
+pub first-is : (pw iw : List ℕ) (k : ℕ) (t : Triangle) (q : Bool) → t ≡ triangleAt (readTriangles iw) k → DistinctAndNumbered pw iw →
+    ((i : ℕ) → getD iw i 0 < 65536) → k < length iw / 3 → q ≡ someFace (readTriangles iw) t k
     → not q ≡ isFirst pw iw k
 first-is pw iw k t q e g small l h = ap not (h ∙ ap (λ (u : Triangle). someBelow (λ i. sameTriangle (triangleAt (readTriangles iw) i) u) k) e ∙ among-own pw iw g small k l)
 

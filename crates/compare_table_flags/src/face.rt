@@ -22,7 +22,8 @@ pub(crate) fn has_face(
     links: &[u32],
 ) -> bool
     requires { ⌜ Cornered (length (now points) / 3) t ⌝ ∗ ⌜ SideTable (now others) (now «other_indices») (now heads) (now links) ⌝ ∗ ⌜ Partnered (now points) (now others) (now partners) ⌝ }
-    ensures { λ r. ⌜ r ≡ among sameFace (faceRow (now (others .entry)) (now («other_indices» .entry))) (faceRow (now (others .entry)) (now («other_indices» .entry)) .count) (faceOf (at (readPoints (now (points .entry)))) t) ⌝ }
+    ensures { λ r. ⌜ r ≡ among sameFace (faceRow (now (others .entry)) (now («other_indices» .entry)))
+        (faceRow (now (others .entry)) (now («other_indices» .entry)) .count) (faceOf (at (readPoints (now (points .entry)))) t) ⌝ }
 {
     let count = others.len() / 3;
     let a = t.a;

@@ -51,7 +51,8 @@ fn missing_flag(
     links: &[u32],
     flag: u8,
 ) -> u8
-    requires { ⌜ k < length (now indices) / 3 ⌝ ∗ ⌜ DistinctAndNumbered (now points) (now indices) ⌝ ∗ ⌜ SideTable (now others) (now «other_indices») (now heads) (now links) ⌝ ∗ ⌜ Partnered (now points) (now others) (now partners) ⌝ }
+    requires { ⌜ k < length (now indices) / 3 ⌝ ∗ ⌜ DistinctAndNumbered (now points) (now indices) ⌝ ∗
+        ⌜ SideTable (now others) (now «other_indices») (now heads) (now links) ⌝ ∗ ⌜ Partnered (now points) (now others) (now partners) ⌝ }
     ensures { λ r. ⌜ r ≡ cond (eqb flag 1 && noSameFace (now (points .entry)) (now (indices .entry)) (now (others .entry)) (now («other_indices» .entry)) k) 1 0 ⌝ }
 {
     if flag != 1 {
@@ -82,8 +83,10 @@ pub fn flag_missing(
     links: &[u32],
     flags: &mut [u8],
 )
-    requires { ⌜ DistinctAndNumbered (now points) (now indices) ⌝ ∗ ⌜ SideTable (now others) (now «other_indices») (now heads) (now links) ⌝ ∗ ⌜ Partnered (now points) (now others) (now partners) ⌝ ∗ ⌜ length (now indices) / 3 ≤ length (now flags) ⌝ }
-    ensures { λ r. ⌜ Narrowed (noSameFace (now (points .entry)) (now (indices .entry)) (now (others .entry)) (now («other_indices» .entry))) (length (now (indices .entry)) / 3) (now (flags .entry)) (now (flags .exit)) ⌝ }
+    requires { ⌜ DistinctAndNumbered (now points) (now indices) ⌝ ∗ ⌜ SideTable (now others) (now «other_indices») (now heads) (now links) ⌝ ∗
+        ⌜ Partnered (now points) (now others) (now partners) ⌝ ∗ ⌜ length (now indices) / 3 ≤ length (now flags) ⌝ }
+    ensures { λ r. ⌜ Narrowed (noSameFace (now (points .entry)) (now (indices .entry)) (now (others .entry)) (now («other_indices» .entry)))
+        (length (now (indices .entry)) / 3) (now (flags .entry)) (now (flags .exit)) ⌝ }
 {
     let count = indices.len() / 3;
     let mut k = 0;

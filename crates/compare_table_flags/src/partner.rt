@@ -26,7 +26,8 @@ fn find(points: &[u32], table: &[u16], slots: usize, p: Point) -> usize
 
 // Sets the partners of all points, by a table of the other mesh's points.
 fn match_by(points: &[u32], others: &[u32], table: &[u16], slots: usize, partners: &mut [u16])
-    requires { ⌜ PointTable (readPoints (now others)) slots (length (now others) / 3) (now table) ⌝ ∗ ⌜ 0 < slots ⌝ ∗ ⌜ length (now points) / 3 ≤ length (now partners) ⌝ ∗ ⌜ length (now others) / 3 < 65536 ⌝ }
+    requires { ⌜ PointTable (readPoints (now others)) slots (length (now others) / 3) (now table) ⌝ ∗ ⌜ 0 < slots ⌝ ∗
+        ⌜ length (now points) / 3 ≤ length (now partners) ⌝ ∗ ⌜ length (now others) / 3 < 65536 ⌝ }
     ensures { λ r. ⌜ Partnered (now (points .entry)) (now (others .entry)) (now (partners .exit)) ⌝ }
 {
     let count = points.len() / 3;

@@ -3,7 +3,25 @@ use mathlib.Core.Path.{_≡_, refl, sym, ap, subst, _∙_}
 use mathlib.Core.Bool.{false}
 use mathlib.Core.Logic.{inl, inr}
 use Prim.Native.Nat.{ℕ, _+_, _-_, _*_, _/_, _^_, _≤_, _<_}
-use native.Mathlib.Nat.{eq-or-lt-of-le, eq-zero-or-pos, mul-one, one-mul, mul-assoc, mul-left-comm, mul-right-comm, mul-comm, mul-pos, mul-div-cancel, mul-le-mul-right, mul-lt-mul-of-pos-right, eq-of-mul-eq-mul-right, le-trans, lt-of-lt-of-le, div-lt-iff-lt-mul, le-div-iff-mul-le}
+use native.Mathlib.Nat.{
+  eq-or-lt-of-le,
+  eq-zero-or-pos,
+  mul-one,
+  one-mul,
+  mul-assoc,
+  mul-left-comm,
+  mul-right-comm,
+  mul-comm,
+  mul-pos,
+  mul-div-cancel,
+  mul-le-mul-right,
+  mul-lt-mul-of-pos-right,
+  eq-of-mul-eq-mul-right,
+  le-trans,
+  lt-of-lt-of-le,
+  div-lt-iff-lt-mul,
+  le-div-iff-mul-le,
+}
 use native.Mathlib.Omega.{arith}
 use native.Mathlib.Decide.{decLe}
 use lib.IntN.{pos}
@@ -94,7 +112,8 @@ inner x p h =
     let u : N * 2 ^ 108 < 2 ^ 277 = lt-of-lt-of-le (shl-lt 42 108 (small x N h (b .1))) (lit≤ tt) in
     let v : HasValue (round binary32 false x 196608) false (N * 2 ^ 108) (2 ^ 149) =
     subst (λ (q : ℕ). HasValue (round binary32 false x 196608) false q (2 ^ 149)) g (round-val binary32 x 196608 (subst (λ (q : ℕ). q < 2 ^ 277) (sym g) u)) in
-    near-of x N (coordinate 196608 x) (subst (λ (f : Float). HasValue f false N (2 ^ 41)) (sym (coordinate-is 196608 x (omega arith) (omega arith) (omega arith))) (coarse (round binary32 false x 196608) N v)) (b .0) (b .1)
+    near-of x N (coordinate 196608 x) (subst (λ (f : Float). HasValue f false N (2 ^ 41))
+    (sym (coordinate-is 196608 x (omega arith) (omega arith) (omega arith))) (coarse (round binary32 false x 196608) N v)) (b .0) (b .1)
   where
     small : (x N : ℕ) → x < 196608 → 196608 * N ≤ x * 2 ^ 41 + 196608 * 65536 → N < 2 ^ 42
     small x N h m = omega arith

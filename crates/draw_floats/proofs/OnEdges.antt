@@ -70,7 +70,8 @@ module _ (a b c i : Float) where
   triangle-on e0 e1 e2 within g0 g1 g2 g =
       let f = front e0 e1 e2 within g0 g1 g2 g in
       rw (f .is) (all-append (f .rest)
-      (ring-all triangle-shape (OnEdges (Triangles a b c i)) 0 (λ k x h l. outlined (trianglePlace k x 0) (thirds k x (omega arith))) 0 _ (more (good-span g0) (more (good-span g1) (more (good-span g2) none))))
+      (ring-all triangle-shape (OnEdges (Triangles a b c i)) 0 (λ k x h l. outlined (trianglePlace k x 0) (thirds k x (omega arith))) 0 _
+      (more (good-span g0) (more (good-span g1) (more (good-span g2) none))))
       (all-more inside (f .deep)))
 
   corner-on : (k : ℕ) → OnEdges (Triangles a b c i) (trianglePlace k 0 0)

@@ -40,7 +40,8 @@ pub fn has_side(indices: &[u16], sides: usize, heads: &[u16], links: &[u32], x: 
 
 // Adds side m, which is x→y, to the table of the sides before it.
 pub fn add_side(indices: &[u16], m: usize, heads: &mut [u16], links: &mut [u32], x: u16, y: u16)
-    requires { ⌜ Linked (readTriangles (now indices)) m (now heads) (now links) ⌝ ∗ ⌜ x ≡ sideStart (readTriangles (now indices)) m ⌝ ∗ ⌜ y ≡ sideEnd (readTriangles (now indices)) m ⌝ ∗ ⌜ x < length (now heads) ⌝ ∗ ⌜ (m < length (now links)) × (m < 65535) ⌝ }
+    requires { ⌜ Linked (readTriangles (now indices)) m (now heads) (now links) ⌝ ∗ ⌜ x ≡ sideStart (readTriangles (now indices)) m ⌝ ∗
+        ⌜ y ≡ sideEnd (readTriangles (now indices)) m ⌝ ∗ ⌜ x < length (now heads) ⌝ ∗ ⌜ (m < length (now links)) × (m < 65535) ⌝ }
     ensures { λ r. ⌜ Linked (readTriangles (now (indices .entry))) (m + 1) (now (heads .exit)) (now (links .exit)) ⌝ }
 {
     let before = heads[x as usize];

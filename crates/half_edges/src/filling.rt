@@ -21,7 +21,8 @@ fn add_new(
     x: u16,
     y: u16,
 ) -> bool
-    requires { ⌜ FilledTable small (readTriangles (now indices)) m (now rows) (now heads) (now links) ⌝ ∗ ⌜ SideAt small (readTriangles (now indices)) (now heads) m x y ⌝ ∗ ⌜ Room small (m + 1) (now links) ⌝ }
+    requires { ⌜ FilledTable small (readTriangles (now indices)) m (now rows) (now heads) (now links) ⌝ ∗
+        ⌜ SideAt small (readTriangles (now indices)) (now heads) m x y ⌝ ∗ ⌜ Room small (m + 1) (now links) ⌝ }
     ensures { λ r. ⌜ (r ≡ true → FilledTable small (readTriangles (now (indices .entry))) (m + 1) (now (rows .exit)) (now (heads .exit)) (now (links .exit))) ⌝ }
 {
     if has_side(indices, m, small, rows, heads, links, x, y) {
@@ -40,7 +41,9 @@ fn add_triangle(
     heads: &mut [u16],
     links: &mut [u32],
 ) -> bool
-    requires { ⌜ FilledTable small (readTriangles (now indices)) (k * 3) (now rows) (now heads) (now links) ⌝ ∗ ⌜ AllNumbered (vertices small (now heads)) (now indices) ⌝ ∗ ⌜ Room small (length (now indices)) (now links) ⌝ ∗ ⌜ (k < length (now indices) / 3) × (length (now indices) < 65536) ⌝ }
+    requires { ⌜ FilledTable small (readTriangles (now indices)) (k * 3) (now rows) (now heads) (now links) ⌝ ∗
+        ⌜ AllNumbered (vertices small (now heads)) (now indices) ⌝ ∗ ⌜ Room small (length (now indices)) (now links) ⌝ ∗
+        ⌜ (k < length (now indices) / 3) × (length (now indices) < 65536) ⌝ }
     ensures { λ r. ⌜ (r ≡ true → FilledTable small (readTriangles (now (indices .entry))) (k * 3 + 3) (now (rows .exit)) (now (heads .exit)) (now (links .exit))) ⌝ }
 {
     let t = triangle_at(indices, k);
@@ -62,7 +65,8 @@ pub fn fill(
     heads: &mut [u16],
     links: &mut [u32],
 ) -> usize
-    requires { ⌜ EmptyTable small (now rows) (now heads) ⌝ ∗ ⌜ AllNumbered (vertices small (now heads)) (now indices) ⌝ ∗ ⌜ Room small (length (now indices)) (now links) ⌝ ∗ ⌜ length (now indices) < 65536 ⌝ }
+    requires { ⌜ EmptyTable small (now rows) (now heads) ⌝ ∗ ⌜ AllNumbered (vertices small (now heads)) (now indices) ⌝ ∗
+        ⌜ Room small (length (now indices)) (now links) ⌝ ∗ ⌜ length (now indices) < 65536 ⌝ }
     ensures { λ r. ⌜ FilledTo small (readTriangles (now (indices .entry))) r (now (rows .exit)) (now (heads .exit)) (now (links .exit)) ⌝ }
 {
     let count = indices.len() / 3;

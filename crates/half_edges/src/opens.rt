@@ -33,7 +33,9 @@ fn list_open(
     x: u16,
     y: u16,
 ) -> usize
-    requires { ⌜ Tabled small (readTriangles (now indices)) (length (readTriangles (now indices)) * 3) (now rows) (now heads) (now links) ⌝ ∗ ⌜ SideAt small (readTriangles (now indices)) (now heads) m x y ⌝ ∗ ⌜ Opens (readTriangles (now indices)) m (now opens) count ⌝ ∗ ⌜ (m < length (now indices) / 3 * 3) × (m < 65536) ⌝ }
+    requires { ⌜ Tabled small (readTriangles (now indices)) (length (readTriangles (now indices)) * 3) (now rows) (now heads) (now links) ⌝ ∗
+        ⌜ SideAt small (readTriangles (now indices)) (now heads) m x y ⌝ ∗ ⌜ Opens (readTriangles (now indices)) m (now opens) count ⌝ ∗
+        ⌜ (m < length (now indices) / 3 * 3) × (m < 65536) ⌝ }
     ensures { λ r. ⌜ Opens (readTriangles (now (indices .entry))) (m + 1) (now (opens .exit)) r ⌝ }
 {
     let sides = indices.len() / 3 * 3;
@@ -54,7 +56,9 @@ fn list_triangle(
     opens: &mut [u16],
     count: usize,
 ) -> usize
-    requires { ⌜ Tabled small (readTriangles (now indices)) (length (readTriangles (now indices)) * 3) (now rows) (now heads) (now links) ⌝ ∗ ⌜ AllNumbered (vertices small (now heads)) (now indices) ⌝ ∗ ⌜ Opens (readTriangles (now indices)) (k * 3) (now opens) count ⌝ ∗ ⌜ (k < length (now indices) / 3) × (length (now indices) < 65536) ⌝ }
+    requires { ⌜ Tabled small (readTriangles (now indices)) (length (readTriangles (now indices)) * 3) (now rows) (now heads) (now links) ⌝ ∗
+        ⌜ AllNumbered (vertices small (now heads)) (now indices) ⌝ ∗ ⌜ Opens (readTriangles (now indices)) (k * 3) (now opens) count ⌝ ∗
+        ⌜ (k < length (now indices) / 3) × (length (now indices) < 65536) ⌝ }
     ensures { λ r. ⌜ Opens (readTriangles (now (indices .entry))) (k * 3 + 3) (now (opens .exit)) r ⌝ }
 {
     let t = triangle_at(indices, k);
@@ -106,7 +110,8 @@ pub fn open_sides(
     links: &[u32],
     opens: &mut [u16],
 ) -> usize
-    requires { ⌜ Tabled small (readTriangles (now indices)) (length (readTriangles (now indices)) * 3) (now rows) (now heads) (now links) ⌝ ∗ ⌜ AllNumbered (vertices small (now heads)) (now indices) ⌝ ∗ ⌜ length (now indices) < 65536 ⌝ }
+    requires { ⌜ Tabled small (readTriangles (now indices)) (length (readTriangles (now indices)) * 3) (now rows) (now heads) (now links) ⌝ ∗
+        ⌜ AllNumbered (vertices small (now heads)) (now indices) ⌝ ∗ ⌜ length (now indices) < 65536 ⌝ }
     ensures { λ r. ⌜ Opens (readTriangles (now (indices .entry))) (length (readTriangles (now (indices .entry))) * 3) (now (opens .exit)) r ⌝ }
 {
     let triangles = indices.len() / 3;

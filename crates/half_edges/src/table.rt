@@ -37,7 +37,8 @@ pub(crate) fn add_side(
     x: u16,
     y: u16,
 )
-    requires { ⌜ Tabled small (readTriangles (now indices)) m (now rows) (now heads) (now links) ⌝ ∗ ⌜ SideAt small (readTriangles (now indices)) (now heads) m x y ⌝ ∗ ⌜ Room small (m + 1) (now links) ⌝ }
+    requires { ⌜ Tabled small (readTriangles (now indices)) m (now rows) (now heads) (now links) ⌝ ∗
+        ⌜ SideAt small (readTriangles (now indices)) (now heads) m x y ⌝ ∗ ⌜ Room small (m + 1) (now links) ⌝ }
     ensures { λ r. ⌜ Tabled small (readTriangles (now (indices .entry))) (m + 1) (now (rows .exit)) (now (heads .exit)) (now (links .exit)) ⌝ }
 {
     if small {

@@ -23,7 +23,8 @@ fn write_frame(
     positive: bool,
 ) -> usize
     requires { ⌜ (c0 ≤ 64) × (c1 ≤ 64) × (c2 ≤ 64) × (c3 ≤ 64) ⌝ ∗ ⌜ GridFits grid ⌝ ∗ ⌜ at + 3 * (c0 + c1 + c2 + c3 + 2 * grid .a + 2 * grid .b) ≤ length (now out) ⌝ }
-    ensures { λ w. ⌜ Wrote (now (out .entry)) at (indices positive (band (ringAt 0 (c0 + c1 + c2 + c3)) (gridEdges (gridAt (grid .start) (grid .width)) (grid .a) (grid .b) c0 c1 c2 c3))) (now (out .exit)) w ⌝ }
+    ensures { λ w. ⌜ Wrote (now (out .entry)) at (indices positive (band (ringAt 0 (c0 + c1 + c2 + c3))
+        (gridEdges (gridAt (grid .start) (grid .width)) (grid .a) (grid .b) c0 c1 c2 c3))) (now (out .exit)) w ⌝ }
 {
     let outline = Ring {
         base: 0,

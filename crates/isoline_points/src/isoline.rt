@@ -32,7 +32,8 @@ fn write_along(
     lines: Segments,
     along: Segments,
 ) -> usize
-    requires { ⌜ AllValid (lines ∷ along ∷ []) ⌝ ∗ ⌜ now row ≡ edgeRow (lines .count) (lines .scaled) ⌝ ∗ ⌜ StoredIfEqual (now table) along ⌝ ∗ ⌜ at + 3 * length (isolinePoints (run lines) (run along)) ≤ length (now out) ⌝ }
+    requires { ⌜ AllValid (lines ∷ along ∷ []) ⌝ ∗ ⌜ now row ≡ edgeRow (lines .count) (lines .scaled) ⌝ ∗ ⌜ StoredIfEqual (now table) along ⌝ ∗
+        ⌜ at + 3 * length (isolinePoints (run lines) (run along)) ≤ length (now out) ⌝ }
     ensures { λ w. ⌜ Wrote (now (out .entry)) at (vertexWords (isolinePoints (run lines) (run along))) (now (out .exit)) w ⌝ }
 {
     if along.scaled == 65536 * along.count {
@@ -53,7 +54,8 @@ fn write_by_spacing(
     lines: Segments,
     along: Segments,
 ) -> usize
-    requires { ⌜ AllValid (lines ∷ along ∷ []) ⌝ ∗ ⌜ StoredIfEqual (now table) lines × StoredIfEqual (now table) along ⌝ ∗ ⌜ at + 3 * length (isolinePoints (run lines) (run along)) ≤ length (now out) ⌝ }
+    requires { ⌜ AllValid (lines ∷ along ∷ []) ⌝ ∗ ⌜ StoredIfEqual (now table) lines × StoredIfEqual (now table) along ⌝ ∗
+        ⌜ at + 3 * length (isolinePoints (run lines) (run along)) ≤ length (now out) ⌝ }
     ensures { λ w. ⌜ Wrote (now (out .entry)) at (vertexWords (isolinePoints (run lines) (run along))) (now (out .exit)) w ⌝ }
 {
     if lines.scaled == 65536 * lines.count {

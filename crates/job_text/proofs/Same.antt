@@ -96,7 +96,8 @@ module _ (bs cs : List ℕ) where
       ∙ ap (ofParts (byteAt cs b) (settingsAt cs b (topAt v cs b))) (bits-agree (a + s) (b + s) (later s 24 a b h))
 
   -- the text is the same
-  pub reply-agrees : (v : Version) (a b : ℕ) → Agree (recordSize v) bs a cs b → atEnd bs a ≡ atEnd cs b → incomplete v bs a ≡ incomplete v cs b → recordReply (recordAt v bs a) ≡ recordReply (recordAt v cs b)
+  pub reply-agrees : (v : Version) (a b : ℕ) → Agree (recordSize v) bs a cs b → atEnd bs a ≡ atEnd cs b → incomplete v bs a ≡ incomplete v cs b → recordReply
+      (recordAt v bs a) ≡ recordReply (recordAt v cs b)
   unfolding recordAt
   reply-agrees v a b h e c =
       let r = record-agrees v a b h in

@@ -93,7 +93,8 @@ counted x f w =
     let N = fineParts x in
     let n = fine-parts x f w in
     let same : mul binary64 x (fin false 1 (pos 23)) ≡ ofInt binary64 (pos N) =
-    mul-at binary64 x (fin false 1 (pos 23)) N 8388608 8388608 1 (is-positive x w) tt (lit< tt) (lit< tt) (n .value) (refl, refl) ∙ round-same binary64 false (N * 8388608) 8388608 N 1 (lit< tt) (lit< tt) (mul-one (N * 8388608)) in
+    mul-at binary64 x (fin false 1 (pos 23)) N 8388608 8388608 1 (is-positive x w) tt (lit< tt) (lit< tt) (n .value) (refl, refl) ∙ round-same binary64 false
+    (N * 8388608) 8388608 N 1 (lit< tt) (lit< tt) (mul-one (N * 8388608)) in
     let back = unsigned-back binary64 32 N (le→leb N (2 ^ 53) (omega arith)) (omega arith) in
     rw same (record {
       is-whole = back .0;

@@ -17,7 +17,8 @@ use Rattle.level.proofs.Top.{top-two}
 use Rattle.level.proofs.Scale.{level-parts}
 
 -- for a scaled level in its range
-valid-at : (s : Spacing) (t L : ℕ) → Top t → (scaledLevel (lowest s) ≤ L) × (L ≤ 65536 * mostSegments s t) → Valid (segmentsAt s L .count) (segmentsAt s L .scaled) × (segmentsAt s L .count ≤ mostSegments s t)
+valid-at : (s : Spacing) (t L : ℕ) → Top t → (scaledLevel (lowest s) ≤ L) × (L ≤ 65536 * mostSegments s t) → Valid (segmentsAt s L .count)
+    (segmentsAt s L .scaled) × (segmentsAt s L .count ≤ mostSegments s t)
 unfolding scaledLevel
 valid-at Equal t L top h = omega arith
 valid-at FractionalEven t L top h = omega arith

@@ -25,7 +25,8 @@ fn write_triangle(words: &mut [u32], e0: Segments, e1: Segments, e2: Segments) -
 
 // Writes the outline of a quad patch: all points of a patch with no inner points.
 fn write_quad(words: &mut [u32], e0: Segments, e1: Segments, e2: Segments, e3: Segments) -> usize
-    requires { ⌜ Valid (e0 .count) (e0 .scaled) × Valid (e1 .count) (e1 .scaled) × Valid (e2 .count) (e2 .scaled) × Valid (e3 .count) (e3 .scaled) ⌝ ∗ ⌜ 3 * around (run e0 ∷ run e1 ∷ run e2 ∷ run e3 ∷ []) ≤ length (now words) ⌝ }
+    requires { ⌜ Valid (e0 .count) (e0 .scaled) × Valid (e1 .count) (e1 .scaled) × Valid (e2 .count) (e2 .scaled) × Valid (e3 .count) (e3 .scaled) ⌝ ∗
+        ⌜ 3 * around (run e0 ∷ run e1 ∷ run e2 ∷ run e3 ∷ []) ≤ length (now words) ⌝ }
     ensures { λ r. ⌜ OutlineOf (ring quadPlace 0 (run e0 ∷ run e1 ∷ run e2 ∷ run e3 ∷ []) 0) (now (words .exit)) r ⌝ }
 {
     let one = Segments {

@@ -42,7 +42,8 @@ module _ (set : Settings) (top : Top (set .top)) (p : Patch) where
   -- the text fits into the room for one record
   pub text-fits : 28 + 33 * pointsOf set p + 18 * (indicesOf set p / widthOf (set .«point_mode») p) ≤ room
   text-fits =
-      rw (index-count set (subdivisionOf set p) (cut-valid (set .spacing) (set .top) top p)) (omega (arith, points-at-most (set .spacing) (set .top) top p, few-primitives (set .spacing) (set .top) top (set .«point_mode») p))
+      rw (index-count set (subdivisionOf set p) (cut-valid (set .spacing) (set .top) top p))
+      (omega (arith, points-at-most (set .spacing) (set .top) top p, few-primitives (set .spacing) (set .top) top (set .«point_mode») p))
 
 -- ---- the indices are whole primitives
 

@@ -106,7 +106,8 @@ equal-or x y P f g = elim (decLe x y) [
   | no p ↦ g (λ e. omega arith)
 ]
 
-module _ (ps : List Point) (slots n : ℕ) (t : List ℕ) (g : PointTable ps slots n t) (x : ℕ) (s : PointSought ps slots n t (at ps n) x) (z : getD t x 0 ≡ 0) (fits : slots + 2 * (n + 1) ≤ length t) where
+module _ (ps : List Point) (slots n : ℕ) (t : List ℕ) (g : PointTable ps slots n t) (x : ℕ) (s : PointSought ps slots n t (at ps n) x) (z : getD t x 0 ≡ 0)
+    (fits : slots + 2 * (n + 1) ≤ length t) where
   here : getD (set t x (n + 1)) x 0 ≡ n + 1
   here = getD-set-same t x (n + 1) 0 (omega (arith, s .place))
 

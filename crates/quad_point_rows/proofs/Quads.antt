@@ -29,12 +29,21 @@ inner-are rows columns =
 module _ {e0 e1 e2 e3 : List ℕ} (good : GoodRow e0 × GoodRow e1 × GoodRow e2 × GoodRow e3) (xs : List ℕ) (at : ℕ)
     (room : at + 3 * length (quadOutline (wholeEdge e0) (wholeEdge e1) (wholeEdge e2) (wholeEdge e3)) ≤ length xs) where
   outline-same : ring quadPlace 0 (listed (front e0) ∷ listed (front e1) ∷ listed (front e2) ∷ listed (front e3) ∷ []) 0 ≡ quadOutline (wholeEdge e0) (wholeEdge e1) (wholeEdge e2) (wholeEdge e3)
-  outline-same = ring-same quadPlace 0 0 (more (front-same e0 _ (front-size e0)) (more (front-same e1 _ (front-size e1)) (more (front-same e2 _ (front-size e2)) (more (front-same e3 _ (front-size e3)) none))))
+  outline-same = ring-same quadPlace 0 0 (more (front-same e0 _ (front-size e0)) (more (front-same e1 _ (front-size e1))
+      (more (front-same e2 _ (front-size e2)) (more (front-same e3 _ (front-size e3)) none))))
 
   pub edges-ready : (ClearOfEnds 0 (listed (front e0)) × ClearOfEnds 0 (listed (front e1)) × ClearOfEnds 0 (listed (front e2)) × ClearOfEnds 0 (listed (front e3)))
       × (at + 3 * length (ring quadPlace 0 (listed (front e0) ∷ listed (front e1) ∷ listed (front e2) ∷ listed (front e3) ∷ []) 0) ≤ length xs)
-  edges-ready =
-      ((front-clear e0 _ (front-size e0) (good .0), front-clear e1 _ (front-size e1) (good .1), front-clear e2 _ (front-size e2) (good .2), front-clear e3 _ (front-size e3) (good .3)), omega (arith, ap length outline-same, room))
+  edges-ready = (
+    (
+      front-clear e0 _ (front-size e0) (good .0),
+      front-clear e1 _ (front-size e1) (good .1),
+      front-clear e2 _ (front-size e2) (good .2),
+      front-clear e3 _
+          (front-size e3) (good .3),
+    ),
+    omega (arith, ap length outline-same, room),
+  )
 
   pub outline-written : {xs′ : List ℕ} {w : ℕ} → Wrote xs at (vertexWords (ring quadPlace 0 (listed (front e0) ∷ listed (front e1) ∷ listed (front e2) ∷ listed (front e3) ∷ []) 0)) xs′ w
       → Wrote xs at (vertexWords (quadOutline (wholeEdge e0) (wholeEdge e1) (wholeEdge e2) (wholeEdge e3))) xs′ w

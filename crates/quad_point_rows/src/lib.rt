@@ -29,8 +29,10 @@ fn write_edge(out: &mut [u32], at: usize, row: &[u32], k: u32) -> usize
 
 // Writes the edges of the outline from rows without their ends.
 fn write_edges(out: &mut [u32], at: usize, e0: &[u32], e1: &[u32], e2: &[u32], e3: &[u32]) -> usize
-    requires { ⌜ ClearOfEnds 0 (listed (now e0)) × ClearOfEnds 0 (listed (now e1)) × ClearOfEnds 0 (listed (now e2)) × ClearOfEnds 0 (listed (now e3)) ⌝ ∗ ⌜ at + 3 * length (ring quadPlace 0 (listed (now e0) ∷ listed (now e1) ∷ listed (now e2) ∷ listed (now e3) ∷ []) 0) ≤ length (now out) ⌝ }
-    ensures { λ w. ⌜ Wrote (now (out .entry)) at (vertexWords (ring quadPlace 0 (listed (now (e0 .entry)) ∷ listed (now (e1 .entry)) ∷ listed (now (e2 .entry)) ∷ listed (now (e3 .entry)) ∷ []) 0)) (now (out .exit)) w ⌝ }
+    requires { ⌜ ClearOfEnds 0 (listed (now e0)) × ClearOfEnds 0 (listed (now e1)) × ClearOfEnds 0 (listed (now e2)) × ClearOfEnds 0 (listed (now e3)) ⌝ ∗
+        ⌜ at + 3 * length (ring quadPlace 0 (listed (now e0) ∷ listed (now e1) ∷ listed (now e2) ∷ listed (now e3) ∷ []) 0) ≤ length (now out) ⌝ }
+    ensures { λ w. ⌜ Wrote (now (out .entry)) at (vertexWords (ring quadPlace 0 (listed (now (e0 .entry)) ∷ listed (now (e1 .entry)) ∷ listed
+        (now (e2 .entry)) ∷ listed (now (e3 .entry)) ∷ []) 0)) (now (out .exit)) w ⌝ }
 {
     let w = write_edge(out, at, e0, 0);
     let w = write_edge(out, w, e1, 1);
@@ -47,8 +49,10 @@ pub fn write_outline(
     e2: &[u32],
     e3: &[u32],
 ) -> usize
-    requires { ⌜ GoodRow (now e0) × GoodRow (now e1) × GoodRow (now e2) × GoodRow (now e3) ⌝ ∗ ⌜ at + 3 * length (quadOutline (wholeEdge (now e0)) (wholeEdge (now e1)) (wholeEdge (now e2)) (wholeEdge (now e3))) ≤ length (now out) ⌝ }
-    ensures { λ w. ⌜ Wrote (now (out .entry)) at (vertexWords (quadOutline (wholeEdge (now (e0 .entry))) (wholeEdge (now (e1 .entry))) (wholeEdge (now (e2 .entry))) (wholeEdge (now (e3 .entry))))) (now (out .exit)) w ⌝ }
+    requires { ⌜ GoodRow (now e0) × GoodRow (now e1) × GoodRow (now e2) × GoodRow (now e3) ⌝ ∗
+        ⌜ at + 3 * length (quadOutline (wholeEdge (now e0)) (wholeEdge (now e1)) (wholeEdge (now e2)) (wholeEdge (now e3))) ≤ length (now out) ⌝ }
+    ensures { λ w. ⌜ Wrote (now (out .entry)) at (vertexWords (quadOutline (wholeEdge (now (e0 .entry))) (wholeEdge (now (e1 .entry)))
+        (wholeEdge (now (e2 .entry))) (wholeEdge (now (e3 .entry))))) (now (out .exit)) w ⌝ }
 {
     let n0 = e0.len() - 1;
     let n1 = e1.len() - 1;

@@ -26,7 +26,8 @@ fn write_stored(
     rows: Segments,
     columns: Segments,
 ) -> usize
-    requires { ⌜ AllValid (e0 ∷ e1 ∷ e2 ∷ e3 ∷ rows ∷ columns ∷ []) ⌝ ∗ ⌜ AllStored (now table) (e0 ∷ e1 ∷ e2 ∷ e3 ∷ rows ∷ columns ∷ []) ⌝ ∗ ⌜ at + 3 * length (quadPatch (run e0) (run e1) (run e2) (run e3) (run rows) (run columns)) ≤ length (now out) ⌝ }
+    requires { ⌜ AllValid (e0 ∷ e1 ∷ e2 ∷ e3 ∷ rows ∷ columns ∷ []) ⌝ ∗ ⌜ AllStored (now table) (e0 ∷ e1 ∷ e2 ∷ e3 ∷ rows ∷ columns ∷ []) ⌝ ∗
+        ⌜ at + 3 * length (quadPatch (run e0) (run e1) (run e2) (run e3) (run rows) (run columns)) ≤ length (now out) ⌝ }
     ensures { λ w. ⌜ Wrote (now (out .entry)) at (vertexWords (quadPatch (run e0) (run e1) (run e2) (run e3) (run rows) (run columns))) (now (out .exit)) w ⌝ }
 {
     let r0 = row_of(table, e0);
@@ -104,7 +105,8 @@ fn write_by_width(
     rows: Segments,
     columns: Segments,
 ) -> usize
-    requires { ⌜ AllValid (e0 ∷ e1 ∷ e2 ∷ e3 ∷ rows ∷ columns ∷ []) ⌝ ∗ ⌜ Widths 0 (e0 ∷ e1 ∷ e2 ∷ e3 ∷ rows ∷ columns ∷ []) most ⌝ ∗ ⌜ at + 3 * length (quadPatch (run e0) (run e1) (run e2) (run e3) (run rows) (run columns)) ≤ length (now out) ⌝ }
+    requires { ⌜ AllValid (e0 ∷ e1 ∷ e2 ∷ e3 ∷ rows ∷ columns ∷ []) ⌝ ∗ ⌜ Widths 0 (e0 ∷ e1 ∷ e2 ∷ e3 ∷ rows ∷ columns ∷ []) most ⌝ ∗
+        ⌜ at + 3 * length (quadPatch (run e0) (run e1) (run e2) (run e3) (run rows) (run columns)) ≤ length (now out) ⌝ }
     ensures { λ w. ⌜ Wrote (now (out .entry)) at (vertexWords (quadPatch (run e0) (run e1) (run e2) (run e3) (run rows) (run columns))) (now (out .exit)) w ⌝ }
 {
     if most <= 16 {
@@ -134,7 +136,9 @@ pub fn write_quad_patch(
     rows: Segments,
     columns: Segments,
 ) -> usize
-    requires { ⌜ Valid (e0 .count) (e0 .scaled) × Valid (e1 .count) (e1 .scaled) × Valid (e2 .count) (e2 .scaled) × Valid (e3 .count) (e3 .scaled) ⌝ ∗ ⌜ Valid (rows .count) (rows .scaled) × Valid (columns .count) (columns .scaled) ⌝ ∗ ⌜ at + 3 * length (quadPatch (run e0) (run e1) (run e2) (run e3) (run rows) (run columns)) ≤ length (now out) ⌝ }
+    requires { ⌜ Valid (e0 .count) (e0 .scaled) × Valid (e1 .count) (e1 .scaled) × Valid (e2 .count) (e2 .scaled) × Valid (e3 .count) (e3 .scaled) ⌝ ∗
+        ⌜ Valid (rows .count) (rows .scaled) × Valid (columns .count) (columns .scaled) ⌝ ∗
+        ⌜ at + 3 * length (quadPatch (run e0) (run e1) (run e2) (run e3) (run rows) (run columns)) ≤ length (now out) ⌝ }
     ensures { λ w. ⌜ Wrote (now (out .entry)) at (vertexWords (quadPatch (run e0) (run e1) (run e2) (run e3) (run rows) (run columns))) (now (out .exit)) w ⌝ }
 {
     let most = width_of(e0, e1, e2, e3, rows, columns);

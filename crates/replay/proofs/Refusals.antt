@@ -44,7 +44,14 @@ module _ (bs : List ℕ) where
 
   -- an answer that equals `replayOf` satisfies the whole contract
   pub replay-said : {r : Replay} → r ≡ replayOf bs → ReplaySaid bs r
-  replay-said {r} e = record { is = e; exactly = λ x. (λ h. replay-exactly bs x .0 (sym e ∙ h), λ m. e ∙ replay-exactly bs x .1 m); refused-5 = numbered r e 4 refl; refused-6 = numbered r e 5 refl; refused-7 = numbered r e 6 refl }
+  replay-said {r} e = record {
+    is = e;
+    exactly = λ x. (λ h. replay-exactly bs x .0 (sym e ∙ h), λ m. e ∙ replay-exactly bs x .1 m);
+    refused-5 = numbered r e 4
+        refl;
+    refused-6 = numbered r e 5 refl;
+    refused-7 = numbered r e 6 refl;
+  }
 
   -- all agree: a header and n whole entries, each of which agrees
   pub all-agree : (n : ℕ) → replayOf bs ≡ AllAgree n ↔ Headed bs × (length bs ≡ 5 + entrySize * n) × AgreeBefore bs n

@@ -69,7 +69,8 @@ module _ (c : RecordedCall) where
 
   module _ (m : WasMade c) where
     read : recordAt One (entryBytes c) 0 ≡ Read (c .entry) (cursorAfter One 0)
-    read = record-same One (entryBytes c) 0 (c .entry) (m .writable) (m .levels) (subst (λ (n : ℕ). take n (entryBytes c) ≡ recordBytes One (c .entry)) (record-length One (c .entry)) (has-front (recordBytes One (c .entry)) (outcomeBytes (answeredOutcome c)) whole .is))
+    read = record-same One (entryBytes c) 0 (c .entry) (m .writable) (m .levels) (subst (λ (n : ℕ). take n (entryBytes c) ≡ recordBytes One (c .entry))
+        (record-length One (c .entry)) (has-front (recordBytes One (c .entry)) (outcomeBytes (answeredOutcome c)) whole .is))
 
     top : isTop (c .entry .settings .top) ≡ true
     top = read-top (entryBytes c) (c .entry) (cursorAfter One 0) (sym read)

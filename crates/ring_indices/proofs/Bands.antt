@@ -56,7 +56,8 @@ module _ (positive : Bool) (F : ℕ → ℕ) (o o′ : ℕ) (e : Edge) (i : Line
 
 -- ---- a band of three strips; each overwrites the extra triangle of the one before
 pub band-is : (positive : Bool) (F : ℕ → ℕ) (e0 e1 e2 : Edge) → indices positive (bandFrom F 0 (e0 ∷ e1 ∷ e2 ∷ []))
-    ≡ indices positive (strip (from 0 F) (e0 .line) (e0 .p) (e0 .r)) ++ (indices positive (strip (from (0 + e0 .p) F) (e1 .line) (e1 .p) (e1 .r)) ++ indices positive (strip (from (0 + e0 .p + e1 .p) F) (e2 .line) (e2 .p) (e2 .r)))
+    ≡ indices positive (strip (from 0 F) (e0 .line) (e0 .p) (e0 .r)) ++ (indices positive (strip (from (0 + e0 .p) F) (e1 .line) (e1 .p) (e1 .r)) ++ indices
+    positive (strip (from (0 + e0 .p + e1 .p) F) (e2 .line) (e2 .p) (e2 .r)))
 unfolding bandFrom
 band-is positive F e0 e1 e2 =
     let S0 = strip (from 0 F) (e0 .line) (e0 .p) (e0 .r) in

@@ -47,7 +47,8 @@ fn write_long_band(
     positive: bool,
 ) -> usize
     requires { ⌜ now pattern ≡ blockPattern positive ⌝ ∗ ⌜ (10 ≤ r) × (r ≤ 62) × (base < 8192) ⌝ ∗ ⌜ at + 3 * (3 * (r + 2) + 3 * r) ≤ length (now out) ⌝ }
-    ensures { λ w. ⌜ Wrote (now (out .entry)) at (indices positive (band (ringAt base (r + 2 + (r + 2) + (r + 2))) (ringEdges (base + (r + 2 + (r + 2) + (r + 2))) r (r + 2) (r + 2) (r + 2)))) (now (out .exit)) w ⌝ }
+    ensures { λ w. ⌜ Wrote (now (out .entry)) at (indices positive (band (ringAt base (r + 2 + (r + 2) + (r + 2)))
+        (ringEdges (base + (r + 2 + (r + 2) + (r + 2))) r (r + 2) (r + 2) (r + 2)))) (now (out .exit)) w ⌝ }
 {
     let p = r + 2;
     let x0 = base as u16;

@@ -29,7 +29,8 @@ module _ (set : Settings) (p : Patch) (ok : Bool) (n v i : ℕ) where
     where
       go : (t o x many few less : Bool) → isTop (set .top) ≡ t → ok ≡ o → discards p ≡ x → ltb 65535 (n + pointsOf set p) ≡ many
           → ltb v (3 * pointsOf set p) ≡ few → ltb i (indicesOf set p) ≡ less
-          → cond t (cond o (cond x (refused 1) (cond many (refused 13) (cond few (refused 3) (cond less (refused 4) (drewBoth (pointsOf set p) (indicesOf set p)))))) (refused 14)) (refused 11) .number ≡ 0
+          → cond t (cond o (cond x (refused 1) (cond many (refused 13) (cond few (refused 3)
+          (cond less (refused 4) (drewBoth (pointsOf set p) (indicesOf set p)))))) (refused 14)) (refused 11) .number ≡ 0
           → Passed set p ok n v i
       go false o x many few less a b c d e f h = absurd (omega arith)
       go true false x many few less a b c d e f h = absurd (omega arith)

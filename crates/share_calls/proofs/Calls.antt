@@ -140,7 +140,8 @@ module _ (s : Session) (g : Good s) where
   pub length-step : (c : RawCall) → (length (step s c .vertices) ≡ length (s .vertices)) × (length (step s c .indices) ≡ length (s .indices))
   length-step c = go (standsAgainst s c .number)
     where
-      go : (n : ℕ) → (length (unlessRefused n (runs.sessionAfter s (callOf c)) s .vertices) ≡ length (s .vertices)) × (length (unlessRefused n (runs.sessionAfter s (callOf c)) s .indices) ≡ length (s .indices))
+      go : (n : ℕ) → (length (unlessRefused n (runs.sessionAfter s (callOf c)) s .vertices) ≡ length (s .vertices)) ×
+          (length (unlessRefused n (runs.sessionAfter s (callOf c)) s .indices) ≡ length (s .indices))
       go zero = length-next s g (callOf c)
       go (suc n) = (refl, refl)
 

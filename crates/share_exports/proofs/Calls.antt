@@ -114,7 +114,8 @@ called-as : (bs : List ℕ) (d : ℕ) {e e′ : Designer} {s s′ : State} {set 
     → e ≡ e′ → s ≡ s′ → set ≡ set′ → p ≡ p′ → DrawAsked bs d e s set p w w′ v v′ i i′ c′ r → DrawAsked bs d e′ s′ set′ p′ w w′ v v′ i i′ c′ r
 called-as bs d a b c f h = rw (← a, ← b, ← c, ← f) h
 
-module _ (bs : List ℕ) (xs : List Float) (d : ℕ) (w v i : List ℕ) {s : State} (state : s ≡ stateIn w) {reply : Reply} (is : IsReply (asked bs d (accepted (length v) (length i) s) done) reply) {c′ : List ℕ} {r : ℕ} where
+module _ (bs : List ℕ) (xs : List Float) (d : ℕ) (w v i : List ℕ) {s : State} (state : s ≡ stateIn w) {reply : Reply}
+    (is : IsReply (asked bs d (accepted (length v) (length i) s) done) reply) {c′ : List ℕ} {r : ℕ} where
   -- a refusal leaves everything as it was
   pub draw-refused : 0 < reply .number → (r ≡ reply .number) × (c′ ≡ reply .first ∷ reply .second ∷ []) → DrawCalled bs xs d w w v v i i c′ r
   draw-refused h said = called-as bs d refl state refl refl (go (asked bs d (accepted (length v) (length i) s) done .number) refl)

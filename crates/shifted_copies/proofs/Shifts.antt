@@ -86,7 +86,10 @@ left-front {out} {rest} {xs} {ys} {w} {at} done e h l =
     let q : length (P ++ done) ≡ w = length-append P done ∙ omega arith in
     let o : length (take w out) ≡ w = length-take w out ∙ omega arith in
     let here : take w (over out w rest) ≡ take w out = take-at (take w out) (rest ++ drop (w + length rest) out) w o in
-    let there : over xs at ys ≡ (P ++ done) ++ (rest ++ drop (at + length ys) xs) = rw (ap (over xs at) e, append-assoc done rest (drop (at + length (done ++ rest)) xs)) (sym (append-assoc P done (rest ++ drop (at + length (done ++ rest)) xs)) ∙ ap (λ (m : List ℕ). P ++ done ++ (rest ++ drop (at + length m) xs)) (sym e)) in
+    let there : over xs at ys ≡ (P ++ done) ++ (rest ++ drop (at + length ys) xs) =
+    rw (ap (over xs at) e, append-assoc done rest (drop (at + length (done ++ rest)) xs))
+    (sym (append-assoc P done (rest ++ drop (at + length (done ++ rest)) xs)) ∙ ap (λ (m : List ℕ). P ++ done ++ (rest ++ drop (at + length m) xs))
+    (sym e)) in
     sym here ∙ ap (take w) (l .is) ∙ ap (take w) there ∙ take-at (P ++ done) (rest ++ drop (at + length ys) xs) w q
 
 -- a counting loop has written the pieces before the current one
@@ -99,7 +102,8 @@ counted {f} {i} {n} h c =
 pub count-keeps : {f : ℕ → List ℕ} {i n : ℕ} {out : List ℕ} {w : ℕ} {xs : List ℕ} {at : ℕ} → at ≤ length xs → Counting f i n out w xs at → (j : ℕ) → j < at → getD out j 0 ≡ getD xs j 0
 count-keeps {f} {i} {n} {out} {w} {xs} {at} h c j l =
     let front = counted h c in
-    let sizes : min w (length out) ≡ min at (length xs) + length (flat f 0 i) = sym (length-take w out) ∙ ap length front ∙ length-append (take at xs) (flat f 0 i) ∙ ap (λ (k : ℕ). k + length (flat f 0 i)) (length-take at xs) in
+    let sizes : min w (length out) ≡ min at (length xs) + length (flat f 0 i) = sym (length-take w out) ∙ ap length front ∙ length-append (take at xs)
+    (flat f 0 i) ∙ ap (λ (k : ℕ). k + length (flat f 0 i)) (length-take at xs) in
     let below : j < w = omega arith in
     let inside : j < length (take at xs) = rw (length-take at xs) (omega arith) in
     sym (getD-take w out j 0 below) ∙ ap (λ (m : List ℕ). getD m j 0) front ∙ List·getD-append (take at xs) (flat f 0 i) 0 j inside ∙ getD-take at xs j 0 l

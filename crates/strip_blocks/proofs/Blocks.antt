@@ -50,7 +50,8 @@ module _ (by : ℕ) (xs : List ℕ) where
       let t : i + 1 ≡ length F + 1 = omega arith in
       let v : w ≡ suc i = omega (arith, p .next) in
       let front : take i ys ≡ F = ap (take i) (r .is) ∙ take-at F (drop i xs) i n in
-      let back : drop (i + 1) ys ≡ drop (suc i) xs = ap (drop (i + 1)) (r .is) ∙ ap (λ (k : ℕ). drop k (F ++ drop i xs)) t ∙ drop-append-add F (drop i xs) 1 ∙ drop-drop 1 i xs ∙ ap (λ (k : ℕ). drop k xs) s in
+      let back : drop (i + 1) ys ≡ drop (suc i) xs = ap (drop (i + 1)) (r .is) ∙ ap (λ (k : ℕ). drop k (F ++ drop i xs)) t ∙ drop-append-add F (drop i xs) 1 ∙
+      drop-drop 1 i xs ∙ ap (λ (k : ℕ). drop k xs) s in
       let word : x ≡ getD xs i 0 = e ∙ raise-read i h r in
       record { is = p .is ∙ rw (front, back, word, v, take-suc xs i 0 h, shifted-append) (simp append-assoc) }
 
@@ -178,7 +179,9 @@ module _ (A B : ℕ → ℕ) (positive : Bool) where
         let zero-on : (i : ℕ) → 0 + i ≡ i = λ i. omega arith in
         let last = pair-on x y h h h (outer h (omega arith)) (outer (suc h) (omega arith)) (inner h (omega arith)) (inner (suc h) (omega arith)) in
         ap (flat (pairOn positive x y) 0) s ∙ flat-last (pairOn positive x y) 0 h ∙ ap (λ (k : ℕ). flat (pairOn positive x y) 0 h ++ pairOn positive x y k) z
-        ∙ rw (pairs-on x y 0 0 h (λ i l. ap A (zero-on i) ∙ outer i (omega arith)) (λ i l. ap B (zero-on i) ∙ inner i (omega arith)), last, two-steps h h) (sym (append-assoc (pairWords A B positive 0 0 h) (indices positive (stepTriangle A B true h h ∷ [])) (indices positive (stepTriangle A B false (suc h) h ∷ []))))
+        ∙ rw (pairs-on x y 0 0 h (λ i l. ap A (zero-on i) ∙ outer i (omega arith)) (λ i l. ap B (zero-on i) ∙ inner i (omega arith)), last, two-steps h h)
+        (sym (append-assoc (pairWords A B positive 0 0 h) (indices positive (stepTriangle A B true h h ∷ []))
+        (indices positive (stepTriangle A B false (suc h) h ∷ []))))
 
     second-half : flat (pairOn positive (x + (r / 2 + 1)) (y + r / 2)) 0 (r - r / 2 - 1) ≡ pairWords A B positive (r / 2 + 1) (r / 2) (r - r / 2 - 1)
     second-half =
@@ -221,11 +224,14 @@ module _ (positive : Bool) (x y r : ℕ) (many : 10 ≤ r) where
       let first =
       pairs-on (on x) (on y) positive (x + (h + 1)) (y + h) (h + 1) h n (λ i l. ap (λ (k : ℕ). k % 65536) (omega arith)) (λ i l. ap (λ (k : ℕ). k % 65536) (omega arith)) in
       let last =
-      pair-on (on x) (on y) positive (x + (h + 1)) (y + h) n (r + 1) r (ap (λ (k : ℕ). k % 65536) (omega arith)) (ap (λ (k : ℕ). k % 65536) (omega arith)) (ap (λ (k : ℕ). k % 65536) (omega arith)) (ap (λ (k : ℕ). k % 65536) (omega arith)) in
+      pair-on (on x) (on y) positive (x + (h + 1)) (y + h) n (r + 1) r (ap (λ (k : ℕ). k % 65536) (omega arith)) (ap (λ (k : ℕ). k % 65536) (omega arith))
+      (ap (λ (k : ℕ). k % 65536) (omega arith)) (ap (λ (k : ℕ). k % 65536) (omega arith)) in
       ap (flat f 0) s ∙ flat-last f 0 n ∙ ap (λ (k : ℕ). flat f 0 n ++ f k) z
       ∙ rw (first, last, two-steps (on x) (on y) positive (r + 1) r)
-      (sym (append-assoc (pairWords (on x) (on y) positive (h + 1) h n) (indices positive (stepTriangle (on x) (on y) true (r + 1) r ∷ [])) (indices positive (stepTriangle (on x) (on y) false (suc (r + 1)) r ∷ []))))
-      ∙ ap (λ (k : ℕ). pairWords (on x) (on y) positive (h + 1) h n ++ indices positive (stepTriangle (on x) (on y) true (r + 1) r ∷ []) ++ indices positive (stepTriangle (on x) (on y) false k r ∷ [])) t
+      (sym (append-assoc (pairWords (on x) (on y) positive (h + 1) h n) (indices positive (stepTriangle (on x) (on y) true (r + 1) r ∷ []))
+      (indices positive (stepTriangle (on x) (on y) false (suc (r + 1)) r ∷ []))))
+      ∙ ap (λ (k : ℕ). pairWords (on x) (on y) positive (h + 1) h n ++ indices positive (stepTriangle (on x) (on y) true (r + 1) r ∷ []) ++ indices positive
+      (stepTriangle (on x) (on y) false k r ∷ [])) t
 
   pub open-wrote : {xs mid out : List ℕ} {at w v w′ u : ℕ} → at ≤ length xs → Wrote xs at (flat (pairOn positive x y) 0 (r / 2 + 1)) mid w → v ≡ at + 6 * (r / 2) + 3
       → Wrote mid v (flat (pairOn positive (x + (r / 2 + 1)) (y + r / 2)) 0 (r - r / 2 + 1)) out w′ → w′ ≡ u

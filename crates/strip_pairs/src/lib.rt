@@ -41,7 +41,8 @@ pub fn write_pairs(
     second: u16,
     positive: bool,
 ) -> Reached
-    requires { ⌜ outer .count ≤ 64 ⌝ ∗ ⌜ inner .count ≤ 64 ⌝ ∗ ⌜ (a + n < outer .count) × (b + n ≤ inner .count - 1) ⌝ ∗ ⌜ (first ≡ vertex outer a) × (second ≡ vertex inner b) ⌝ ∗ ⌜ at + 6 * n ≤ length (now out) ⌝ }
+    requires { ⌜ outer .count ≤ 64 ⌝ ∗ ⌜ inner .count ≤ 64 ⌝ ∗ ⌜ (a + n < outer .count) × (b + n ≤ inner .count - 1) ⌝ ∗
+        ⌜ (first ≡ vertex outer a) × (second ≡ vertex inner b) ⌝ ∗ ⌜ at + 6 * n ≤ length (now out) ⌝ }
     ensures { λ r. ⌜ Paired (vertex outer) (vertex inner) positive a b n (now (out .entry)) at (now (out .exit)) (r .to) (r .x) (r .y) ⌝ }
 {
     let mut x = first;
@@ -75,8 +76,10 @@ pub fn write_last(
     y: u16,
     positive: bool,
 ) -> usize
-    requires { ⌜ outer .count ≡ inner .count + 2 ⌝ ∗ ⌜ (1 ≤ inner .count) × (inner .count ≤ 62) ⌝ ∗ ⌜ x ≡ vertex outer (inner .count) ⌝ ∗ ⌜ y ≡ vertex inner (inner .count - 1) ⌝ ∗ ⌜ at + 9 ≤ length (now out) ⌝ }
-    ensures { λ w. ⌜ Wrote (now (out .entry)) at (indices positive (pair (vertex outer) (vertex inner) (inner .count) (inner .count - 1)) ++ indices positive (stepTriangle (vertex outer) (vertex inner) true (inner .count + 1) (inner .count) ∷ [])) (now (out .exit)) w ⌝ }
+    requires { ⌜ outer .count ≡ inner .count + 2 ⌝ ∗ ⌜ (1 ≤ inner .count) × (inner .count ≤ 62) ⌝ ∗ ⌜ x ≡ vertex outer (inner .count) ⌝ ∗
+        ⌜ y ≡ vertex inner (inner .count - 1) ⌝ ∗ ⌜ at + 9 ≤ length (now out) ⌝ }
+    ensures { λ w. ⌜ Wrote (now (out .entry)) at (indices positive (pair (vertex outer) (vertex inner) (inner .count) (inner .count - 1)) ++ indices positive
+        (stepTriangle (vertex outer) (vertex inner) true (inner .count + 1) (inner .count) ∷ [])) (now (out .exit)) w ⌝ }
 {
     let r = inner.count;
     let u = outer.next(r, x);
@@ -95,7 +98,8 @@ pub fn write_last(
 // Writes the two triangles between an outer line of two segments and an inner line that is a single vertex.
 pub fn write_fan(out: &mut [u16], at: usize, outer: Line, inner: Line, positive: bool) -> usize
     requires { ⌜ (outer .count ≡ 2) × (inner .count ≡ 0) ⌝ ∗ ⌜ at + 6 ≤ length (now out) ⌝ }
-    ensures { λ w. ⌜ Wrote (now (out .entry)) at (indices positive (stepTriangle (vertex outer) (vertex inner) true 0 0 ∷ stepTriangle (vertex outer) (vertex inner) true 1 0 ∷ [])) (now (out .exit)) w ⌝ }
+    ensures { λ w. ⌜ Wrote (now (out .entry)) at (indices positive (stepTriangle (vertex outer) (vertex inner) true 0 0 ∷ stepTriangle (vertex outer)
+        (vertex inner) true 1 0 ∷ [])) (now (out .exit)) w ⌝ }
 {
     let x = outer.vertex_at(0);
     let y = inner.vertex_at(0);

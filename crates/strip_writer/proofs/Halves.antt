@@ -52,7 +52,8 @@ module _ {outer inner : Line} {xs : List ℕ} {at : ℕ} (s : Alternate outer in
     step-end : w₂ ≡ w₁ + 3
     step-end = t .next
 
-    pub pairs-ready : (outer .count ≤ 64) × ((inner .count ≤ 64) × (((inner .count / 2 + 1 + (inner .count - inner .count / 2 - 1) < outer .count) × (inner .count / 2 + (inner .count - inner .count / 2 - 1) ≤ inner .count - 1))
+    pub pairs-ready : (outer .count ≤ 64) × ((inner .count ≤ 64) × (((inner .count / 2 + 1 + (inner .count - inner .count / 2 - 1) < outer .count) ×
+        (inner .count / 2 + (inner .count - inner .count / 2 - 1) ≤ inner .count - 1))
         × (((u ≡ vertex outer (inner .count / 2 + 1)) × (y ≡ vertex inner (inner .count / 2))) × (w₂ + 6 * (inner .count - inner .count / 2 - 1) ≤ length xs₂))))
     pairs-ready =
         let e : suc (inner .count / 2) ≡ inner .count / 2 + 1 = omega arith in
@@ -67,11 +68,20 @@ module _ {outer inner : Line} {xs : List ℕ} {at : ℕ} (s : Alternate outer in
           let h = inner .count / 2 in
           let e : h + 1 + (inner .count - h - 1) ≡ inner .count = omega (arith, s .some) in
           let f : h + (inner .count - h - 1) ≡ inner .count - 1 = omega (arith, s .some) in
-          let end = pairs-length (vertex outer) (vertex inner) positive (h + 1) h (inner .count - h - 1) in
-          (s .two, (omega (arith, s .two, s .few, s .some), (q .outer ∙ ap (vertex outer) e, (q .inner ∙ ap (vertex inner) f, omega (arith, first-end, step-end, q .wrote .next, end, l, m, k, s .room, s .two, s .some)))))
+          let end = pairs-length (vertex outer) (vertex inner) positive (h + 1) h (inner .count - h - 1) in (
+            s .two,
+            (
+              omega (arith, s .two, s .few, s .some),
+              (
+                q .outer ∙ ap (vertex outer) e,
+                (q .inner ∙ ap (vertex inner) f, omega (arith, first-end, step-end, q .wrote .next, end, l, m, k, s .room, s .two, s .some)),
+              ),
+            ),
+          )
 
       pub strip-written : {xs₄ : List ℕ} {w₄ : ℕ}
-          → Wrote xs₃ w₃ (indices positive (pair (vertex outer) (vertex inner) (inner .count) (inner .count - 1)) ++ indices positive (stepTriangle (vertex outer) (vertex inner) true (inner .count + 1) (inner .count) ∷ [])) xs₄ w₄
+          → Wrote xs₃ w₃ (indices positive (pair (vertex outer) (vertex inner) (inner .count) (inner .count - 1)) ++ indices positive
+          (stepTriangle (vertex outer) (vertex inner) true (inner .count + 1) (inner .count) ∷ [])) xs₄ w₄
           → Wrote xs at (indices positive (strip (vertex outer) (vertex inner) (outer .count) (inner .count))) xs₄ w₄
       unfolding indices
       strip-written last =

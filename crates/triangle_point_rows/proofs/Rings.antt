@@ -89,7 +89,14 @@ module _ (row : List ℕ) (n : ℕ) (e : n ≡ length row - 1) (some : 2 ≤ len
       let m : i < n = omega (arith, front-length row n e) in
       let z : last - 0 ≡ last = omega arith in
       let corners : placeIn row 0 + placeIn row last ≡ 65536 = rw z at (g .mirrors 0 (omega arith)) in
-      omega (arith, getD-take n row i 0 m, getD-take n row 0 0 (omega arith), far (placeIn row) last (λ j k. g .rises j (omega arith)) 0 i (omega arith) (omega arith), far (placeIn row) last (λ j k. g .rises j (omega arith)) i last (omega arith) (omega arith))
+      omega (
+        arith,
+        getD-take n row i 0 m,
+        getD-take n row 0 0 (omega arith),
+        far (placeIn row) last (λ j k. g .rises j (omega arith)) 0 i (omega arith)
+            (omega arith),
+        far (placeIn row) last (λ j k. g .rises j (omega arith)) i last (omega arith) (omega arith),
+      )
 
 -- or the centre
 pub centre-last : (row : List ℕ) → length row ≡ 1 → vertexWords (ringsOf row) ≡ coordinateWords centre

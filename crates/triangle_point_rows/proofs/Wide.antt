@@ -62,7 +62,8 @@ word-at : (F R : List ℕ) (j k : ℕ) → j ≡ length F + k → getD (F ++ R) 
 word-at F R j k e = ap (λ (l : ℕ). getD (F ++ R) l 0) e ∙ getD-append-add F R k 0
 
 module _ (P : ℕ → Point) (n : ℕ) {zs xs : List ℕ} {w : ℕ} (p : Wrote zs 0 (vertexWords (table P n)) xs w) where
-  split : (i : ℕ) → i < n → xs ≡ flat (λ j. coordinateWords (P j)) 0 i ++ (coordinateWords (P i) ++ (flat (λ j. coordinateWords (P j)) (i + 1) (n - (i + 1)) ++ drop (0 + length (vertexWords (table P n))) zs))
+  split : (i : ℕ) → i < n → xs ≡ flat (λ j. coordinateWords (P j)) 0 i ++ (coordinateWords (P i) ++
+      (flat (λ j. coordinateWords (P j)) (i + 1) (n - (i + 1)) ++ drop (0 + length (vertexWords (table P n))) zs))
   unfolding over
   split i h =
       let f : ℕ → List ℕ = λ j. coordinateWords (P j) in
@@ -138,8 +139,10 @@ module _ {base other row : List ℕ} {from : ℕ} (laid : Laid base other from r
       let e = depth-is in
       let f = place-is i h in
       let u : (getD base (from + 3 * i) 0 + 2 * getD row 0 0) % 4294967296 ≡ 2 * d = omega (arith, laid .opposite i (omega arith)) in
-      let v : (getD base (from + 3 * i + 1) 0 + less) % 4294967296 ≡ 196608 - (3 * x + d) = taken-from _ (196608 - 3 * placeIn row i) (getD row 0 0) d less _ is (laid .start i (omega arith)) (sym e) (omega arith) (omega arith) (omega arith) in
-      let w : (getD base (from + 3 * i + 2) 0 + less) % 4294967296 ≡ 3 * x - d = taken-from _ (3 * placeIn row i) (getD row 0 0) d less _ is (laid .end i (omega arith)) (sym e) (omega arith) (omega arith) (omega arith) in
+      let v : (getD base (from + 3 * i + 1) 0 + less) % 4294967296 ≡ 196608 - (3 * x + d) = taken-from _ (196608 - 3 * placeIn row i) (getD row 0 0) d less _ is
+      (laid .start i (omega arith)) (sym e) (omega arith) (omega arith) (omega arith) in
+      let w : (getD base (from + 3 * i + 2) 0 + less) % 4294967296 ≡ 3 * x - d = taken-from _ (3 * placeIn row i) (getD row 0 0) d less _ is
+      (laid .end i (omega arith)) (sym e) (omega arith) (omega arith) (omega arith) in
       rw (u, v, w))
 
   pub edge-one : flat (sums other from less (2 * getD row 0 0) less) 0 (length row - 1)
@@ -152,9 +155,11 @@ module _ {base other row : List ℕ} {from : ℕ} (laid : Laid base other from r
       let c = clear i (omega (arith, size)) in
       let e = depth-is in
       let f = place-is i h in
-      let u : (getD other (from + 3 * i) 0 + less) % 4294967296 ≡ 3 * x - d = taken-from _ (3 * placeIn row i) (getD row 0 0) d less _ is (laid .other-end i (omega arith)) (sym e) (omega arith) (omega arith) (omega arith) in
+      let u : (getD other (from + 3 * i) 0 + less) % 4294967296 ≡ 3 * x - d = taken-from _ (3 * placeIn row i) (getD row 0 0) d less _ is
+      (laid .other-end i (omega arith)) (sym e) (omega arith) (omega arith) (omega arith) in
       let v : (getD other (from + 3 * i + 1) 0 + 2 * getD row 0 0) % 4294967296 ≡ 2 * d = omega (arith, laid .other-opposite i (omega arith)) in
-      let w : (getD other (from + 3 * i + 2) 0 + less) % 4294967296 ≡ 196608 - (3 * x + d) = taken-from _ (196608 - 3 * placeIn row i) (getD row 0 0) d less _ is (laid .other-start i (omega arith)) (sym e) (omega arith) (omega arith) (omega arith) in
+      let w : (getD other (from + 3 * i + 2) 0 + less) % 4294967296 ≡ 196608 - (3 * x + d) = taken-from _ (196608 - 3 * placeIn row i) (getD row 0 0) d less _
+      is (laid .other-start i (omega arith)) (sym e) (omega arith) (omega arith) (omega arith) in
       rw (u, v, w))
 
   pub edge-two : flat (sums base (from + 1) less less (2 * getD row 0 0)) 0 (length row - 1)
@@ -170,7 +175,10 @@ module _ {base other row : List ℕ} {from : ℕ} (laid : Laid base other from r
       let first : from + 1 + 3 * i ≡ from + 3 * i + 1 = omega arith in
       let second : from + 1 + 3 * i + 1 ≡ from + 3 * i + 2 = omega arith in
       let third : from + 1 + 3 * i + 2 ≡ from + 3 * (i + 1) = omega arith in
-      let u : (getD base (from + 1 + 3 * i) 0 + less) % 4294967296 ≡ 196608 - (3 * x + d) = rw first (taken-from _ (196608 - 3 * placeIn row i) (getD row 0 0) d less _ is (laid .start i (omega arith)) (sym e) (omega arith) (omega arith) (omega arith)) in
-      let v : (getD base (from + 1 + 3 * i + 1) 0 + less) % 4294967296 ≡ 3 * x - d = rw second (taken-from _ (3 * placeIn row i) (getD row 0 0) d less _ is (laid .end i (omega arith)) (sym e) (omega arith) (omega arith) (omega arith)) in
+      let u : (getD base (from + 1 + 3 * i) 0 + less) % 4294967296 ≡ 196608 - (3 * x + d) = rw first
+      (taken-from _ (196608 - 3 * placeIn row i) (getD row 0 0) d less _ is (laid .start i (omega arith)) (sym e) (omega arith) (omega arith)
+      (omega arith)) in
+      let v : (getD base (from + 1 + 3 * i + 1) 0 + less) % 4294967296 ≡ 3 * x - d = rw second
+      (taken-from _ (3 * placeIn row i) (getD row 0 0) d less _ is (laid .end i (omega arith)) (sym e) (omega arith) (omega arith) (omega arith)) in
       let w : (getD base (from + 1 + 3 * i + 2) 0 + 2 * getD row 0 0) % 4294967296 ≡ 2 * d = rw third (omega (arith, laid .opposite (i + 1) (omega arith))) in
       rw (u, v, w))

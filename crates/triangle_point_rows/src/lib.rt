@@ -32,7 +32,8 @@ fn write_edge(out: &mut [u32], at: usize, row: &[u32], depth: u32, high: u32, k:
 
 // Writes the edges of the outline, from rows without their ends.
 fn write_edges(out: &mut [u32], at: usize, e0: &[u32], e1: &[u32], e2: &[u32]) -> usize
-    requires { ⌜ ClearOfEnds 0 (listed (now e0)) × ClearOfEnds 0 (listed (now e1)) × ClearOfEnds 0 (listed (now e2)) ⌝ ∗ ⌜ at + 3 * length (ring trianglePlace 0 (listed (now e0) ∷ listed (now e1) ∷ listed (now e2) ∷ []) 0) ≤ length (now out) ⌝ }
+    requires { ⌜ ClearOfEnds 0 (listed (now e0)) × ClearOfEnds 0 (listed (now e1)) × ClearOfEnds 0 (listed (now e2)) ⌝ ∗
+        ⌜ at + 3 * length (ring trianglePlace 0 (listed (now e0) ∷ listed (now e1) ∷ listed (now e2) ∷ []) 0) ≤ length (now out) ⌝ }
     ensures { λ w. ⌜ Wrote (now (out .entry)) at (vertexWords (ring trianglePlace 0 (listed (now (e0 .entry)) ∷ listed (now (e1 .entry)) ∷ listed (now (e2 .entry)) ∷ []) 0)) (now (out .exit)) w ⌝ }
 {
     let w = write_edge(out, at, e0, 0, 196608, 0);
@@ -172,7 +173,9 @@ fn write_wide_ring(
     from: usize,
     row: &[u32],
 ) -> usize
-    requires { ⌜ 9 ≤ length (now row) ⌝ ∗ ⌜ Laid (now base) (now other) from (now row) ⌝ ∗ ⌜ ClearOfEnds (placeIn (take (length (now row) - 1) (now row)) 0) (listed (take (length (now row) - 1) (now row))) ⌝ ∗ ⌜ at + 3 * length (ringPoints (take (length (now row) - 1) (now row))) ≤ length (now out) ⌝ }
+    requires { ⌜ 9 ≤ length (now row) ⌝ ∗ ⌜ Laid (now base) (now other) from (now row) ⌝ ∗
+        ⌜ ClearOfEnds (placeIn (take (length (now row) - 1) (now row)) 0) (listed (take (length (now row) - 1) (now row))) ⌝ ∗
+        ⌜ at + 3 * length (ringPoints (take (length (now row) - 1) (now row))) ≤ length (now out) ⌝ }
     ensures { λ w. ⌜ Wrote (now (out .entry)) at (vertexWords (ringPoints (take (length (now (row .entry)) - 1) (now (row .entry))))) (now (out .exit)) w ⌝ }
 {
     let n = row.len() - 1;

@@ -44,7 +44,8 @@ fn is_at(indices: &[u16], m: usize, link: u32, t: Triangle) -> bool
 // Whether one of the first n triangles is t, up to rotation; `from` is one more than the last of their sides that starts at t's
 // first corner, or 0.
 fn walk(indices: &[u16], heads: &[u16], links: &[u32], n: usize, from: usize, t: Triangle) -> bool
-    requires { ⌜ Linked (readTriangles (now indices)) (length (now indices) / 3 * 3) (now heads) (now links) ⌝ ∗ ⌜ n ≤ length (now indices) / 3 ⌝ ∗ ⌜ from ≡ lastFrom (readTriangles (now indices)) (n * 3) (t .a) ⌝ }
+    requires { ⌜ Linked (readTriangles (now indices)) (length (now indices) / 3 * 3) (now heads) (now links) ⌝ ∗ ⌜ n ≤ length (now indices) / 3 ⌝ ∗
+        ⌜ from ≡ lastFrom (readTriangles (now indices)) (n * 3) (t .a) ⌝ }
     ensures { λ r. ⌜ r ≡ someFace (readTriangles (now (indices .entry))) t n ⌝ }
 {
     let mut k = from;

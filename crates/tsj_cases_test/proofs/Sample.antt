@@ -39,7 +39,8 @@ sampleJob =
 
 -- the text of that job
 pub sample-text : jobText sampleJob ≡ bytes "TSJ 1\ndrawn 4 9\n0 196608 0\n0 0 196608\n196608 0 0\n65536 65536 65536\n0 1 3\n1 2 3\n2 0 3\n"
-unfolding ofBits ofInt isNan le scaledLevel segmentsOf asInner position table outerNext stripFrom indices ringAt bandFrom nest some every subdivision ring rings points triangles indexWords vertexWords word
+unfolding ofBits ofInt isNan le scaledLevel segmentsOf asInner position table outerNext stripFrom indices ringAt bandFrom nest some every subdivision ring rings
+    points triangles indexWords vertexWords word
     startsWith headerOf firstOver unknownPlace recordOf recordAt flat digitsIn digits line rows drawnText recordTexts jobText
 sample-text = refl
 
@@ -50,6 +51,7 @@ sampleTwo =
 
 -- the text of that job
 pub sample-two-text : jobText sampleTwo ≡ bytes "TSJ 2\ndrawn 4 9\n0 196608 0\n0 0 196608\n196608 0 0\n65536 65536 65536\n0 1 3\n1 2 3\n2 0 3\n"
-unfolding ofBits ofInt isNan le scaledLevel segmentsOf asInner position table outerNext stripFrom indices ringAt bandFrom nest some every subdivision ring rings points triangles indexWords vertexWords word
+unfolding ofBits ofInt isNan le scaledLevel segmentsOf asInner position table outerNext stripFrom indices ringAt bandFrom nest some every subdivision ring rings
+    points triangles indexWords vertexWords word
     startsWith headerOf firstOver unknownPlace recordOf recordAt flat digitsIn digits line rows drawnText recordTexts jobText
 sample-two-text = refl

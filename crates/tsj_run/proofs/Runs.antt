@@ -97,7 +97,8 @@ module _ {hs bs : List ℕ} {start : Start} {r : Answered} (a : AnsweredHeader h
       let cs = pieces (r .last .failed) (b .earlier) (take (r .last .count) bs) in
       let head = taken-whole (rw h at (a .taken)) g in
       let length-is =
-      text-length front cs (omega (arith, a .read .counts, a .read .most)) (subst (λ (x : Rest). WholeAfter x cs) follows (whole-pieces (start .rest) b)) (λ n. none-read (start .rest) b (follows ∙ n)) in
+      text-length front cs (omega (arith, a .read .counts, a .read .most)) (subst (λ (x : Rest). WholeAfter x cs) follows (whole-pieces (start .rest) b))
+      (λ n. none-read (start .rest) b (follows ∙ n)) in
       rw (length-is, ← head, ← follows) (taken-after (b .taken) (start .output .count))
 
   pub ran : JobRan hs bs (record { start = start; records = r })

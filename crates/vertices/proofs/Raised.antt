@@ -50,7 +50,8 @@ raised-more v i ws h =
     let size : 3 * (i + 1) ≡ 3 * i + 3 = omega arith in
     let three : take 3 (drop (3 * i) ws) ≡ a ∷ b ∷ c ∷ [] = ap (take 3) next in
     let front : withSecond v (take (3 * (i + 1)) ws) ≡ A ++ (a ∷ v ∷ c ∷ []) =
-    ap (λ (k : ℕ). withSecond v (take k ws)) size ∙ ap (withSecond v) (take-add (3 * i) 3 ws ∙ ap (λ (l : List ℕ). take (3 * i) ws ++ l) three) ∙ raised-append v i (take (3 * i) ws) (a ∷ b ∷ c ∷ []) t in
+    ap (λ (k : ℕ). withSecond v (take k ws)) size ∙ ap (withSecond v) (take-add (3 * i) 3 ws ∙ ap (λ (l : List ℕ). take (3 * i) ws ++ l) three) ∙ raised-append
+    v i (take (3 * i) ws) (a ∷ b ∷ c ∷ []) t in
     let past : 3 * (i + 1) ≡ suc (suc (suc (3 * i))) = omega arith in
     let back : drop (3 * (i + 1)) ws ≡ D = ap (λ (k : ℕ). drop k ws) past in
     here ∙ sym (rw (front, back) (append-assoc A (a ∷ v ∷ c ∷ []) D))

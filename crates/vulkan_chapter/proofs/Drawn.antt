@@ -269,7 +269,12 @@ module _ (set : Settings) (top : Top (set .top)) where
             one = _;
             other = _;
             only = refl;
-            halves = rw (← corner4 one 0 0 (omega arith) refl, ← corner4 one 1 1 (omega arith) (omega arith), ← corner4 one 2 2 (omega arith) (omega arith), ← corner4 one 3 3 (omega arith) (omega arith))
+            halves = rw (
+              ← corner4 one 0 0 (omega arith) refl,
+              ← corner4 one 1 1 (omega arith) (omega arith),
+              ← corner4 one 2 2 (omega arith) (omega arith),
+              ← corner4 one 3 3 (omega arith) (omega arith),
+            )
                 (along-xz (same-turned turn _) (same-turned turn _));
           };
       pairs = λ no. absurd (no (ones4 h));

@@ -32,7 +32,23 @@ use Rattle.mesh_geometry.proofs.QuadTurns.{joined-all}
 use Rattle.mesh_geometry.proofs.GridPoints.{grid-exactly}
 use Rattle.vulkan_chapter.specs.Members.{Member}
 use Rattle.vulkan_chapter.specs.Between.{NumberedLine, BandFilled}
-use Rattle.vulkan_chapter.specs.Quads.{OnLines, OnEdgeOrGrid, on-edge, on-grid, Halves, along-xz, along-yw, HalvesCell, InnerRectangle, innerSide, PairDrawn, InGrid, first-of-pair, second-of-pair, between}
+use Rattle.vulkan_chapter.specs.Quads.{
+  OnLines,
+  OnEdgeOrGrid,
+  on-edge,
+  on-grid,
+  Halves,
+  along-xz,
+  along-yw,
+  HalvesCell,
+  InnerRectangle,
+  innerSide,
+  PairDrawn,
+  InGrid,
+  first-of-pair,
+  second-of-pair,
+  between,
+}
 use Rattle.vulkan_chapter.proofs.Between.{same-turned, joins-same, member-joined, each-turned, filled-in, filled-turned, strip-joins, strip-fills}
 use Rattle.vulkan_chapter.proofs.Outline.{whole-edge}
 

@@ -34,8 +34,12 @@ add-left c = omega arith
 loop-holds : tie.Need-loop-holds Inv-loop μ-loop
 loop-holds c =
     let a = c .before .before .before .args in
-    let n = a .s .count in
-    (omega arith, subst (λ (d : ℕ). Divides (2147483648 * d) (a .s .scaled) (c .divide2 .result)) (omega arith) (c .divide2 .ensures), outward-none (a .rows .now) (a .from) n (a .s .scaled) (n / 2 + 1) (omega arith))
+    let n = a .s .count in (
+      omega arith,
+      subst (λ (d : ℕ). Divides (2147483648 * d) (a .s .scaled) (c .divide2 .result)) (omega arith) (c .divide2 .ensures),
+      outward-none
+          (a .rows .now) (a .from) n (a .s .scaled) (n / 2 + 1) (omega arith),
+    )
 
 sub-left : tie.Need-sub-left Inv-loop μ-loop
 sub-left c = omega arith
@@ -98,7 +102,8 @@ loop-again c =
     let half = c .before .at-most-half .ensures .0 ∙ carries-reach (s .scaled) d (l .reach) (l .inv .1) in
     let now = c .sum .ensures in
     let step = c .before .before .before .before .before .divide .ensures in
-    let o : Outward (a .rows .now) (a .from) (s .count) (s .scaled) (i + 1) (l .rows) = subst (λ (k : ℕ). Outward (a .rows .now) (a .from) (s .count) (s .scaled) k (l .rows)) (omega arith) (l .inv .2) in (
+    let o : Outward (a .rows .now) (a .from) (s .count) (s .scaled) (i + 1) (l .rows) =
+    subst (λ (k : ℕ). Outward (a .rows .now) (a .from) (s .count) (s .scaled) k (l .rows)) (omega arith) (l .inv .2) in (
       omega arith,
       record { is = omega (arith, now .is, step .is, l .inv .1 .is); below = now .below },
       outward-more (a .rows .now) (a .from) (s .count) (s .scaled) (l .rows) i d _ _ (omega arith) (omega arith) (ap (λ (k : ℕ). 32768 - k) half) (ap (λ (k : ℕ). 32768 + k) half) o,

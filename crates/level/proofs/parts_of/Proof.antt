@@ -9,7 +9,8 @@ use Rattle.level.proofs.parts_of.Statement.{statement}
 use Rattle.level.proofs.parts_of.Tie as tie
 
 float-to-float-fine : tie.Need-float-to-float-fine
-float-to-float-fine c = and-i (fits binary64 (c .before .args .x)) (not (isNan (c .before .args .x))) (fits-widens (c .before .args .x) (c .row-known .given)) (numbers _ (c .before .args .x) (c .before .pre .least) .1)
+float-to-float-fine c = and-i (fits binary64 (c .before .args .x)) (not (isNan (c .before .args .x))) (fits-widens (c .before .args .x) (c .row-known .given))
+    (numbers _ (c .before .args .x) (c .before .pre .least) .1)
 
 float-to-int-fine-parts : tie.Need-float-to-int-fine-parts
 unfolding ofBits

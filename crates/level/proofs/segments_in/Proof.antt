@@ -15,7 +15,8 @@ parts-of-requires : tie.Need-parts-of-requires
 parts-of-requires c κs = rw (c .clamp-level .ensures, c .before .pre .1) (let a = c .before .args in level-from-1-to-64 (a .spacing) (a .top) (c .before .pre .0) (a .level))
 
 segments-at-requires : tie.Need-segments-at-requires
-segments-at-requires c κs = rw (c .parts-of .ensures, c .before .clamp-level .ensures, c .before .before .pre .1) (let a = c .before .before .args in level-in-range (a .spacing) (a .top) (c .before .before .pre .0) (a .level))
+segments-at-requires c κs = rw (c .parts-of .ensures, c .before .clamp-level .ensures, c .before .before .pre .1)
+    (let a = c .before .before .args in level-in-range (a .spacing) (a .top) (c .before .before .pre .0) (a .level))
 
 returns : tie.Need-returns
 unfolding segmentsOf clampOf

@@ -74,7 +74,11 @@ shared-slice-read-k-2 : tie.Need-shared-slice-read-k-2 Inv-loop μ-loop
 shared-slice-read-k-2 c = search needs
 
 cast-k-2 : tie.Need-cast-k-2 Inv-loop μ-loop
-cast-k-2 c = omega (arith, c .shared-slice-known4 .given (c .before .before .before .before .before .before .before .before .before .before .before .args .slots + 2 * (c .before .before .before .before .before .before .loop .k - 1) + c .before .before .next-bit .result))
+cast-k-2 c = omega (
+  arith,
+  c .shared-slice-known4 .given (c .before .before .before .before .before .before .before .before .before .before .before .args .slots
+      + 2 * (c .before .before .before .before .before .before .loop .k - 1) + c .before .before .next-bit .result),
+)
 
 loop-less : tie.Need-loop-less Inv-loop μ-loop
 loop-less c =
@@ -86,8 +90,13 @@ loop-again : tie.Need-loop-again Inv-loop μ-loop
 loop-again c =
     let l = c .before .before .before .before .before .before .loop in
     let g = c .before .before .before .before .before .before .before .before .before .before .before .pre .0 in
-    let b = c .before .before .next-bit in
-    (passed-more _ _ _ _ (l .k) (b .result) (l .inv .0) (l .inv .1) (omega arith) (sym (c .before .before .before .before .lies-at .ensures) ∙ c .before .before .before .if1 .left) (c .before .turn .ensures) (b .ensures .0), refl, omega (arith, l .inv .3, b .ensures .1), g .most _)
+    let b = c .before .before .next-bit in (
+      passed-more _ _ _ _ (l .k) (b .result) (l .inv .0) (l .inv .1) (omega arith)
+          (sym (c .before .before .before .before .lies-at .ensures) ∙ c .before .before .before .if1 .left) (c .before .turn .ensures) (b .ensures .0),
+      refl,
+      omega (arith, l .inv .3, b .ensures .1),
+      g .most _,
+    )
 
 returns-2 : tie.Need-returns-2 Inv-loop μ-loop
 returns-2 c =

@@ -10,7 +10,8 @@ write-grid-requires : tie.Need-write-grid-requires
 write-grid-requires c κs = let s = c .before .before .before .before .before .before in inside-ready (s .args .rows .now) (s .args .columns .now) (s .args .out .now) (s .args .at) (s .pre .1)
 
 returns : tie.Need-returns
-returns c = let s = c .before .before .before .before .before .before .before .before .before in inside-written (s .args .rows .now) (s .args .columns .now) (s .args .out .now) (s .args .at) (s .pre .1) (c .before .before .write-grid .ensures)
+returns c = let s = c .before .before .before .before .before .before .before .before .before in inside-written (s .args .rows .now) (s .args .columns .now)
+    (s .args .out .now) (s .args .at) (s .pre .1) (c .before .before .write-grid .ensures)
 
 pub write-inside-spec : {M : Type 1} → statement M
 write-inside-spec =

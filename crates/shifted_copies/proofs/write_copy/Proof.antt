@@ -19,7 +19,13 @@ abbrev μ-loop : tie.MeasureT-loop
 loop-holds : tie.Need-loop-holds Inv-loop μ-loop
 loop-holds c =
     let a = c .before .args in
-    count-start (omega (arith, ap length (all-words (a .by) (a .out .now) (a .from) (a .n) (omega arith)), shifted-length (a .by) (take (a .n) (drop (a .from) (a .out .now))), length-take (a .n) (drop (a .from) (a .out .now))))
+    count-start (omega (
+      arith,
+      ap length (all-words (a .by) (a .out .now) (a .from) (a .n) (omega arith)),
+      shifted-length (a .by)
+          (take (a .n) (drop (a .from) (a .out .now))),
+      length-take (a .n) (drop (a .from) (a .out .now)),
+    ))
 
 add-x : tie.Need-add-x Inv-loop μ-loop
 add-x c = search needs

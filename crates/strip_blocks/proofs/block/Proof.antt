@@ -99,7 +99,8 @@ returns c =
     let d = c .before .before .before .wide .ensures .0 in
     let x = c .before .before .wide2 .ensures .0 in
     let all = block-laid (a .positive) (a .pattern .now) (c .before .before .before .wide .result) (c .before .before .wide2 .result) (a .y) (s .pre .0) (omega arith) in
-    wrote-whole (ap length all ∙ pairs-size (c .before .before .wide2 .result) (a .y) (a .positive) 0 4 ∙ search needs) (count-done (c .loop-test .left) (c .before .loop .inv)) ∙ all ∙ ap (λ (k : ℕ). flat (pairOn (a .positive) k (a .y)) 0 4) x
+    wrote-whole (ap length all ∙ pairs-size (c .before .before .wide2 .result) (a .y) (a .positive) 0 4 ∙ search needs)
+    (count-done (c .loop-test .left) (c .before .loop .inv)) ∙ all ∙ ap (λ (k : ℕ). flat (pairOn (a .positive) k (a .y)) 0 4) x
 
 pub block-spec : {M : Type 1} → statement M
 block-spec =

@@ -29,7 +29,13 @@ write-last-requires c κs =
           x ∙ sym (line-on (a .x) (a .r + 2) (a .e) (a .r) (omega arith)),
           (
             y ∙ sym (line-on (a .y) (a .r) (a .f) (a .r - 1) (omega arith)),
-            omega (arith, second .ensures .next, pairs-size (a .x + (h + 1)) (a .y + h) (a .positive) 0 (a .r - h - 1), second .kept .0, c .before .before .before .before .before .before .before .write-run .kept .0),
+            omega (
+              arith,
+              second .ensures .next,
+              pairs-size (a .x + (h + 1)) (a .y + h) (a .positive) 0 (a .r - h - 1),
+              second .kept .0,
+              c .before .before .before .before .before .before .before .write-run .kept .0,
+            ),
           ),
         ),
       ),
@@ -40,7 +46,8 @@ returns c =
     let a = c .before .before .before .before .before .before .before .before .before .before .before .before .before .args in
     long-wrote (vertex (lineOf (a .x) (a .r + 2) (a .e))) (vertex (lineOf (a .y) (a .r) (a .f))) (a .positive) (a .x) (a .y) (a .r) (omega arith)
     (λ i h. line-on (a .x) (a .r + 2) (a .e) i h) (λ i h. line-on (a .y) (a .r) (a .f) i h)
-    (omega arith) (c .before .before .before .before .before .before .before .before .before .before .write-run .ensures) (omega arith) (c .before .before .before .before .before .before .write-run2 .ensures) (c .before .before .write-last .ensures)
+    (omega arith) (c .before .before .before .before .before .before .before .before .before .before .write-run .ensures) (omega arith)
+    (c .before .before .before .before .before .before .write-run2 .ensures) (c .before .before .write-last .ensures)
 
 pub write-long-spec : {M : Type 1} → statement M
 write-long-spec =

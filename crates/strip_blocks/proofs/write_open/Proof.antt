@@ -13,7 +13,8 @@ write-run-requires-2 c κs =
 returns : tie.Need-returns
 returns c =
     let a = c .before .before .before .before .before .before .before .before .before .args in
-    open-wrote (a .positive) (a .x) (a .y) (a .r) (omega arith) (omega arith) (c .before .before .before .before .before .before .write-run .ensures) (omega arith) (c .before .before .write-run2 .ensures) (omega (arith, c .before .before .write-run2 .ensures .next))
+    open-wrote (a .positive) (a .x) (a .y) (a .r) (omega arith) (omega arith) (c .before .before .before .before .before .before .write-run .ensures)
+    (omega arith) (c .before .before .write-run2 .ensures) (omega (arith, c .before .before .write-run2 .ensures .next))
 
 pub write-open-spec : {M : Type 1} → statement M
 write-open-spec =

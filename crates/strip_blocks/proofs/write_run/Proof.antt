@@ -10,7 +10,10 @@ returns : tie.Need-returns
 returns c =
     let a = c .before .before .before .before .before .before .before .before .before .before .before .before .before .before .before .before .args in
     let k = (a .n - 1) / 4 in
-    run-wrote (a .x) (a .y) (a .positive) (a .n) k (a .n - 4 * k) (omega arith) (omega arith) (omega arith) (omega arith) (c .before .before .before .before .before .before .before .before .before .before .before .before .before .before .block .ensures) (c .before .before .before .before .before .before .before .before .before .before .before .put-block .ensures) (c .before .before .before .before .before .before .before .raise .ensures) (omega arith) (c .before .before .before .write-blocks .ensures)
+    run-wrote (a .x) (a .y) (a .positive) (a .n) k (a .n - 4 * k) (omega arith) (omega arith) (omega arith) (omega arith)
+    (c .before .before .before .before .before .before .before .before .before .before .before .before .before .before .block .ensures)
+    (c .before .before .before .before .before .before .before .before .before .before .before .put-block .ensures)
+    (c .before .before .before .before .before .before .before .raise .ensures) (omega arith) (c .before .before .before .write-blocks .ensures)
 
 pub write-run-spec : {M : Type 1} → statement M
 write-run-spec =

@@ -36,7 +36,11 @@ loop-holds c =
     let begun = c .begin .ensures in (
       begun .stands,
       omega arith,
-      left-all (rw (begun .a, begun .b)) (omega (arith, words-length (vertex (a .outer)) (vertex (a .inner)) (outerNext (a .outer .count) (a .inner .count)) (a .positive) (a .outer .count + a .inner .count) 0 0)),
+      left-all (rw (begun .a, begun .b)) (omega (
+        arith,
+        words-length (vertex (a .outer)) (vertex (a .inner)) (outerNext (a .outer .count) (a .inner .count))
+            (a .positive) (a .outer .count + a .inner .count) 0 0,
+      )),
     )
 
 advance-requires : tie.Need-advance-requires Inv-loop μ-loop
@@ -75,7 +79,8 @@ unfolding indices
 returns c =
     let a = c .before .before .before .before .args in
     let l = c .before .loop in
-    left-none (rw (steps-none (vertex (a .outer)) (vertex (a .inner)) (outerNext (a .outer .count) (a .inner .count)) (l .left) (l .walk .strip .a) (l .walk .strip .b) (c .loop-test .left))) (l .inv .2)
+    left-none (rw (steps-none (vertex (a .outer)) (vertex (a .inner)) (outerNext (a .outer .count) (a .inner .count)) (l .left) (l .walk .strip .a)
+    (l .walk .strip .b) (c .loop-test .left))) (l .inv .2)
 
 pub write-walk-spec : {M : Type 1} → statement M
 write-walk-spec =

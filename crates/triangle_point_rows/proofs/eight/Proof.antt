@@ -72,7 +72,12 @@ loop-less c = search needs
 
 loop-again : tie.Need-loop-again Inv-loop μ-loop
 loop-again c =
-    count-step (omega arith) (rw (← c .before .before .before .before .before .before .before .sum .ensures, ← c .before .before .before .before .before .sum2 .ensures, ← c .before .before .before .sum3 .ensures) (c .before .put3-u32 .ensures)) (c .before .before .before .before .before .before .before .before .before .before .loop .inv)
+    count-step (omega arith) (rw (
+      ← c .before .before .before .before .before .before .before .sum .ensures,
+      ← c .before .before .before .before .before .sum2 .ensures,
+      ← c .before .before .before .sum3 .ensures,
+    ) (c .before .put3-u32 .ensures))
+    (c .before .before .before .before .before .before .before .before .before .before .loop .inv)
 
 returns : tie.Need-returns Inv-loop μ-loop
 returns c =

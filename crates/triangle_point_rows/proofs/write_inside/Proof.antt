@@ -9,7 +9,8 @@ write-all-rings-requires : tie.Need-write-all-rings-requires
 write-all-rings-requires c κs = let s = c .before .before .before .before in rings-ready (s .args .row .now) (s .pre .0) (s .args .out .now) (s .args .at) (s .pre .1)
 
 returns : tie.Need-returns
-returns c = let s = c .before .before .before .before .before .before .before in inside-written (s .args .row .now) (s .pre .0) (s .args .out .now) (s .args .at) (s .pre .1) (c .before .before .write-all-rings .ensures)
+returns c = let s = c .before .before .before .before .before .before .before in inside-written (s .args .row .now) (s .pre .0) (s .args .out .now)
+    (s .args .at) (s .pre .1) (c .before .before .write-all-rings .ensures)
 
 pub write-inside-spec : {M : Type 1} → statement M
 write-inside-spec =

@@ -11,7 +11,8 @@ returns : tie.Need-returns
 returns c =
     let a = c .before .before .before .before .before .before .before .before .before .before .args in
     let k = (a .n - 1) / 8 in
-    run-wrote (a .base .now) (a .from) (a .p) (a .q) (a .r) (a .n) k (a .n - 8 * k) (omega arith) (omega arith) (omega arith) (omega arith) (c .before .before .before .before .before .before .write-eight .ensures) refl (c .before .before .write-eights .ensures)
+    run-wrote (a .base .now) (a .from) (a .p) (a .q) (a .r) (a .n) k (a .n - 8 * k) (omega arith) (omega arith) (omega arith) (omega arith)
+    (c .before .before .before .before .before .before .write-eight .ensures) refl (c .before .before .write-eights .ensures)
 
 pub write-run-spec : {M : Type 1} → statement M
 write-run-spec =

@@ -39,8 +39,13 @@ end-at-requires c κs = search needs
 add-side-requires : tie.Need-add-side-requires Inv-loop μ-loop
 add-side-requires c κs =
     let l = c .before .before .before .before .before .loop in
-    let p = c .before .before .before .before .before .before .before .before .before .pre in
-    (l .inv .1, (start-word (c .before .before .before .before .before .before .before .before .before .args .indices .now) (l .m) (omega arith), (c .end-at .ensures, (omega (arith, p .1 .0 .at (l .m) (omega arith), l .inv .2), (omega (arith, l .inv .3), omega arith)))))
+    let p = c .before .before .before .before .before .before .before .before .before .pre in (
+      l .inv .1,
+      (
+        start-word (c .before .before .before .before .before .before .before .before .before .args .indices .now) (l .m) (omega arith),
+        (c .end-at .ensures, (omega (arith, p .1 .0 .at (l .m) (omega arith), l .inv .2), (omega (arith, l .inv .3), omega arith))),
+      ),
+    )
 
 add-m : tie.Need-add-m Inv-loop μ-loop
 add-m c = search needs

@@ -26,7 +26,9 @@ same-triangle-requires : tie.Need-same-triangle-requires
 same-triangle-requires c κs = search needs
 
 returns-2 : tie.Need-returns-2
-returns-2 c = c .same-triangle .ensures ∙ ap (λ (u : Triangle). sameTriangle u (c .before .before .before .before .before .before .args .t)) (c .before .triangle-at .ensures) ∙ hit-same _ _ _ _ (c .before .before .before .before .end-in .ensures ∙ c .before .before .before .before .before .before .pre .1 .0) (c .before .before .if1 .left) (c .before .before .before .before .before .before .pre .1 .1)
+returns-2 c = c .same-triangle .ensures ∙ ap (λ (u : Triangle). sameTriangle u (c .before .before .before .before .before .before .args .t))
+    (c .before .triangle-at .ensures) ∙ hit-same _ _ _ _ (c .before .before .before .before .end-in .ensures ∙
+    c .before .before .before .before .before .before .pre .1 .0) (c .before .before .if1 .left) (c .before .before .before .before .before .before .pre .1 .1)
 
 pub is-at-spec : {M : Type 1} → statement M
 is-at-spec =

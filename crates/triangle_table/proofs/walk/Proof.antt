@@ -48,10 +48,14 @@ before-in-requires : tie.Need-before-in-requires Inv-loop μ-loop
 before-in-requires c κs = search needs
 
 loop-less : tie.Need-loop-less Inv-loop μ-loop
-loop-less c = rw (c .before-in .ensures) (seek-less (c .before .before .before .before .before .before .before .before .before .pre .0) _ _ (omega (arith, c .before .before .before .before .before .before .before .before .before .pre .1 .0)) (c .before .before .before .before .before .loop .k) (omega arith) (c .before .before .before .before .before .loop .inv))
+loop-less c = rw (c .before-in .ensures) (seek-less (c .before .before .before .before .before .before .before .before .before .pre .0) _ _
+    (omega (arith, c .before .before .before .before .before .before .before .before .before .pre .1 .0)) (c .before .before .before .before .before .loop .k)
+    (omega arith) (c .before .before .before .before .before .loop .inv))
 
 loop-again : tie.Need-loop-again Inv-loop μ-loop
-loop-again c = rw (c .before-in .ensures) (seek-goes-on (c .before .before .before .before .before .before .before .before .before .pre .0) _ _ (omega (arith, c .before .before .before .before .before .before .before .before .before .pre .1 .0)) (c .before .before .before .before .before .loop .k) (omega arith) (c .before .before .before .before .before .loop .inv) (sym (c .before .before .is-at .ensures) ∙ c .before .if1 .left))
+loop-again c = rw (c .before-in .ensures) (seek-goes-on (c .before .before .before .before .before .before .before .before .before .pre .0) _ _
+    (omega (arith, c .before .before .before .before .before .before .before .before .before .pre .1 .0)) (c .before .before .before .before .before .loop .k)
+    (omega arith) (c .before .before .before .before .before .loop .inv) (sym (c .before .before .is-at .ensures) ∙ c .before .if1 .left))
 
 returns-2 : tie.Need-returns-2 Inv-loop μ-loop
 returns-2 c =

@@ -19,7 +19,8 @@ returns-2 c =
     let test = left .before in
     let read = test .before in
     let a = read .before .before .args in
-    asked-unknown (a .settings .now) (a .levels .now) (read .top-in .ensures) (good (test .is-top .result) (test .is-top .ensures) (left .if1 .left)) (first .first-unknown .ensures) (c .before .if2 .taken)
+    asked-unknown (a .settings .now) (a .levels .now) (read .top-in .ensures) (good (test .is-top .result) (test .is-top .ensures) (left .if1 .left))
+    (first .first-unknown .ensures) (c .before .if2 .taken)
     (c .unknown-setting .ensures)
 
 returns-3 : tie.Need-returns-3

@@ -24,11 +24,31 @@ times-requires-2 c κs =
 -- the values of the two products
 products : (c : tie.After-times2)
     → toZ w64 (ofZ w64 (c .before .before .before .times .result)) -ℤ toZ w64 (ofZ w64 (c .times2 .result))
-    ≡ twiceArea (record { p = c .before .before .before .before .before .before .args .p; q = c .before .before .before .before .before .before .args .q; r = c .before .before .before .before .before .before .args .r })
+    ≡ twiceArea (record {
+      p = c .before .before .before .before .before .before .args .p;
+      q = c .before .before .before .before .before .before .args .q;
+      r =
+          c .before .before .before .before .before .before .args .r;
+    })
 unfolding twiceArea
 products c =
     let x = c .before .before .before in
-    rw (word-back (x .times .result) (x .times .ok), word-back (c .times2 .result) (c .times2 .ok), x .times .ensures, c .times2 .ensures, word-back (x .before .before .minus .result) (x .before .before .minus .ok), word-back (x .before .minus2 .result) (x .before .minus2 .ok), word-back (c .before .before .minus3 .result) (c .before .before .minus3 .ok), word-back (c .before .minus4 .result) (c .before .minus4 .ok), x .before .before .minus .ensures, x .before .minus2 .ensures, c .before .before .minus3 .ensures, c .before .minus4 .ensures)
+    rw (
+      word-back (x .times .result) (x .times .ok),
+      word-back (c .times2 .result) (c .times2 .ok),
+      x .times .ensures,
+      c .times2 .ensures,
+      word-back
+          (x .before .before .minus .result) (x .before .before .minus .ok),
+      word-back (x .before .minus2 .result) (x .before .minus2 .ok),
+      word-back
+          (c .before .before .minus3 .result) (c .before .before .minus3 .ok),
+      word-back (c .before .minus4 .result) (c .before .minus4 .ok),
+      x .before .before .minus .ensures,
+      x .before .minus2 .ensures,
+      c .before .before .minus3 .ensures,
+      c .before .minus4 .ensures,
+    )
 
 less-requires : tie.Need-less-requires
 less-requires c κs =

@@ -19,7 +19,8 @@ abbrev μ-loop : tie.MeasureT-loop
 
 returns : tie.Need-returns Inv-loop μ-loop
 unfolding firstOutside
-returns c = search-found (points-count (c .before .before .before .before .before .before .args .points .now)) (c .before .before .before .before .loop .inv) (omega arith) (rw (← c .before .before .point-at .ensures, ← c .before .is-inside .ensures) (c .if1 .taken))
+returns c = search-found (points-count (c .before .before .before .before .before .before .args .points .now)) (c .before .before .before .before .loop .inv)
+    (omega arith) (rw (← c .before .before .point-at .ensures, ← c .before .is-inside .ensures) (c .if1 .taken))
 
 loop-again : tie.Need-loop-again Inv-loop μ-loop
 loop-again c = passed-more (c .before .before .before .before .loop .inv) (omega arith) (rw (← c .before .before .point-at .ensures, ← c .before .is-inside .ensures) (c .if1 .left))

@@ -24,10 +24,16 @@ loop-holds c = let p = c .before .before .before .pre in record { most = p .1 .0
 
 returns : tie.Need-returns Inv-loop μ-loop
 unfolding firstMissing
-returns c = search-found (points-count (c .before .before .before .before .before .before .before .before .before .args .outline .now)) (c .before .before .before .before .before .loop .inv) (omega arith) (rw (← c .before .before .before .piece-start .ensures, ← c .before .before .piece-end .ensures, ← c .before .is-drawn .ensures) (c .if1 .taken))
+returns c = search-found (points-count (c .before .before .before .before .before .before .before .before .before .args .outline .now))
+    (c .before .before .before .before .before .loop .inv) (omega arith) (rw (
+      ← c .before .before .before .piece-start .ensures,
+      ← c .before .before .piece-end .ensures,
+      ← c .before .is-drawn .ensures,
+    ) (c .if1 .taken))
 
 loop-again : tie.Need-loop-again Inv-loop μ-loop
-loop-again c = passed-more (c .before .before .before .before .before .loop .inv) (omega arith) (rw (← c .before .before .before .piece-start .ensures, ← c .before .before .piece-end .ensures, ← c .before .is-drawn .ensures) (c .if1 .left))
+loop-again c = passed-more (c .before .before .before .before .before .loop .inv) (omega arith)
+    (rw (← c .before .before .before .piece-start .ensures, ← c .before .before .piece-end .ensures, ← c .before .is-drawn .ensures) (c .if1 .left))
 
 returns-2 : tie.Need-returns-2 Inv-loop μ-loop
 unfolding firstMissing

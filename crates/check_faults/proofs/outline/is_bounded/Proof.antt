@@ -23,7 +23,14 @@ point-at-requires-3 c κs =
 returns : tie.Need-returns
 returns c =
     let x = c .before .before .before in
-    rw (← x .before .before .before .before .point-at .ensures, ← x .before .before .point-at2 .ensures, ← x .point-at3 .ensures, c .before .before .same-ends .ensures, c .before .same-ends2 .ensures, c .same-ends3 .ensures)
+    rw (
+      ← x .before .before .before .before .point-at .ensures,
+      ← x .before .before .point-at2 .ensures,
+      ← x .point-at3 .ensures,
+      c .before .before .same-ends .ensures,
+      c .before .same-ends2 .ensures,
+      c .same-ends3 .ensures,
+    )
 
 pub is-bounded-spec : {M : Type 1} → statement M
 is-bounded-spec =

@@ -25,7 +25,9 @@ is-bounded-requires c κs =
     rw (c .triangle-at .ensures) (numbered _ (x .args .indices .now) (c .before .before .loop .k) (x .pre) (omega arith))
 
 returns : tie.Need-returns Inv-loop μ-loop
-returns c = some-found (triangles-count (c .before .before .before .before .before .before .before .args .indices .now)) (c .before .before .before .before .loop .inv) (omega arith) (rw (← c .before .before .triangle-at .ensures, ← c .before .is-bounded .ensures) (c .if1 .taken))
+returns c = some-found (triangles-count (c .before .before .before .before .before .before .before .args .indices .now))
+    (c .before .before .before .before .loop .inv) (omega arith) (rw (← c .before .before .triangle-at .ensures, ← c .before .is-bounded .ensures)
+    (c .if1 .taken))
 
 loop-again : tie.Need-loop-again Inv-loop μ-loop
 loop-again c = passed-more (c .before .before .before .before .loop .inv) (omega arith) (rw (← c .before .before .triangle-at .ensures, ← c .before .is-bounded .ensures) (c .if1 .left))

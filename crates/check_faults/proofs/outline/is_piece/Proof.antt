@@ -19,7 +19,8 @@ abbrev μ-loop : tie.MeasureT-loop
 μ-loop outline positive p q k₀ k = length outline / 3 - k
 
 returns : tie.Need-returns Inv-loop μ-loop
-returns c = some-found (points-count (c .before .before .before .before .before .args .outline .now)) (c .before .before .before .loop .inv) (omega arith) (rw (← c .before .is-piece-at .ensures) (c .if1 .taken))
+returns c = some-found (points-count (c .before .before .before .before .before .args .outline .now)) (c .before .before .before .loop .inv) (omega arith)
+    (rw (← c .before .is-piece-at .ensures) (c .if1 .taken))
 
 loop-again : tie.Need-loop-again Inv-loop μ-loop
 loop-again c = passed-more (c .before .before .before .loop .inv) (omega arith) (rw (← c .before .is-piece-at .ensures) (c .if1 .left))

@@ -22,7 +22,8 @@ loop-holds c = let p = c .before .before .before .pre in record { most = p .1 .0
 
 returns : tie.Need-returns Inv-loop μ-loop
 unfolding firstOpen
-returns c = search-found (ap (λ n. n * 3) (triangles-count (c .before .before .before .before .before .before .before .args .indices .now))) (c .before .before .before .loop .inv) (omega arith) (rw (← c .before .is-closed .ensures) (c .if1 .taken))
+returns c = search-found (ap (λ n. n * 3) (triangles-count (c .before .before .before .before .before .before .before .args .indices .now)))
+    (c .before .before .before .loop .inv) (omega arith) (rw (← c .before .is-closed .ensures) (c .if1 .taken))
 
 loop-again : tie.Need-loop-again Inv-loop μ-loop
 loop-again c = passed-more (c .before .before .before .loop .inv) (omega arith) (rw (← c .before .is-closed .ensures) (c .if1 .left))

@@ -19,7 +19,10 @@ is-joined-requires c κs =
     let a = x .args in
     let n = numbered _ (a .indices .now) (a .m / 3) (x .pre .1) (omega arith) in (
       omega arith,
-      (rw (c .before .start-of .ensures, c .before .before .triangle-at .ensures) (start-known _ _ (a .m % 3) n), rw (c .end-of .ensures, c .before .before .triangle-at .ensures) (end-known _ _ (a .m % 3) n)),
+      (
+        rw (c .before .start-of .ensures, c .before .before .triangle-at .ensures) (start-known _ _ (a .m % 3) n),
+        rw (c .end-of .ensures, c .before .before .triangle-at .ensures) (end-known _ _ (a .m % 3) n),
+      ),
     )
 
 returns : tie.Need-returns

@@ -20,7 +20,12 @@ point-at-requires-2 c κs =
     omega (arith, points-count (x .args .points .now), x .pre .1 .1)
 
 returns-2 : tie.Need-returns-2
-returns-2 c = rw (← c .before .before .before .before .has-side-near .ensures, c .before .before .before .if1 .left, ← c .before .before .point-at .ensures, ← c .before .point-at2 .ensures) (c .is-piece .ensures)
+returns-2 c = rw (
+  ← c .before .before .before .before .has-side-near .ensures,
+  c .before .before .before .if1 .left,
+  ← c .before .before .point-at .ensures,
+  ← c .before .point-at2 .ensures,
+) (c .is-piece .ensures)
 
 pub is-joined-spec : {M : Type 1} → statement M
 is-joined-spec =

@@ -18,7 +18,8 @@ abbrev μ-loop : tie.MeasureT-loop
 
 returns : tie.Need-returns Inv-loop μ-loop
 unfolding firstRepeated
-returns c = search-found (points-count (c .before .before .before .before .before .args .points .now)) (c .before .before .before .loop .inv) (omega arith) (sym (c .before .is-repeated .ensures) ∙ c .if1 .taken)
+returns c = search-found (points-count (c .before .before .before .before .before .args .points .now)) (c .before .before .before .loop .inv) (omega arith)
+    (sym (c .before .is-repeated .ensures) ∙ c .if1 .taken)
 
 loop-again : tie.Need-loop-again Inv-loop μ-loop
 loop-again c = passed-more (c .before .before .before .loop .inv) (omega arith) (sym (c .before .is-repeated .ensures) ∙ c .if1 .left)

@@ -21,7 +21,8 @@ next-touching-requires : tie.Need-next-touching-requires Inv-loop μ-loop
 next-touching-requires c κs = search needs
 
 loop-holds : tie.Need-loop-holds Inv-loop μ-loop
-loop-holds c = clear-begins (λ k w. without-side (triangleAt (readTriangles (c .before .before .args .indices .now)) k) (c .before .before .args .x) (c .before .before .args .y) (w .x-no)) (c .next-touching .ensures)
+loop-holds c = clear-begins (λ k w. without-side (triangleAt (readTriangles (c .before .before .args .indices .now)) k) (c .before .before .args .x)
+    (c .before .before .args .y) (w .x-no)) (c .next-touching .ensures)
 
 has-side-at-requires : tie.Need-has-side-at-requires Inv-loop μ-loop
 has-side-at-requires c κs = search needs
@@ -46,7 +47,9 @@ loop-less c = search needs
 
 loop-again : tie.Need-loop-again Inv-loop μ-loop
 loop-again c =
-    clear-more (λ k w. without-side (triangleAt (readTriangles (c .before .before .before .before .before .before .before .args .indices .now)) k) (c .before .before .before .before .before .before .before .args .x) (c .before .before .before .before .before .before .before .args .y) (w .x-no)) (c .before .before .before .before .loop .inv)
+    clear-more (λ k w. without-side (triangleAt (readTriangles (c .before .before .before .before .before .before .before .args .indices .now)) k)
+    (c .before .before .before .before .before .before .before .args .x) (c .before .before .before .before .before .before .before .args .y) (w .x-no))
+    (c .before .before .before .before .loop .inv)
     (sym (c .before .before .has-side-at .ensures) ∙ c .before .if1 .left) (c .next-touching2 .ensures)
 
 returns-2 : tie.Need-returns-2 Inv-loop μ-loop

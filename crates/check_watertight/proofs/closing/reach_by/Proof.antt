@@ -31,21 +31,27 @@ open-sides-requires c κs =
     let p = s .pre in
     let ws = s .args .indices .now in
     let f = c .before .before .before .before .before .before .before .before .before .before .before .fill .ensures in
-    let e : c .before .before .before .before .before .before .before .before .before .before .before .fill .result ≡ length (readTriangles ws) = omega (arith, f .most, c .before .before .before .before .if1 .left, triangles-count ws) in
+    let e : c .before .before .before .before .before .before .before .before .before .before .before .fill .result ≡ length (readTriangles ws) =
+    omega (arith, f .most, c .before .before .before .before .if1 .left, triangles-count ws) in
     (f .all e .table, (numbered-as _ _ _ _ (c .before .before .before .before .before .before .before .before .heads .given) (numbered-wider (p .1 .1 .0) (p .1 .1 .1 .0)), p .1 .1 .1 .1 .0))
 
 returns-2 : tie.Need-returns-2
-returns-2 c = shown-once _ _ _ _ _ (c .before .before .before .before .before .before .before .before .before .before .before .before .before .before .before .fill .ensures .most) (c .before .before .before .before .before .before .before .before .before .before .before .before .before .before .before .fill .ensures .once)
+returns-2 c = shown-once _ _ _ _ _
+    (c .before .before .before .before .before .before .before .before .before .before .before .before .before .before .before .fill .ensures .most)
+    (c .before .before .before .before .before .before .before .before .before .before .before .before .before .before .before .fill .ensures .once)
 
 all-pieces-requires : tie.Need-all-pieces-requires
 all-pieces-requires c κs =
-    let p = c .before .before .before .before .before .before .before .before .before .before .before .before .before .before .before .before .before .before .before .before .before .before .before .before .before .before .before .before .before .pre in
+    let p = c .before .before .before .before .before .before .before .before .before .before .before .before .before .before .before .before .before .before
+    .before .before .before .before .before .before .before .before .before .before .before .pre in
     (p .1 .1 .0, (c .before .before .if2 .left, (c .before .before .before .before .before .open-sides .ensures .listed (c .before .before .if2 .left), marked-none _ _ _ _ _ (p .1 .1 .1 .1 .1))))
 
 returns-3 : tie.Need-returns-3
 returns-3 c =
-    let s = c .before .before .before .before .before .before .before .before .before .before .before .before .before .before .before .before .before .before .before .before .before .before .before .before .before .before .before .before .before .before .before .before .before .before in
-    let f = c .before .before .before .before .before .before .before .before .before .before .before .before .before .before .before .before .before .before .before .before .before .before .fill .ensures in
+    let s = c .before .before .before .before .before .before .before .before .before .before .before .before .before .before .before .before .before .before
+    .before .before .before .before .before .before .before .before .before .before .before .before .before .before .before .before in
+    let f = c .before .before .before .before .before .before .before .before .before .before .before .before .before .before .before .before .before .before
+    .before .before .before .before .fill .ensures in
     let g = c .before .before .before .before .all-pieces .ensures in
     let u = c .first-unmarked .ensures in
     shown-all _ _ _ _ _ _ _ _ (f .most) (f .once) (g .0 .0) (g .0 .1) (omega (arith, u .0, points-count (s .args .outline .now))) (g .1) (u .1)

@@ -13,8 +13,13 @@ use Rattle.check_watertight.proofs.closing.reach_by.Reads as reach-by-r
 
 reach-by-requires : tie.Need-reach-by-requires
 reach-by-requires c κs =
-    let s = c .before .before .before .before .before .before .before .before in
-    (chains-cleared _ _ (zeros-all 8192), (chains-room _ _ (s .pre .1 .1) (omega arith), (s .pre .0, (chains-vertices _ _ (omega (arith, points-count (s .args .points .now), s .pre .1 .0)), (omega (arith, s .pre .1 .1), blank-all 256)))))
+    let s = c .before .before .before .before .before .before .before .before in (
+      chains-cleared _ _ (zeros-all 8192),
+      (
+        chains-room _ _ (s .pre .1 .1) (omega arith),
+        (s .pre .0, (chains-vertices _ _ (omega (arith, points-count (s .args .points .now), s .pre .1 .0)), (omega (arith, s .pre .1 .1), blank-all 256))),
+      ),
+    )
 
 pub reach-large-spec : {M : Type 1} → statement M
 reach-large-spec =

@@ -14,8 +14,19 @@ use Rattle.check_watertight.proofs.closing.reach_by.Reads as reach-by-r
 
 reach-by-requires : tie.Need-reach-by-requires
 reach-by-requires c κs =
-    let s = c .before .before .before .before .before .before .before .before in
-    (bits-cleared _ _ (zeros-all 64) refl, (bits-room _ _, (s .pre .0, (bits-vertices _ _ (omega (arith, points-count (s .args .points .now), s .pre .1 .0)), (omega (arith, s .pre .1 .1), blank-all 64)))))
+    let s = c .before .before .before .before .before .before .before .before in (
+      bits-cleared _ _ (zeros-all 64) refl,
+      (
+        bits-room _ _,
+        (
+          s .pre .0,
+          (
+            bits-vertices _ _ (omega (arith, points-count (s .args .points .now), s .pre .1 .0)),
+            (omega (arith, s .pre .1 .1), blank-all 64),
+          ),
+        ),
+      ),
+    )
 
 pub reach-small-spec : {M : Type 1} → statement M
 reach-small-spec =

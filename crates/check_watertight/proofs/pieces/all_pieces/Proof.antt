@@ -13,7 +13,8 @@ use Rattle.check_watertight.proofs.pieces.all_pieces.Tie as tie
 
 abbrev Inv-loop : tie.InvT-loop
 Inv-loop outline points indices opens count marks₀ positive pieces near₀ k₀ marks near k =
-    (k ≤ count) × OpensClosed positive (readPoints outline) (readPoints points) (readTriangles indices) opens k × MarksDrawn positive (readPoints outline) (readPoints points) (readTriangles indices) marks × (length marks ≡ length marks₀)
+    (k ≤ count) × OpensClosed positive (readPoints outline) (readPoints points) (readTriangles indices) opens k × MarksDrawn positive (readPoints outline)
+    (readPoints points) (readTriangles indices) marks × (length marks ≡ length marks₀)
 
 abbrev μ-loop : tie.MeasureT-loop
 μ-loop outline points indices opens count marks₀ positive pieces near₀ k₀ marks near k = count - k
@@ -44,8 +45,10 @@ returns : tie.Need-returns Inv-loop μ-loop
 returns c =
     let w = c .before .before .before .before .before .before .before in
     let l = w .loop in
-    let s = w .before .before .before .before .before .before in
-    ((omega (arith, s .pre .1 .1 .0 .sides (l .k) (omega arith)), joined-before _ _ _ _ _ (s .args .count) (l .k) (omega arith) (s .pre .1 .1 .0) (l .inv .1)), c .before .before .before .mark-piece .ensures .1)
+    let s = w .before .before .before .before .before .before in (
+      (omega (arith, s .pre .1 .1 .0 .sides (l .k) (omega arith)), joined-before _ _ _ _ _ (s .args .count) (l .k) (omega arith) (s .pre .1 .1 .0) (l .inv .1)),
+      c .before .before .before .mark-piece .ensures .1,
+    )
 
 add-near : tie.Need-add-near Inv-loop μ-loop
 add-near c = search needs
@@ -61,8 +64,12 @@ loop-again c =
     let a = c .before .before .before in
     let w = c .before .before .before .before .before .before .before in
     let l = w .loop in
-    let s = w .before .before .before .before .before .before in
-    (omega arith, joins-more _ _ _ _ _ (l .k) (l .inv .1) (a .mark-piece .ensures .0 (omega (arith, points-count (s .args .outline .now)))), a .mark-piece .ensures .1, c .before .before .marks .given ∙ l .inv .3)
+    let s = w .before .before .before .before .before .before in (
+      omega arith,
+      joins-more _ _ _ _ _ (l .k) (l .inv .1) (a .mark-piece .ensures .0 (omega (arith, points-count (s .args .outline .now)))),
+      a .mark-piece .ensures .1,
+      c .before .before .marks .given ∙ l .inv .3,
+    )
 
 mul-result : tie.Need-mul-result Inv-loop μ-loop
 mul-result c = search needs

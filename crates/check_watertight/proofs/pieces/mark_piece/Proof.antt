@@ -35,8 +35,12 @@ returns c =
     let ps = readPoints (a .points .now) in
     let ts = readTriangles (a .indices .now) in
     let l : f .find-piece .result < length o = omega (arith, c .before .before .before .before .if1 .taken, points-count (a .outline .now)) in
-    let p = piece-met (a .positive) o ps ts (a .m) (start-word (a .indices .now) (a .m) (s .pre .1 .0)) (f .before .before .end-at .ensures) (f .before .before .before .point-at .ensures) (f .before .point-at2 .ensures) l (f .find-piece .ensures l) in
-    (λ h. piece-closes (a .positive) o ps ts (a .m) _ p, rw (c .before .before .set-mark .ensures) (marked-more (a .positive) o ps ts (a .m) _ _ (omega (arith, s .pre .1 .0, triangles-count (a .indices .now))) p (s .pre .1 .1)))
+    let p = piece-met (a .positive) o ps ts (a .m) (start-word (a .indices .now) (a .m) (s .pre .1 .0)) (f .before .before .end-at .ensures)
+    (f .before .before .before .point-at .ensures) (f .before .point-at2 .ensures) l (f .find-piece .ensures l) in (
+      λ h. piece-closes (a .positive) o ps ts (a .m) _ p,
+      rw (c .before .before .set-mark .ensures)
+          (marked-more (a .positive) o ps ts (a .m) _ _ (omega (arith, s .pre .1 .0, triangles-count (a .indices .now))) p (s .pre .1 .1)),
+    )
 
 returns-2 : tie.Need-returns-2
 returns-2 c =

@@ -12,7 +12,12 @@ use Rattle.compare_differences.proofs.window.window_start.Reads as wind
 use Rattle.check_side_searches.proofs.same.has_triangle_in.Reads as has-triangle-in-reads
 
 returns : tie.Need-returns
-returns c = held-near _ _ _ _ _ (c .before .has-triangle-in .ensures) (omega (arith, c .before .before .window-end .ensures, triangles-count (c .before .before .before .before .before .args .indices .now))) (c .if1 .taken)
+returns c = held-near _ _ _ _ _ (c .before .has-triangle-in .ensures) (omega (
+  arith,
+  c .before .before .window-end .ensures,
+  triangles-count
+      (c .before .before .before .before .before .args .indices .now),
+)) (c .if1 .taken)
 
 returns-2 : tie.Need-returns-2
 returns-2 c = rw (triangles-count (c .before .before .before .before .before .before .args .indices .now)) (held-all _ _ _ _ (c .has-triangle-in2 .ensures))

@@ -39,7 +39,13 @@ returns c =
     let f = faceRow (a .points .now) (a .indices .now) .entry (a .k) in
     let g = faceRow (a .other-points .now) (a .other-indices .now) .entry (a .k) in
     let e : sameCorners g f ≡ (c .before .before .same-place .result && c .before .same-place2 .result && c .same-place3 .result) =
-    rw (← c .before .before .before .before .triangle-at .ensures, ← c .before .before .before .triangle-at2 .ensures, c .before .before .same-place .ensures, c .before .same-place2 .ensures, c .same-place3 .ensures) in
+    rw (
+      ← c .before .before .before .before .triangle-at .ensures,
+      ← c .before .before .before .triangle-at2 .ensures,
+      c .before .before .same-place .ensures,
+      c .before .same-place2 .ensures,
+      c .same-place3 .ensures,
+    ) in
     λ h. record { number = omega (arith, triangles-count (a .other-indices .now)); same = e ∙ h }
 
 pub is-in-place-spec : {M : Type 1} → statement M

@@ -12,7 +12,8 @@ use Rattle.compare_differences.proofs.corners.match_corners.Reads as ma
 returns : tie.Need-returns
 returns c =
     let x = c .before .before .before .before .before .before .before .before in
-    has-found _ _ (x .pre .1 .numbered) (λ k. omega (arith, c .before .before .before .before .before .shared-slice-known3 .given k)) _ _ _ _ (c .before .before .before .before .match-corners .ensures) (c .before .before .found .given .1) (c .has-triangle .ensures)
+    has-found _ _ (x .pre .1 .numbered) (λ k. omega (arith, c .before .before .before .before .before .shared-slice-known3 .given k)) _ _ _ _
+    (c .before .before .before .before .match-corners .ensures) (c .before .before .found .given .1) (c .has-triangle .ensures)
 
 returns-2 : tie.Need-returns-2
 returns-2 c =

@@ -23,8 +23,11 @@ returns c =
 has-face-requires : tie.Need-has-face-requires
 has-face-requires c κs =
     let x = c .before .before .before .before .before .before .before in
-    let a = x .args in
-    (rw (c .triangle-at .ensures, ← points-count (a .points .now)) (cornered (a .points .now) (a .indices .now) (x .pre .1 .0 .numbered) (λ i. omega (arith, c .before .before .before .before .before .shared-slice-known2 .given i)) (a .k) (x .pre .0)), x .pre .1 .1)
+    let a = x .args in (
+      rw (c .triangle-at .ensures, ← points-count (a .points .now)) (cornered (a .points .now) (a .indices .now) (x .pre .1 .0 .numbered)
+          (λ i. omega (arith, c .before .before .before .before .before .shared-slice-known2 .given i)) (a .k) (x .pre .0)),
+      x .pre .1 .1,
+    )
 
 returns-2 : tie.Need-returns-2
 returns-2 c = sym (face-found _ _ _ _ _ _ (c .before .before .triangle-at .ensures) _ (c .before .has-face .ensures) (c .if2 .taken))
@@ -32,7 +35,9 @@ returns-2 c = sym (face-found _ _ _ _ _ _ (c .before .before .triangle-at .ensur
 returns-3 : tie.Need-returns-3
 returns-3 c =
     let x = c .before .before .before .before .before .before .before .before .before .before in
-    face-missing _ _ _ _ _ _ (c .before .before .before .triangle-at .ensures) _ (c .before .before .has-face .ensures) (c .before .if2 .left) (x .pre .1 .0) (λ i. omega (arith, c .before .before .before .before .before .before .before .before .shared-slice-known2 .given i)) (x .pre .0) _ (c .has-triangle-in .ensures)
+    face-missing _ _ _ _ _ _ (c .before .before .before .triangle-at .ensures) _ (c .before .before .has-face .ensures) (c .before .if2 .left) (x .pre .1 .0)
+    (λ i. omega (arith, c .before .before .before .before .before .before .before .before .shared-slice-known2 .given i)) (x .pre .0) _
+    (c .has-triangle-in .ensures)
 
 pub lacks-face-spec : {M : Type 1} → statement M
 lacks-face-spec =

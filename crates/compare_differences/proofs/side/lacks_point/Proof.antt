@@ -19,7 +19,8 @@ returns : tie.Need-returns
 returns c = sym (point-found _ _ _ _ _ (c .before .before .point-at .ensures) (c .before .find-point .ensures) (c .if1 .taken))
 
 returns-2 : tie.Need-returns-2
-returns-2 c = sym (point-missing _ _ _ _ _ (c .before .before .point-at .ensures) (c .before .before .before .before .before .pre .1) (c .before .before .before .before .before .pre .0) (c .before .find-point .ensures) (c .if1 .left))
+returns-2 c = sym (point-missing _ _ _ _ _ (c .before .before .point-at .ensures) (c .before .before .before .before .before .pre .1)
+    (c .before .before .before .before .before .pre .0) (c .before .find-point .ensures) (c .if1 .left))
 
 pub lacks-point-spec : {M : Type 1} → statement M
 lacks-point-spec = tie.close (tie.spec point-at-requires find-point-requires returns returns-2)

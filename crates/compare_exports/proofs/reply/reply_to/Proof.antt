@@ -26,10 +26,12 @@ returns-2 : tie.Need-returns-2
 returns-2 c = ap (λ (a : Comparison). comparisonReply (comparisonCode a)) (sym (c .before .answer2 .given .1))
 
 returns-3 : tie.Need-returns-3
-returns-3 c = ap (λ (n : ℕ). record { number = 41 + n; count = 0 }) (c .shift-of .ensures) ∙ fault-told 41 (c .before .before .answer3 .given .0 .0) ∙ ap (λ (a : Comparison). comparisonReply (comparisonCode a)) (sym (c .before .before .answer3 .given .1))
+returns-3 c = ap (λ (n : ℕ). record { number = 41 + n; count = 0 }) (c .shift-of .ensures) ∙ fault-told 41 (c .before .before .answer3 .given .0 .0) ∙
+    ap (λ (a : Comparison). comparisonReply (comparisonCode a)) (sym (c .before .before .answer3 .given .1))
 
 returns-4 : tie.Need-returns-4
-returns-4 c = ap (λ (n : ℕ). record { number = 44 + n; count = 0 }) (c .shift-of2 .ensures) ∙ fault-told 44 (c .before .before .answer4 .given .0 .0) ∙ ap (λ (a : Comparison). comparisonReply (comparisonCode a)) (sym (c .before .before .answer4 .given .1))
+returns-4 c = ap (λ (n : ℕ). record { number = 44 + n; count = 0 }) (c .shift-of2 .ensures) ∙ fault-told 44 (c .before .before .answer4 .given .0 .0) ∙
+    ap (λ (a : Comparison). comparisonReply (comparisonCode a)) (sym (c .before .before .answer4 .given .1))
 
 pub reply-to-spec : {M : Type 1} → statement M
 reply-to-spec =

@@ -12,13 +12,35 @@ fill-requires c κs =
 
 flag-missing-requires : tie.Need-flag-missing-requires
 flag-missing-requires c κs =
-    let p = c .before .before .before .before .before .before .before .before .before .before .before .before .before .before .before .before .before .before .before .pre in
-    (p .0 .good, (record { good = p .0 .others; linked = c .before .before .before .before .before .before .before .fill .ensures; fits = omega (arith, p .1 .1 .1 .0, c .before .before .before .before .before .before .heads .given); few = omega (arith, p .1 .0 .points) }, (p .0 .partnered, p .0 .room)))
+    let p = c .before .before .before .before .before .before .before .before .before .before .before .before .before .before .before .before .before .before .before .pre in (
+      p .0 .good,
+      (
+        record {
+          good = p .0 .others;
+          linked = c .before .before .before .before .before .before .before .fill .ensures;
+          fits =
+              omega (arith, p .1 .1 .1 .0, c .before .before .before .before .before .before .heads .given);
+          few = omega (arith, p .1 .0 .points);
+        },
+        (p .0 .partnered, p .0 .room),
+      ),
+    )
 
 flag-first-requires : tie.Need-flag-first-requires
 flag-first-requires c κs =
-    let p = c .before .before .before .before .before .before .before .before .before .before .before .before .before .before .before .before .before .before .before .before .before .before .before .before .before .pre in
-    (record { good = p .0 .others; linked = c .before .before .before .before .before .before .before .before .before .before .before .before .before .fill .ensures; fits = omega (arith, p .1 .1 .1 .0, c .before .before .before .before .before .before .before .before .before .before .before .before .heads .given); few = omega (arith, p .1 .0 .points) }, p .0 .other-room)
+    let p = c .before .before .before .before .before .before .before .before .before .before .before .before .before .before .before .before .before .before
+    .before .before .before .before .before .before .before .pre in (
+      record {
+        good = p .0 .others;
+        linked =
+            c .before .before .before .before .before .before .before .before .before .before .before .before .before .fill .ensures;
+        fits =
+            omega (arith, p .1 .1 .1 .0, c .before .before .before .before .before .before .before .before .before .before .before .before .heads .given);
+        few =
+            omega (arith, p .1 .0 .points);
+      },
+      p .0 .other-room,
+    )
 
 pub flag-by-spec : {M : Type 1} → statement M
 flag-by-spec =

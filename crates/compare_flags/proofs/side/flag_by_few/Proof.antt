@@ -14,7 +14,10 @@ returns-2 : tie.Need-returns-2
 returns-2 c = (λ h. absurd (true≢false (sym h)), λ h. (refl, refl))
 
 flag-by-requires : tie.Need-flag-by-requires
-flag-by-requires c κs = (c .before .before .before .before .before .before .before .before .before .before .before .before .before .pre, (record { points = omega arith; indices = omega arith }, (zeros-all 64, (omega arith, omega arith))))
+flag-by-requires c κs = (
+  c .before .before .before .before .before .before .before .before .before .before .before .before .before .pre,
+  (record { points = omega arith; indices = omega arith }, (zeros-all 64, (omega arith, omega arith))),
+)
 
 returns-3 : tie.Need-returns-3
 returns-3 c = (λ h. c .before .before .before .before .before .before .flag-by .ensures, λ h. absurd (true≢false h))

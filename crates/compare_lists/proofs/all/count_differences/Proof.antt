@@ -12,7 +12,8 @@ use Rattle.compare_lists.proofs.list.count_faces.Reads as count-faces-r
 use Rattle.compare_lists.proofs.list.count_points.Reads as count-points-reads
 
 -- after all four counts
-few-counted : (c : tie.After-count-faces2) → (let a = c .before .before .before .before .before .before .before .before .before .before .before .before .args in Few (a .left-points .now) (a .left-indices .now) (a .right-points .now) (a .right-indices .now))
+few-counted : (c : tie.After-count-faces2) → (let a = c .before .before .before .before .before .before .before .before .before .before .before .before .args in
+    Few (a .left-points .now) (a .left-indices .now) (a .right-points .now) (a .right-indices .now))
 few-counted c = few _ _ _ _
 
 returns : tie.Need-returns

@@ -10,7 +10,11 @@ use Rattle.compare_lists.proofs.ask.lacks_face.Lts as lts
 use Rattle.compare_differences.proofs.side.lacks_face.Reads as lacks-face-reads
 
 shared-slice-read-result : tie.Need-shared-slice-read-result
-shared-slice-read-result c = omega (arith, (c .before .before .before .before .before .before .before .pre .1 .1 .1 .is (c .before .if1 .taken)) .room, c .before .before .before .before .before .before .before .pre .0)
+shared-slice-read-result c = omega (
+  arith,
+  (c .before .before .before .before .before .before .before .pre .1 .1 .1 .is (c .before .if1 .taken)) .room,
+  c .before .before .before .before .before .before .before .pre .0,
+)
 
 returns : tie.Need-returns
 returns c = flag-tells (c .before .before .before .before .before .before .before .pre .1 .1 .1 .is (c .before .if1 .taken)) _ (c .before .before .before .before .before .before .before .pre .0)

@@ -15,7 +15,8 @@ use Rattle.compare_lists.proofs.list.write_faces.Statement.{statement}
 use Rattle.compare_lists.proofs.list.write_faces.Tie as tie
 
 abbrev Inv-loop : tie.InvT-loop
-Inv-loop out₀ at side points indices other-points other-indices known flags count to₀ k₀ out to k = Counting (λ i. wordsIf 1 side (lacks sameFace (faceRow points indices) (faceRow other-points other-indices) i) i) k count out to out₀ at
+Inv-loop out₀ at side points indices other-points other-indices known flags count to₀ k₀ out to k = Counting
+    (λ i. wordsIf 1 side (lacks sameFace (faceRow points indices) (faceRow other-points other-indices) i) i) k count out to out₀ at
 
 abbrev μ-loop : tie.MeasureT-loop
 μ-loop out₀ at side points indices other-points other-indices known flags count to₀ k₀ out to k = count - k

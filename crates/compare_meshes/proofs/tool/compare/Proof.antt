@@ -10,15 +10,21 @@ returns c = refused-left _ _ _ _ _ _ (sym (c .before .before .before .check-mesh
 
 returns-2 : tie.Need-returns-2
 returns-2 c =
-    refused-right _ _ _ _ _ _ (sym (c .before .before .before .before .before .before .check-mesh .ensures) ∙ c .before .before .before .before .enum-told .given .1) (sym (c .before .before .before .check-mesh2 .ensures) ∙ c .before .right .given .1)
+    refused-right _ _ _ _ _ _ (sym (c .before .before .before .before .before .before .check-mesh .ensures) ∙
+    c .before .before .before .before .enum-told .given .1) (sym (c .before .before .before .check-mesh2 .ensures) ∙ c .before .right .given .1)
 
 list-differences-requires : tie.Need-list-differences-requires
-list-differences-requires c κs =
-    (sound-good _ _ (sym (c .before .before .before .before .before .before .check-mesh .ensures) ∙ c .before .before .before .before .enum-told .given .1), sound-good _ _ (sym (c .before .before .before .check-mesh2 .ensures) ∙ c .before .enum-told2 .given .1))
+list-differences-requires c κs = (
+  sound-good _ _ (sym (c .before .before .before .before .before .before .check-mesh .ensures) ∙ c .before .before .before .before .enum-told .given .1),
+  sound-good _ _ (sym (c .before .before .before .check-mesh2 .ensures) ∙ c .before .enum-told2 .given .1),
+)
 
 returns-3 : tie.Need-returns-3
 returns-3 c =
-    both-sound _ _ _ _ _ _ _ (sym (c .before .before .before .before .before .before .before .before .before .check-mesh .ensures) ∙ c .before .before .before .before .before .before .before .enum-told .given .1) (sym (c .before .before .before .before .before .before .check-mesh2 .ensures) ∙ c .before .before .before .before .enum-told2 .given .1) (c .before .before .list-differences .ensures)
+    both-sound _ _ _ _ _ _ _ (sym (c .before .before .before .before .before .before .before .before .before .check-mesh .ensures) ∙
+    c .before .before .before .before .before .before .before .enum-told .given .1)
+    (sym (c .before .before .before .before .before .before .check-mesh2 .ensures) ∙ c .before .before .before .before .enum-told2 .given .1)
+    (c .before .before .list-differences .ensures)
 
 pub compare-spec : {M : Type 1} → statement M
 compare-spec =

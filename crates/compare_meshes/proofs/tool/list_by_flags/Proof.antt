@@ -19,11 +19,23 @@ write-differences-requires : tie.Need-write-differences-requires
 write-differences-requires c κs =
     let a = c .before .before .before .before .before .before .before .before .before .before .before .before .before .args in
     let l = readMesh (a .left-points .now) (a .left-indices .now) in
-    let r = readMesh (a .right-points .now) (a .right-indices .now) in
-    (c .before .before .before .before .before .before .before .before .before .before .before .before .before .pre .0, (c .before .before .before .before .before .before .before .before .before .before .before .before .before .pre .1 .0, (c .before .before .before .before .before .before .before .before .before .before .before .before .before .pre .1 .1, omega (arith, words-length (differences l r), c .before .before .before .count-differences .ensures, c .before .if2 .left))))
+    let r = readMesh (a .right-points .now) (a .right-indices .now) in (
+      c .before .before .before .before .before .before .before .before .before .before .before .before .before .pre .0,
+      (
+        c .before .before .before .before .before .before .before .before .before .before .before .before .before .pre .1 .0,
+        (
+          c .before .before .before .before .before .before .before .before .before .before .before .before .before .pre .1 .1,
+          omega (arith, words-length (differences l r), c .before .before .before .count-differences .ensures, c .before .if2 .left),
+        ),
+      ),
+    )
 
 returns-3 : tie.Need-returns-3
-returns-3 c = record { answer = counted-fits _ _ _ (c .before .before .before .before .before .before .count-differences .ensures) (c .before .before .before .before .if2 .left); list = c .before .before .write-differences .ensures .is }
+returns-3 c = record {
+  answer = counted-fits _ _ _ (c .before .before .before .before .before .before .count-differences .ensures)
+      (c .before .before .before .before .if2 .left);
+  list = c .before .before .write-differences .ensures .is;
+}
 
 pub list-by-flags-spec : {M : Type 1} → statement M
 list-by-flags-spec =

@@ -31,7 +31,9 @@ cast-if3 c = omega (arith, c .shared-slice-known9 .given (c .before .before .bef
 returns-3 : tie.Need-returns-3
 returns-3 c =
     let p = c .before .before .before .before .before .before .before .before .before .before .before .before .pre in
-    corner-missing-c _ _ _ _ (p .1 .0 .good) (λ k. omega (arith, c .before .before .before .before .before .before .before .before .before .shared-slice-known3 .given k)) (p .1 .1) _ (p .0) (c .if3 .taken)
+    corner-missing-c _ _ _ _ (p .1 .0 .good)
+    (λ k. omega (arith, c .before .before .before .before .before .before .before .before .before .shared-slice-known3 .given k)) (p .1 .1) _ (p .0)
+    (c .if3 .taken)
 
 has-triangle-requires : tie.Need-has-triangle-requires
 has-triangle-requires c κs =
@@ -41,7 +43,10 @@ has-triangle-requires c κs =
 returns-4 : tie.Need-returns-4
 returns-4 c =
     let p = c .before .before .before .before .before .before .before .before .before .before .before .before .before .pre in
-    corners-found _ _ _ _ (p .1 .0 .good) (λ k. omega (arith, c .before .before .before .before .before .before .before .before .before .before .shared-slice-known3 .given k)) (p .1 .1) _ (p .0) _ _ _ _ refl refl refl (c .before .before .before .before .before .if1 .left) (c .before .before .before .if2 .left) (c .before .if3 .left) (omega (arith, p .1 .0 .few)) (c .has-triangle .ensures)
+    corners-found _ _ _ _ (p .1 .0 .good)
+    (λ k. omega (arith, c .before .before .before .before .before .before .before .before .before .before .shared-slice-known3 .given k)) (p .1 .1) _ (p .0)
+    _ _ _ _ refl refl refl (c .before .before .before .before .before .if1 .left) (c .before .before .before .if2 .left) (c .before .if3 .left)
+    (omega (arith, p .1 .0 .few)) (c .has-triangle .ensures)
 
 pub has-face-spec : {M : Type 1} → statement M
 has-face-spec =

@@ -15,10 +15,16 @@ has-earlier-requires : tie.Need-has-earlier-requires
 has-earlier-requires c κs = search needs
 
 returns-2 : tie.Need-returns-2
-returns-2 c = flag-falls (c .before .before .before .before .before .before .before .before .args .flag) _ _ (omega arith) (c .if2 .taken) (first-is _ _ _ _ _ (c .before .before .triangle-at .ensures) (c .before .before .before .before .before .before .before .before .pre .1 .good) (λ i. omega (arith, c .before .before .before .before .before .before .shared-slice-known2 .given i)) (c .before .before .before .before .before .before .before .before .pre .0) (c .before .has-earlier .ensures))
+returns-2 c = flag-falls (c .before .before .before .before .before .before .before .before .args .flag) _ _ (omega arith) (c .if2 .taken)
+    (first-is _ _ _ _ _ (c .before .before .triangle-at .ensures) (c .before .before .before .before .before .before .before .before .pre .1 .good)
+    (λ i. omega (arith, c .before .before .before .before .before .before .shared-slice-known2 .given i))
+    (c .before .before .before .before .before .before .before .before .pre .0) (c .before .has-earlier .ensures))
 
 returns-3 : tie.Need-returns-3
-returns-3 c = flag-stays (c .before .before .before .before .before .before .before .before .args .flag) _ _ (omega arith) (c .if2 .left) (first-is _ _ _ _ _ (c .before .before .triangle-at .ensures) (c .before .before .before .before .before .before .before .before .pre .1 .good) (λ i. omega (arith, c .before .before .before .before .before .before .shared-slice-known2 .given i)) (c .before .before .before .before .before .before .before .before .pre .0) (c .before .has-earlier .ensures))
+returns-3 c = flag-stays (c .before .before .before .before .before .before .before .before .args .flag) _ _ (omega arith) (c .if2 .left)
+    (first-is _ _ _ _ _ (c .before .before .triangle-at .ensures) (c .before .before .before .before .before .before .before .before .pre .1 .good)
+    (λ i. omega (arith, c .before .before .before .before .before .before .shared-slice-known2 .given i))
+    (c .before .before .before .before .before .before .before .before .pre .0) (c .before .has-earlier .ensures))
 
 pub first-flag-spec : {M : Type 1} → statement M
 first-flag-spec =

@@ -34,8 +34,12 @@ loop-less c = search needs
 
 loop-again : tie.Need-loop-again Inv-loop μ-loop
 loop-again c =
-    let l = c .before .before .before .loop in
-    (omega arith, narrowed-more _ (l .inv .1) (omega (arith, l .inv .1 .size, c .before .before .before .before .before .before .before .before .before .before .before .before .pre .1 .1 .1)) (c .missing-flag .ensures))
+    let l = c .before .before .before .loop in (
+      omega arith,
+      narrowed-more _ (l .inv .1)
+          (omega (arith, l .inv .1 .size, c .before .before .before .before .before .before .before .before .before .before .before .before .pre .1 .1 .1))
+          (c .missing-flag .ensures),
+    )
 
 same-length : tie.Need-same-length Inv-loop μ-loop
 same-length c = search needs

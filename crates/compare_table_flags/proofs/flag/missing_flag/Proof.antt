@@ -16,14 +16,19 @@ triangle-at-requires c κs = search needs
 has-face-requires : tie.Need-has-face-requires
 has-face-requires c κs =
     let x = c .before .before .before .before .before .before .before .before .before in
-    let a = x .args in
-    (rw (c .triangle-at .ensures, ← points-count (a .points .now)) (cornered (a .points .now) (a .indices .now) (x .pre .1 .0 .numbered) (λ i. omega (arith, c .before .before .before .before .before .before .before .shared-slice-known2 .given i)) (a .k) (x .pre .0)), (x .pre .1 .1 .0, x .pre .1 .1 .1))
+    let a = x .args in (
+      rw (c .triangle-at .ensures, ← points-count (a .points .now)) (cornered (a .points .now) (a .indices .now) (x .pre .1 .0 .numbered)
+          (λ i. omega (arith, c .before .before .before .before .before .before .before .shared-slice-known2 .given i)) (a .k) (x .pre .0)),
+      (x .pre .1 .1 .0, x .pre .1 .1 .1),
+    )
 
 returns-2 : tie.Need-returns-2
-returns-2 c = flag-falls (c .before .before .before .before .before .before .before .before .before .before .before .args .flag) _ _ (omega arith) (c .if2 .taken) (missing-is _ _ _ _ _ _ _ (c .before .before .triangle-at .ensures) (c .before .has-face .ensures))
+returns-2 c = flag-falls (c .before .before .before .before .before .before .before .before .before .before .before .args .flag) _ _ (omega arith)
+    (c .if2 .taken) (missing-is _ _ _ _ _ _ _ (c .before .before .triangle-at .ensures) (c .before .has-face .ensures))
 
 returns-3 : tie.Need-returns-3
-returns-3 c = flag-stays (c .before .before .before .before .before .before .before .before .before .before .before .args .flag) _ _ (omega arith) (c .if2 .left) (missing-is _ _ _ _ _ _ _ (c .before .before .triangle-at .ensures) (c .before .has-face .ensures))
+returns-3 c = flag-stays (c .before .before .before .before .before .before .before .before .before .before .before .args .flag) _ _ (omega arith)
+    (c .if2 .left) (missing-is _ _ _ _ _ _ _ (c .before .before .triangle-at .ensures) (c .before .has-face .ensures))
 
 pub missing-flag-spec : {M : Type 1} → statement M
 missing-flag-spec =

@@ -41,8 +41,12 @@ loop-less c = search needs
 
 loop-again : tie.Need-loop-again Inv-loop μ-loop
 loop-again c =
-    let l = c .before .before .before .loop in
-    (omega arith, partners-more _ _ (l .inv .1) (omega (arith, l .inv .2, c .before .before .before .before .before .before .before .before .pre .1 .1 .0)) (c .before .point-at .ensures) (c .find .ensures), length-set (l .partners) (l .k) _ ∙ l .inv .2)
+    let l = c .before .before .before .loop in (
+      omega arith,
+      partners-more _ _ (l .inv .1) (omega (arith, l .inv .2, c .before .before .before .before .before .before .before .before .pre .1 .1 .0))
+          (c .before .point-at .ensures) (c .find .ensures),
+      length-set (l .partners) (l .k) _ ∙ l .inv .2,
+    )
 
 same-length : tie.Need-same-length Inv-loop μ-loop
 same-length c = search needs

@@ -25,8 +25,10 @@ same-length c = search needs
 returns : tie.Need-returns
 returns c =
     let p = c .before .before .before .before .before .before in
-    let a = p .before .before .before .before .args in
-    (wrote-then (omega arith) (p .put-bytes .ensures) (c .before .before .put-line2 .ensures), omega (arith, line-length 9 (a .points ∷ a .indices ∷ []) (more (omega arith) (more (omega arith) none))))
+    let a = p .before .before .before .before .args in (
+      wrote-then (omega arith) (p .put-bytes .ensures) (c .before .before .put-line2 .ensures),
+      omega (arith, line-length 9 (a .points ∷ a .indices ∷ []) (more (omega arith) (more (omega arith) none))),
+    )
 
 pub put-drawn-spec : {M : Type 1} → statement M
 put-drawn-spec = tie.close (tie.spec slice-aggregate-put-bytes put-bytes-requires put-line2-requires same-length returns)

@@ -14,7 +14,8 @@ write-coordinates-requires c κs =
     let a = c .before .before .before .before .before .before .before .before .before .before .before .before .before .before .before .before .before .before .args in
     let judge = c .before .before .before .before .before .before .before .before .before .before .before .before .before .before .judge in
     let drawn = c .before .before .before .before .before .before .before .before .before .draw-points in
-    let fits = answer-fits (a .settings) (a .patch) (a .vertices .now) (a .indices .now) (a .floats .now) (judge .result) (c .before .before .before .before .before .before .before .before .before .before .before .before .answer .given .1) (judge .ensures) in
+    let fits = answer-fits (a .settings) (a .patch) (a .vertices .now) (a .indices .now) (a .floats .now) (judge .result)
+    (c .before .before .before .before .before .before .before .before .before .before .before .before .answer .given .1) (judge .ensures) in
     loop-asks (a .settings) (a .patch) fits (points-over (a .settings) (a .patch) fits (drawn .result) (drawn .ensures)) (c .one-of .ensures)
 
 returns-2 : tie.Need-returns-2
@@ -23,7 +24,9 @@ returns-2 c =
     let judge = c .before .before .before .before .before .before .before .before .before .before .before .before .before .before .before .before .before .judge in
     let drawn = c .before .before .before .before .before .before .before .before .before .before .before .before .draw-points in
     let connected = c .before .before .before .before .before .before .before .before .draw-indices in
-    all-written (a .settings) (a .patch) (judge .result) (drawn .result) (connected .result) (c .before .before .before .before .before .before .before .before .before .before .before .before .before .before .before .answer .given .1) (judge .ensures) (drawn .ensures) (connected .ensures)
+    all-written (a .settings) (a .patch) (judge .result) (drawn .result) (connected .result)
+    (c .before .before .before .before .before .before .before .before .before .before .before .before .before .before .before .answer .given .1)
+    (judge .ensures) (drawn .ensures) (connected .ensures)
     (c .before .before .before .one-of .ensures) (c .before .before .write-coordinates .ensures)
 
 pub draw-with-floats-spec : {M : Type 1} → statement M

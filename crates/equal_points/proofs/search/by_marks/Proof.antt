@@ -75,7 +75,8 @@ loop-again c =
     let s = c .before .before .before .before .slot-of in (
       omega arith,
       below-more _ (l .j) (l .inv .1) (sym (c .before .before .repeats-earlier .ensures) ∙ c .before .if1 .left),
-      marks-more ps _ (l .j) (s .result) (c .mark-after .result) (l .marks) (l .inv .2) (c .mark-after .ensures) (s .ensures .0 ∙ ap (slotOf _) (c .before .before .before .before .before .point-at .ensures))
+      marks-more ps _ (l .j) (s .result) (c .mark-after .result) (l .marks) (l .inv .2) (c .mark-after .ensures)
+          (s .ensures .0 ∙ ap (slotOf _) (c .before .before .before .before .before .point-at .ensures))
           (omega (arith, s .ensures .1, l .inv .3)),
       length-set (l .marks) (s .result) (c .mark-after .result) ∙ l .inv .3,
     )

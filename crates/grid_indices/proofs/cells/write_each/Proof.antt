@@ -52,7 +52,8 @@ loop-again c =
     let g = a .grid in
     let l = c .before .before .before .before .before .loop in (
       omega (arith, add-mul (l .r) 1 (g .width)),
-      count-step (omega arith) (subst (λ (k : ℕ). Wrote (l .out) (l .to) (rowWords (a .positive) k (g .width) (g .b)) (c .before .before .write-row .last .0) (c .before .before .write-row .result)) (l .inv .0) (c .before .before .write-row .ensures)) (l .inv .1),
+      count-step (omega arith) (subst (λ (k : ℕ). Wrote (l .out) (l .to) (rowWords (a .positive) k (g .width) (g .b)) (c .before .before .write-row .last .0)
+          (c .before .before .write-row .result)) (l .inv .0) (c .before .before .write-row .ensures)) (l .inv .1),
     )
 
 same-length : tie.Need-same-length Inv-loop μ-loop

@@ -22,12 +22,19 @@ add-new-requires-2 c κs =
     let t = a .before .before .before .before in
     let s = t .before .before .before .before .before in
     let p = s .pre in
-    let f = a .add-new .ensures (not-false _ (e .if1 .left)) in
-    (f, (side-at _ _ _ (s .args .k) 1 _ _ (numbered-as _ _ _ _ (e .before .before .before .before .heads .given) (p .1 .0)) (p .1 .1 .1 .0) (t .triangle-at .ensures) (omega arith) (omega arith), room-as (p .1 .1 .0) (omega (arith, p .1 .1 .1 .0)) (e .before .before .links .given)))
+    let f = a .add-new .ensures (not-false _ (e .if1 .left)) in (
+      f,
+      (
+        side-at _ _ _ (s .args .k) 1 _ _ (numbered-as _ _ _ _ (e .before .before .before .before .heads .given) (p .1 .0)) (p .1 .1 .1 .0)
+            (t .triangle-at .ensures) (omega arith) (omega arith),
+        room-as (p .1 .1 .0) (omega (arith, p .1 .1 .1 .0)) (e .before .before .links .given),
+      ),
+    )
 
 add-add-new-2 : tie.Need-add-add-new-2
 add-add-new-2 c =
-    let p = c .before .before .before .before .before .before .before .before .before .before .before .before .before .before .before .before .before .before .before .before .before .before .before .before .before .before .before .pre in
+    let p = c .before .before .before .before .before .before .before .before .before .before .before .before .before .before .before .before .before .before
+    .before .before .before .before .before .before .before .before .before .pre in
     omega (arith, p .1 .1 .1 .0, p .1 .1 .1 .1)
 
 add-new-requires-3 : tie.Need-add-new-requires-3
@@ -38,8 +45,15 @@ add-new-requires-3 c κs =
     let a = e .before .before .before .before .before .before .before in
     let t = a .before .before .before .before in
     let s = t .before .before .before .before .before in
-    let p = s .pre in
-    (filled-as (omega arith) (a2 .add-new2 .ensures (not-false _ (e2 .if2 .left))), (side-at _ _ _ (s .args .k) 2 _ _ (numbered-as _ _ _ _ (e2 .before .before .before .before .heads2 .given ∙ e .before .before .before .before .heads .given) (p .1 .0)) (p .1 .1 .1 .0) (t .triangle-at .ensures) (omega arith) (omega arith), room-as (p .1 .1 .0) (omega (arith, p .1 .1 .1 .0)) (e2 .before .before .links2 .given ∙ e .before .before .links .given)))
+    let p = s .pre in (
+      filled-as (omega arith) (a2 .add-new2 .ensures (not-false _ (e2 .if2 .left))),
+      (
+        side-at _ _ _ (s .args .k) 2 _ _ (numbered-as _ _ _ _ (e2 .before .before .before .before .heads2 .given ∙
+            e .before .before .before .before .heads .given) (p .1 .0)) (p .1 .1 .1 .0) (t .triangle-at .ensures) (omega arith) (omega arith),
+        room-as (p .1 .1 .0)
+            (omega (arith, p .1 .1 .1 .0)) (e2 .before .before .links2 .given ∙ e .before .before .links .given),
+      ),
+    )
 
 returns-3 : tie.Need-returns-3
 returns-3 c = λ h. filled-as (omega arith) (c .before .before .before .before .before .before .add-new3 .ensures h)

@@ -14,7 +14,8 @@ use Rattle.half_edges.proofs.filling.fill.Statement.{statement}
 use Rattle.half_edges.proofs.filling.fill.Tie as tie
 
 abbrev Inv-loop : tie.InvT-loop
-Inv-loop indices small rows₀ heads₀ links₀ count k₀ rows heads links k = (k ≤ count) × FilledTable small (readTriangles indices) (k * 3) rows heads links × (length rows ≡ length rows₀) × (length heads ≡ length heads₀) × (length links ≡ length links₀)
+Inv-loop indices small rows₀ heads₀ links₀ count k₀ rows heads links k = (k ≤ count) × FilledTable small (readTriangles indices) (k * 3) rows heads links ×
+    (length rows ≡ length rows₀) × (length heads ≡ length heads₀) × (length links ≡ length links₀)
 
 abbrev μ-loop : tie.MeasureT-loop
 μ-loop indices small rows₀ heads₀ links₀ count k₀ rows heads links k = count - k
@@ -53,8 +54,13 @@ loop-less c = search needs
 loop-again : tie.Need-loop-again Inv-loop μ-loop
 loop-again c =
     let a = c .before .before .before .before .before .before .before in
-    let l = a .before .before .before .before .before .loop in
-    (omega arith, filled-as (omega arith) (a .add-triangle .ensures (not-false _ (c .if1 .left))), c .before .before .before .before .before .before .rows .given ∙ l .inv .2, c .before .before .before .before .heads .given ∙ l .inv .3, c .before .before .links .given ∙ l .inv .4)
+    let l = a .before .before .before .before .before .loop in (
+      omega arith,
+      filled-as (omega arith) (a .add-triangle .ensures (not-false _ (c .if1 .left))),
+      c .before .before .before .before .before .before .rows .given ∙ l .inv .2,
+      c .before .before .before .before .heads .given ∙ l .inv .3,
+      c .before .before .links .given ∙ l .inv .4,
+    )
 
 same-length-4 : tie.Need-same-length-4 Inv-loop μ-loop
 same-length-4 c = search needs

@@ -32,8 +32,13 @@ list-open-requires-3 c κs =
     let a = b .before .before .before .before in
     let t = a .before .before in
     let s = t .before .before .before .before .before .before in
-    let p = s .pre in
-    (p .0, (side-at _ _ _ (s .args .k) 2 _ _ (p .1 .0) (p .1 .1 .1 .0) (t .triangle-at .ensures) (omega arith) (omega arith), (opens-as (omega arith) (b .list-open2 .ensures), (omega arith, omega arith))))
+    let p = s .pre in (
+      p .0,
+      (
+        side-at _ _ _ (s .args .k) 2 _ _ (p .1 .0) (p .1 .1 .1 .0) (t .triangle-at .ensures) (omega arith) (omega arith),
+        (opens-as (omega arith) (b .list-open2 .ensures), (omega arith, omega arith)),
+      ),
+    )
 
 returns : tie.Need-returns
 returns c = opens-as (omega arith) (c .before .before .list-open3 .ensures)

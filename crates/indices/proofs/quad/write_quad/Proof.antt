@@ -22,7 +22,8 @@ write-cells-requires c κs =
 returns : tie.Need-returns
 returns c =
     let a = c .before .before .before .before .before .before .before .before .before .args in
-    rw (quad-words (a .positive) (a .c0) (a .c1) (a .c2) (a .c3) (a .m) (a .n)) (wrote-then (omega arith) (c .before .before .before .before .before .before .write-frame .ensures) (c .before .before .write-cells .ensures))
+    rw (quad-words (a .positive) (a .c0) (a .c1) (a .c2) (a .c3) (a .m) (a .n)) (wrote-then (omega arith)
+    (c .before .before .before .before .before .before .write-frame .ensures) (c .before .before .write-cells .ensures))
 
 pub write-quad-spec : {M : Type 1} → statement M
 write-quad-spec =

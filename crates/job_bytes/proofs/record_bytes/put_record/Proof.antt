@@ -13,10 +13,12 @@ put-settings-requires : tie.Need-put-settings-requires
 put-settings-requires c κs = search needs
 
 put-top-requires : tie.Need-put-top-requires
-put-top-requires c κs = let start = c .before .before .before .before .before .before .before .before in (start .pre .0, omega (arith, top-length (start .args .version) (start .args .«record» .settings .top)))
+put-top-requires c κs = let start = c .before .before .before .before .before .before .before .before in
+    (start .pre .0, omega (arith, top-length (start .args .version) (start .args .«record» .settings .top)))
 
 put-levels-requires : tie.Need-put-levels-requires
-put-levels-requires c κs = let start = c .before .before .before .before .before .before .before .before .before .before .before .before in omega (arith, top-length (start .args .version) (start .args .«record» .settings .top))
+put-levels-requires c κs = let start = c .before .before .before .before .before .before .before .before .before .before .before .before in
+    omega (arith, top-length (start .args .version) (start .args .«record» .settings .top))
 
 same-length : tie.Need-same-length
 same-length c = search needs

@@ -4,7 +4,11 @@ use Rattle.job_record_text.proofs.reply.put_record.Statement.{statement
 use Rattle.job_record_text.proofs.reply.put_record.Tie as tie
 
 returns : tie.Need-returns
-returns c = rw (c .before .before .before .before .before .before .before .before .before .before .settings-of .ensures, c .before .before .before .before .before .before .before .before .before .before .before .patch-of .ensures) at (c .before .before .before .before .before .before .put-patch .ensures)
+returns c = rw (
+  c .before .before .before .before .before .before .before .before .before .before .settings-of .ensures,
+  c .before .before .before .before .before .before .before .before .before .before .before .patch-of .ensures,
+) at
+    (c .before .before .before .before .before .before .put-patch .ensures)
 
 pub put-record-spec : {M : Type 1} → statement M
 put-record-spec =

@@ -7,7 +7,8 @@ use Rattle.job_record_text.proofs.reply.put_reply.Statement.{statement}
 use Rattle.job_record_text.proofs.reply.put_reply.Tie as tie
 
 returns : tie.Need-returns
-returns c = wrote-as recordReply (c .before .before .before .before .before .before .before .before .before .before .before .found .given .1) (c .before .before .before .before .before .before .put-record .ensures)
+returns c = wrote-as recordReply (c .before .before .before .before .before .before .before .before .before .before .before .found .given .1)
+    (c .before .before .before .before .before .before .put-record .ensures)
 
 pub put-reply-spec : {M : Type 1} → statement M
 put-reply-spec =

@@ -33,12 +33,23 @@ next-place-requires c κs = search needs
 
 loop-less : tie.Need-loop-less Inv-loop μ-loop
 loop-less c =
-    omega (arith, answering-next _ (c .before .before .before .before .before .before .before .before .before .before .before .before .before .before .before .before .before .before .before .args .bytes .now) (c .before .before .before .before .before .before .before .before .before .before .before .before .before .loop-test .taken) (c .before .before .before .before .before .before .before .before .before .before .before .read-record .ensures .is) (c .next-place .ensures))
+    omega (
+      arith,
+      answering-next _ (c .before .before .before .before .before .before .before .before .before .before .before .before .before .before .before
+          .before .before .before .before .args .bytes .now)
+          (c .before .before .before .before .before .before .before .before .before .before .before .before .before .loop-test .taken)
+          (c .before .before .before .before .before .before .before .before .before .before .before .read-record .ensures .is) (c .next-place .ensures),
+    )
 
 loop-again : tie.Need-loop-again Inv-loop μ-loop
 loop-again c =
-    let l = c .before .before .before .before .before .before .before .before .before .before .before .before .before .before in
-    (answering-step _ (l .before .before .before .before .before .args .bytes .now) (c .before .before .before .before .before .before .before .before .before .before .before .before .before .loop-test .taken) (c .before .before .before .before .before .before .before .before .before .before .before .read-record .ensures .is) (c .next-place .ensures) (c .before .before .before .before .before .before .before .put-reply .ensures) (l .loop .inv .0), search needs)
+    let l = c .before .before .before .before .before .before .before .before .before .before .before .before .before .before in (
+      answering-step _ (l .before .before .before .before .before .args .bytes .now)
+          (c .before .before .before .before .before .before .before .before .before .before .before .before .before .loop-test .taken)
+          (c .before .before .before .before .before .before .before .before .before .before .before .read-record .ensures .is) (c .next-place .ensures)
+          (c .before .before .before .before .before .before .before .put-reply .ensures) (l .loop .inv .0),
+      search needs,
+    )
 
 same-length : tie.Need-same-length Inv-loop μ-loop
 same-length c = search needs

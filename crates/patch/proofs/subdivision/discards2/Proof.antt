@@ -18,7 +18,8 @@ returns c = let a = c .before .before .args in some-first discarded (a .a) (a .b
 returns-2 : tie.Need-returns-2
 returns-2 c =
     let a = c .before .before .before .args in
-    some-rest discarded (a .a) (a .b ∷ []) (c .before .before .discards .result) (c .before .before .discards .ensures) (c .discards2 .result) (c .before .if1 .left) (some-last discarded (a .b) (c .discards2 .result) (c .discards2 .ensures))
+    some-rest discarded (a .a) (a .b ∷ []) (c .before .before .discards .result) (c .before .before .discards .ensures) (c .discards2 .result)
+    (c .before .if1 .left) (some-last discarded (a .b) (c .discards2 .result) (c .discards2 .ensures))
 
 pub discards2-spec : {M : Type 1} → statement M
 discards2-spec = tie.close (tie.spec discards-requires discards-requires-2 returns returns-2)

@@ -18,7 +18,8 @@ returns c = let a = c .before .before .args in some-first discarded (a .a) (a .b
 returns-2 : tie.Need-returns-2
 returns-2 c =
     let a = c .before .before .before .args in
-    some-rest discarded (a .a) (a .b ∷ a .c ∷ a .d ∷ []) (c .before .before .discards .result) (c .before .before .discards .ensures) (c .discards3 .result) (c .before .if1 .left) (c .discards3 .ensures)
+    some-rest discarded (a .a) (a .b ∷ a .c ∷ a .d ∷ []) (c .before .before .discards .result) (c .before .before .discards .ensures) (c .discards3 .result)
+    (c .before .if1 .left) (c .discards3 .ensures)
 
 pub discards4-spec : {M : Type 1} → statement M
 discards4-spec = tie.close (tie.spec discards-requires discards3-requires returns returns-2)

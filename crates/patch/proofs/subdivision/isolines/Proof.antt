@@ -10,7 +10,12 @@ returns c = rw (← c .before .discards2 .ensures, c .if1 .taken)
 
 returns-2 : tie.Need-returns-2
 unfolding subdivision
-returns-2 c = rw (← c .before .before .before .before .before .discards2 .ensures, c .before .before .before .before .if1 .left, ← c .before .segments-in .ensures .all, ← c .segments-in2 .ensures .all)
+returns-2 c = rw (
+  ← c .before .before .before .before .before .discards2 .ensures,
+  c .before .before .before .before .if1 .left,
+  ← c .before .segments-in .ensures .all,
+  ← c .segments-in2 .ensures .all,
+)
 
 pub isolines-spec : {M : Type 1} → statement M
 isolines-spec =

@@ -19,7 +19,8 @@ add-result-4 : tie.Need-add-result-4
 add-result-4 c = let v = valid-as (c .before .before .before .before .edges2 .given .1) (c .before .before .before .before .before .before .pre) in omega (arith, v .0 .few, v .1 .few, v .2 .few)
 
 add-result-5 : tie.Need-add-result-5
-add-result-5 c = let v = valid-as (c .before .before .before .before .before .edges2 .given .1) (c .before .before .before .before .before .before .before .pre) in omega (arith, v .0 .few, v .1 .few, v .2 .few, v .3 .few)
+add-result-5 c = let v = valid-as (c .before .before .before .before .before .edges2 .given .1)
+    (c .before .before .before .before .before .before .before .pre) in omega (arith, v .0 .few, v .1 .few, v .2 .few, v .3 .few)
 
 returns : tie.Need-returns
 returns c = around-as (c .before .before .before .before .edges .given .1) (sym (three-around _ _ _))

@@ -23,7 +23,12 @@ sub-result c =
     let a = c .before .before .before .before .before .args in
     let i = run (record { count = 2; scaled = 131072 }) in
     let o = one-inside (run (a .e0)) (run (a .e1)) (run (a .e2)) i refl in
-    omega (arith, c .before .before .write-triangle-patch .ensures .next, words-length (trianglePatch (run (a .e0)) (run (a .e1)) (run (a .e2)) i), outlined-length trianglePlace (run (a .e0) ∷ run (a .e1) ∷ run (a .e2) ∷ []) o)
+    omega (
+      arith,
+      c .before .before .write-triangle-patch .ensures .next,
+      words-length (trianglePatch (run (a .e0)) (run (a .e1)) (run (a .e2)) i),
+      outlined-length trianglePlace (run (a .e0) ∷ run (a .e1) ∷ run (a .e2) ∷ []) o,
+    )
 
 same-length : tie.Need-same-length
 same-length c = search needs

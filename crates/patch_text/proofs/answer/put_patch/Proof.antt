@@ -17,19 +17,22 @@ returns-2 : tie.Need-returns-2
 returns-2 c =
     let start = c .before .before .before .before .before .before .before .before .before .before .before .before .before in
     let a = start .args in
-    wrote-as (λ (l : List ℕ). l) (points-said (a .settings) (a .patch) (c .before .before .before .before .before .before .before .before .draw-points .ensures) (c .before .before .before .before .enum-told .given .1) (start .pre .0)) (c .before .before .put-discarded .ensures)
+    wrote-as (λ (l : List ℕ). l) (points-said (a .settings) (a .patch) (c .before .before .before .before .before .before .before .before .draw-points .ensures)
+    (c .before .before .before .before .enum-told .given .1) (start .pre .0)) (c .before .before .put-discarded .ensures)
 
 returns-3 : tie.Need-returns-3
 returns-3 c =
     let start = c .before .before .before .before .before .before .before .before .before .before .before .before .before in
     let a = start .args in
-    wrote-as (λ (l : List ℕ). l) (points-said (a .settings) (a .patch) (c .before .before .before .before .before .before .before .before .draw-points .ensures) (c .before .before .before .before .enum-told2 .given .1) (start .pre .0)) (c .before .before .put-refused .ensures .0)
+    wrote-as (λ (l : List ℕ). l) (points-said (a .settings) (a .patch) (c .before .before .before .before .before .before .before .before .draw-points .ensures)
+    (c .before .before .before .before .enum-told2 .given .1) (start .pre .0)) (c .before .before .put-refused .ensures .0)
 
 returns-4 : tie.Need-returns-4
 returns-4 c =
     let start = c .before .before .before .before .before .before .before .before .before .before .before .before .before in
     let a = start .args in
-    wrote-as (λ (l : List ℕ). l) (points-said (a .settings) (a .patch) (c .before .before .before .before .before .before .before .before .draw-points .ensures) (c .before .before .before .before .enum-told3 .given .1) (start .pre .0)) (c .before .before .put-refused2 .ensures .0)
+    wrote-as (λ (l : List ℕ). l) (points-said (a .settings) (a .patch) (c .before .before .before .before .before .before .before .before .draw-points .ensures)
+    (c .before .before .before .before .enum-told3 .given .1) (start .pre .0)) (c .before .before .put-refused2 .ensures .0)
 
 pub put-patch-spec : {M : Type 1} → statement M
 put-patch-spec =

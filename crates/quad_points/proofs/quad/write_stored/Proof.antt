@@ -9,20 +9,37 @@ write-outline-requires : tie.Need-write-outline-requires
 write-outline-requires c κs =
     let s = c .before .before .before .before .before .before .before .before .before in
     let a = s .args in
-    outline-ready (a .e0) (a .e1) (a .e2) (a .e3) (c .before .before .before .before .before .before .row-of .ensures) (c .before .before .before .before .before .row-of2 .ensures) (c .before .before .before .before .row-of3 .ensures) (c .before .before .before .row-of4 .ensures) (first-four (s .pre .0)) (a .out .now) (a .at) (first-fits (quad-parts (a .e0) (a .e1) (a .e2) (a .e3) (a .rows) (a .columns) (a .out .now) (a .at) (s .pre .1 .1)))
+    outline-ready (a .e0) (a .e1) (a .e2) (a .e3) (c .before .before .before .before .before .before .row-of .ensures)
+    (c .before .before .before .before .before .row-of2 .ensures) (c .before .before .before .before .row-of3 .ensures)
+    (c .before .before .before .row-of4 .ensures) (first-four (s .pre .0)) (a .out .now) (a .at)
+    (first-fits (quad-parts (a .e0) (a .e1) (a .e2) (a .e3) (a .rows) (a .columns) (a .out .now) (a .at) (s .pre .1 .1)))
 
 write-inside-requires : tie.Need-write-inside-requires
 write-inside-requires c κs =
     let s = c .before .before .before .before .before .before .before .before .before .before .before .before .before in
     let a = s .args in
     let o = c .before .before .before .write-outline in
-    inside-ready (a .rows) (a .columns) (c .before .before .before .before .before .before .row-of5 .ensures) (c .before .before .before .before .before .row-of6 .ensures) (s .pre .0 .1 .1 .1 .1) (o .last .0) (o .result) (second-fits (quad-parts (a .e0) (a .e1) (a .e2) (a .e3) (a .rows) (a .columns) (a .out .now) (a .at) (s .pre .1 .1)) (outline-written (a .e0) (a .e1) (a .e2) (a .e3) (c .before .before .before .before .before .before .before .before .before .before .row-of .ensures) (c .before .before .before .before .before .before .before .before .before .row-of2 .ensures) (c .before .before .before .before .before .before .before .before .row-of3 .ensures) (c .before .before .before .before .before .before .before .row-of4 .ensures) (o .ensures)))
+    inside-ready (a .rows) (a .columns) (c .before .before .before .before .before .before .row-of5 .ensures)
+    (c .before .before .before .before .before .row-of6 .ensures) (s .pre .0 .1 .1 .1 .1) (o .last .0) (o .result)
+    (second-fits (quad-parts (a .e0) (a .e1) (a .e2) (a .e3) (a .rows) (a .columns) (a .out .now) (a .at) (s .pre .1 .1))
+    (outline-written (a .e0) (a .e1) (a .e2) (a .e3) (c .before .before .before .before .before .before .before .before .before .before .row-of .ensures)
+    (c .before .before .before .before .before .before .before .before .before .row-of2 .ensures)
+    (c .before .before .before .before .before .before .before .before .row-of3 .ensures)
+    (c .before .before .before .before .before .before .before .row-of4 .ensures) (o .ensures)))
 
 returns : tie.Need-returns
 returns c =
     let s = c .before .before .before .before .before .before .before .before .before .before .before .before .before .before .before .before in
     let a = s .args in
-    both-parts (quad-parts (a .e0) (a .e1) (a .e2) (a .e3) (a .rows) (a .columns) (a .out .now) (a .at) (s .pre .1 .1)) (outline-written (a .e0) (a .e1) (a .e2) (a .e3) (c .before .before .before .before .before .before .before .before .before .before .before .before .before .row-of .ensures) (c .before .before .before .before .before .before .before .before .before .before .before .before .row-of2 .ensures) (c .before .before .before .before .before .before .before .before .before .before .before .row-of3 .ensures) (c .before .before .before .before .before .before .before .before .before .before .row-of4 .ensures) (c .before .before .before .before .before .before .write-outline .ensures)) (inside-written (a .rows) (a .columns) (c .before .before .before .before .before .before .before .before .before .row-of5 .ensures) (c .before .before .before .before .before .before .before .before .row-of6 .ensures) (c .before .before .write-inside .ensures))
+    both-parts (quad-parts (a .e0) (a .e1) (a .e2) (a .e3) (a .rows) (a .columns) (a .out .now) (a .at) (s .pre .1 .1))
+    (outline-written (a .e0) (a .e1) (a .e2) (a .e3)
+    (c .before .before .before .before .before .before .before .before .before .before .before .before .before .row-of .ensures)
+    (c .before .before .before .before .before .before .before .before .before .before .before .before .row-of2 .ensures)
+    (c .before .before .before .before .before .before .before .before .before .before .before .row-of3 .ensures)
+    (c .before .before .before .before .before .before .before .before .before .before .row-of4 .ensures)
+    (c .before .before .before .before .before .before .write-outline .ensures))
+    (inside-written (a .rows) (a .columns) (c .before .before .before .before .before .before .before .before .before .row-of5 .ensures)
+    (c .before .before .before .before .before .before .before .before .row-of6 .ensures) (c .before .before .write-inside .ensures))
 
 pub write-stored-spec : {M : Type 1} → statement M
 write-stored-spec =

@@ -15,12 +15,34 @@ use Rattle.ring_indices.proofs.nest.write_band.Tie as tie
 write-strip-requires-2 : tie.Need-write-strip-requires-2
 write-strip-requires-2 c κs =
     let a = c .before .before .before .before .before .before .before .before .args in
-    omega (arith, side-next (a .positive) (from 0 (ringAt (a .base) (a .c0 + a .c1 + a .c2))) (a .c0) (c .before .before .before .before .before .line .result) (c .before .before .before .before .write-strip .ensures), c .before .before .before .before .write-strip .kept .1 .0, c .before .before .before .before .before .line .ensures .count, c .line2 .ensures .count)
+    omega (
+      arith,
+      side-next (a .positive) (from 0 (ringAt (a .base) (a .c0 + a .c1 + a .c2))) (a .c0) (c .before .before .before .before .before .line .result)
+          (c .before .before .before .before .write-strip .ensures),
+      c .before .before .before .before .write-strip .kept .1 .0,
+      c .before .before .before .before .before .line .ensures .count,
+      c .line2 .ensures .count,
+    )
 
 write-strip-requires-3 : tie.Need-write-strip-requires-3
 write-strip-requires-3 c κs =
     let a = c .before .before .before .before .before .before .before .before .before .before .before .before .before .args in
-    omega (arith, side-next (a .positive) (from 0 (ringAt (a .base) (a .c0 + a .c1 + a .c2))) (a .c0) (c .before .before .before .before .before .before .before .before .before .before .line .result) (c .before .before .before .before .before .before .before .before .before .write-strip .ensures), c .before .before .before .before .before .before .before .before .before .write-strip .kept .1 .0, c .before .before .before .before .before .before .before .before .before .before .line .ensures .count, side-next (a .positive) (from (a .c0) (ringAt (a .base) (a .c0 + a .c1 + a .c2))) (a .c1) (c .before .before .before .before .before .line2 .result) (c .before .before .before .before .write-strip2 .ensures), c .before .before .before .before .write-strip2 .kept .1 .0, c .before .before .before .before .before .line2 .ensures .count, c .before .before .before .before .before .before .before .before .before .before .before .before .before .pre .0, c .before .before .before .before .before .before .before .before .before .before .before .before .before .pre .1, c .line3 .ensures .count)
+    omega (
+      arith,
+      side-next (a .positive) (from 0 (ringAt (a .base) (a .c0 + a .c1 + a .c2))) (a .c0)
+          (c .before .before .before .before .before .before .before .before .before .before .line .result)
+          (c .before .before .before .before .before .before .before .before .before .write-strip .ensures),
+      c .before .before .before .before .before .before .before .before .before .write-strip .kept .1 .0,
+      c .before .before .before .before .before .before .before .before .before .before .line .ensures .count,
+      side-next (a .positive)
+          (from (a .c0) (ringAt (a .base) (a .c0 + a .c1 + a .c2))) (a .c1) (c .before .before .before .before .before .line2 .result)
+          (c .before .before .before .before .write-strip2 .ensures),
+      c .before .before .before .before .write-strip2 .kept .1 .0,
+      c .before .before .before .before .before .line2 .ensures .count,
+      c .before .before .before .before .before .before .before .before .before .before .before .before .before .pre .0,
+      c .before .before .before .before .before .before .before .before .before .before .before .before .before .pre .1,
+      c .line3 .ensures .count,
+    )
 
 returns : tie.Need-returns
 returns c =
@@ -37,9 +59,21 @@ returns c =
     let l2 = c .before .before .before .line3 in
     let s0 = c .before .before .before .before .before .before .before .before .before .before .before .before .write-strip in
     let s1 = c .before .before .before .before .before .before .before .write-strip2 in
-    band-step (a .positive) F 0 0 e0 (l0 .result) refl (follows-from G 0 (0 * a .r) (a .r) (omega arith) (l0 .ensures)) (e1 ∷ e2 ∷ []) (omega (arith, c .before .before .before .before .before .before .before .before .before .before .before .before .before .before .before .before .pre .1)) (s0 .ensures)
+    band-step (a .positive) F 0 0 e0 (l0 .result) refl (follows-from G 0 (0 * a .r) (a .r) (omega arith) (l0 .ensures)) (e1 ∷ e2 ∷ [])
+    (omega (
+      arith,
+      c .before .before .before .before .before .before .before .before .before .before .before .before .before .before .before .before .pre
+          .1,
+    )) (s0 .ensures)
     (band-step (a .positive) F (a .c0) (0 + a .c0) e1 (l1 .result) (omega arith) (follows-from G (a .r) (1 * a .r) (a .r) (omega arith) (l1 .ensures)) (e2 ∷ [])
-    (omega (arith, side-next (a .positive) (from 0 F) (a .c0) (l0 .result) (s0 .ensures), s0 .kept .1 .0, l0 .ensures .count, c .before .before .before .before .before .before .before .before .before .before .before .before .before .before .before .before .pre .1)) (s1 .ensures)
+    (omega (
+      arith,
+      side-next (a .positive) (from 0 F) (a .c0) (l0 .result) (s0 .ensures),
+      s0 .kept .1 .0,
+      l0 .ensures .count,
+      c .before .before .before .before .before .before .before .before .before .before .before .before .before .before .before .before .pre .1,
+    ))
+    (s1 .ensures)
     (band-last (a .positive) F (a .c0 + a .c1) (0 + a .c0 + a .c1) e2 (l2 .result) (omega arith) (l2 .ensures) (c .before .before .write-strip3 .ensures)))
 
 pub write-band-spec : {M : Type 1} → statement M

@@ -71,10 +71,14 @@ returns c =
     let g1 = indices-length (a .positive) (stepTriangle (on x1) (on y1) false (r + 2) r ∷ []) in
     let n0 = open-next (a .positive) x0 y0 r (omega arith) (s0 .ensures) in
     let n1 = open-next (a .positive) x1 y1 r (omega arith) (s1 .ensures) in
-    three-strips (a .positive) F p r e0 e1 e2 (on x0) (on y0) (on x1) (on y1) (vertex (lineOf x2 p x0)) (vertex (lineOf y2 r y0)) G0 G1 (omega arith) (omega (arith, s0 .kept .0)) (omega arith) (omega arith) (omega arith)
-    (strip-same (on x0) (from 0 F) (on y0) (e0 .line) p r (λ i h. on-ring base total 0 x0 i (omega arith) (omega arith) (omega arith)) (λ i h. on-ring inner (3 * r) (0 * r) y0 i (omega arith) (omega arith) (omega arith)))
-    (strip-same (on x1) (from (0 + p) F) (on y1) (e1 .line) p r (λ i h. on-ring base total (0 + p) x1 i (omega arith) (omega arith) (omega arith)) (λ i h. on-ring inner (3 * r) (1 * r) y1 i (omega arith) (omega arith) (omega arith)))
-    (strip-follows (line-closed base total (0 + p + p) p x2 x0 (omega arith) (omega arith) (omega arith) (omega arith)) (line-closed inner (3 * r) (2 * r) r y2 y0 (omega arith) (omega arith) (omega arith) (omega arith)))
+    three-strips (a .positive) F p r e0 e1 e2 (on x0) (on y0) (on x1) (on y1) (vertex (lineOf x2 p x0)) (vertex (lineOf y2 r y0)) G0 G1 (omega arith)
+    (omega (arith, s0 .kept .0)) (omega arith) (omega arith) (omega arith)
+    (strip-same (on x0) (from 0 F) (on y0) (e0 .line) p r (λ i h. on-ring base total 0 x0 i (omega arith) (omega arith) (omega arith))
+    (λ i h. on-ring inner (3 * r) (0 * r) y0 i (omega arith) (omega arith) (omega arith)))
+    (strip-same (on x1) (from (0 + p) F) (on y1) (e1 .line) p r (λ i h. on-ring base total (0 + p) x1 i (omega arith) (omega arith) (omega arith))
+    (λ i h. on-ring inner (3 * r) (1 * r) y1 i (omega arith) (omega arith) (omega arith)))
+    (strip-follows (line-closed base total (0 + p + p) p x2 x0 (omega arith) (omega arith) (omega arith) (omega arith))
+    (line-closed inner (3 * r) (2 * r) r y2 y0 (omega arith) (omega arith) (omega arith) (omega arith)))
     (s0 .ensures) (omega arith) (s1 .ensures) (omega arith) (s2 .ensures)
 
 pub write-long-band-spec : {M : Type 1} → statement M

@@ -6,7 +6,11 @@ use Rattle.ring_indices.proofs.nest.write_wide_band.Tie as tie
 returns : tie.Need-returns
 returns c =
     let a = c .before .before .before .before .before .before .before .before .args in
-    rw (c .before .before .before .before .before .before .if1 .taken, c .before .before .before .before .before .if2 .taken, c .before .before .before .before .if3 .taken) (c .before .before .write-long-band .ensures)
+    rw (
+      c .before .before .before .before .before .before .if1 .taken,
+      c .before .before .before .before .before .if2 .taken,
+      c .before .before .before .before .if3 .taken,
+    ) (c .before .before .write-long-band .ensures)
 
 pub write-wide-band-spec : {M : Type 1} → statement M
 write-wide-band-spec =

@@ -18,18 +18,22 @@ room-requires c κs =
 returns : tie.Need-returns
 returns c =
     let start = c .before .before .before .before .before in
-    absurd (not-bad (start .args .settings) (start .args .patch) (start .pre .0) (sym (c .enum-told .given .1) ∙ is-measured (start .args .settings) (start .args .patch) (c .before .before .measure .ensures)))
+    absurd (not-bad (start .args .settings) (start .args .patch) (start .pre .0) (sym (c .enum-told .given .1) ∙ is-measured (start .args .settings)
+    (start .args .patch) (c .before .before .measure .ensures)))
 
 returns-2 : tie.Need-returns-2
 unfolding partVerdict
 returns-2 c =
     let start = c .before .before .before .before .before in
-    rw (is-discarded (start .args .settings) (start .args .patch) (start .pre .0) (sym (c .enum-told2 .given .1) ∙ is-measured (start .args .settings) (start .args .patch) (c .before .before .measure .ensures)))
+    rw (is-discarded (start .args .settings) (start .args .patch) (start .pre .0)
+    (sym (c .enum-told2 .given .1) ∙ is-measured (start .args .settings) (start .args .patch) (c .before .before .measure .ensures)))
 
 returns-3 : tie.Need-returns-3
 returns-3 c =
     let start = c .before .before .before .before .before .before .before .before .before in
-    let k = is-counted (start .args .settings) (start .args .patch) (start .pre .0) (sym (c .before .before .before .before .points .given .1) ∙ is-measured (start .args .settings) (start .args .patch) (c .before .before .before .before .before .before .measure .ensures)) in
+    let k = is-counted (start .args .settings) (start .args .patch) (start .pre .0)
+    (sym (c .before .before .before .before .points .given .1) ∙ is-measured (start .args .settings) (start .args .patch)
+    (c .before .before .before .before .before .before .measure .ensures)) in
     part-says (start .args .settings) (start .args .patch) (c .before .before .share-of .ensures) (c .before .share-of2 .ensures) k (c .room .ensures)
 
 pub part-verdict-spec : {M : Type 1} → statement M

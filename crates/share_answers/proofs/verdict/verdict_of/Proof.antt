@@ -13,7 +13,11 @@ returns c = rw (bad (c .before .is-top .result) (c .before .is-top .ensures) (c 
 
 returns-2 : tie.Need-returns-2
 unfolding shareVerdict
-returns-2 c = rw (good (c .before .before .before .is-top .result) (c .before .before .before .is-top .ensures) (c .before .before .if1 .left), bad (c .before .accepts .result) (c .before .accepts .ensures) (c .if2 .taken))
+returns-2 c = rw (
+  good (c .before .before .before .is-top .result) (c .before .before .before .is-top .ensures) (c .before .before .if1 .left),
+  bad
+      (c .before .accepts .result) (c .before .accepts .ensures) (c .if2 .taken),
+)
 
 part-verdict-requires : tie.Need-part-verdict-requires
 part-verdict-requires c κs =
@@ -26,7 +30,12 @@ part-verdict-requires c κs =
 
 returns-3 : tie.Need-returns-3
 unfolding shareVerdict
-returns-3 c = rw (good (c .before .before .before .before .is-top .result) (c .before .before .before .before .is-top .ensures) (c .before .before .before .if1 .left), good (c .before .before .accepts .result) (c .before .before .accepts .ensures) (c .before .if2 .left)) (c .part-verdict .ensures)
+returns-3 c = rw (
+  good (c .before .before .before .before .is-top .result) (c .before .before .before .before .is-top .ensures)
+      (c .before .before .before .if1 .left),
+  good (c .before .before .accepts .result) (c .before .before .accepts .ensures) (c .before .if2 .left),
+)
+    (c .part-verdict .ensures)
 
 pub verdict-of-spec : {M : Type 1} → statement M
 verdict-of-spec =

@@ -18,7 +18,11 @@ add-write-indices-2 c =
     rw (c .before .before .before .part-start .ensures, c .before .before .share-of .ensures) (omega arith)
 
 write-indices-requires : tie.Need-write-indices-requires
-write-indices-requires c κs = (between (c .before .before .before .part-start .ensures) (c .before .before .share-of .ensures) (c .before .before .before .before .before .pre .0), c .before .before .before .before .before .pre .1)
+write-indices-requires c κs = (
+  between (c .before .before .before .part-start .ensures) (c .before .before .share-of .ensures)
+      (c .before .before .before .before .before .pre .0),
+  c .before .before .before .before .before .pre .1,
+)
 
 add-with-used : tie.Need-add-with-used
 add-with-used c =
@@ -29,7 +33,10 @@ add-with-used c =
 returns : tie.Need-returns
 returns c =
     let a = c .before .before .before .before .before .before .before .before .before .args in
-    append-done (c .before .before .before .before .before .before .before .part-start .ensures) (c .before .before .before .before .before .before .share-of .ensures) (a .words) (c .before .before .before .before .before .before .before .before .before .pre .1 .0 ∙ sym (index-words (a .base) (a .settings) (a .patch))) (c .before .before .before .write-indices .ensures) (c .with-used .ensures)
+    append-done (c .before .before .before .before .before .before .before .part-start .ensures)
+    (c .before .before .before .before .before .before .share-of .ensures) (a .words)
+    (c .before .before .before .before .before .before .before .before .before .pre .1 .0 ∙ sym (index-words (a .base) (a .settings) (a .patch)))
+    (c .before .before .before .write-indices .ensures) (c .with-used .ensures)
 
 pub append-indices-spec : {M : Type 1} → statement M
 append-indices-spec =

@@ -41,7 +41,11 @@ add-i : tie.Need-add-i Inv-loop μ-loop
 add-i c = search needs
 
 loop-less : tie.Need-loop-less Inv-loop μ-loop
-loop-less c = omega (arith, length-set (c .before .before .loop .numbers) (c .before .before .loop .i) (c .before .before .before .args .base + getD (c .before .before .loop .numbers) (c .before .before .loop .i) 0))
+loop-less c = omega (
+  arith,
+  length-set (c .before .before .loop .numbers) (c .before .before .loop .i)
+      (c .before .before .before .args .base + getD (c .before .before .loop .numbers) (c .before .before .loop .i) 0),
+)
 
 loop-again : tie.Need-loop-again Inv-loop μ-loop
 loop-again c =

@@ -10,7 +10,8 @@ use Rattle.share_draw.proofs.append.write_points.Tie as tie
 returns : tie.Need-returns
 returns c =
     let a = c .before .before .before .before .before .args in
-    lent-on (c .before .before .before .before .before .pre) (pointWords (a .settings) (a .patch)) (point-words (a .settings) (a .patch)) 3 (pointsOf (a .settings) (a .patch)) (c .before .before .draw-points .ensures)
+    lent-on (c .before .before .before .before .before .pre) (pointWords (a .settings) (a .patch)) (point-words (a .settings) (a .patch)) 3
+    (pointsOf (a .settings) (a .patch)) (c .before .before .draw-points .ensures)
 
 pub write-points-spec : {M : Type 1} → statement M
 write-points-spec =

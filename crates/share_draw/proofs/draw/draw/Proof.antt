@@ -11,26 +11,38 @@ use Rattle.share_draw.proofs.draw.draw.Tie as tie
 cast-base : tie.Need-cast-base
 cast-base c =
     let a = c .before .before .before .before .before .before .before .before .before .before .args in
-    let r = ready-for (a .designer) (a .state) (a .settings) (a .patch) (a .vertices .now) (a .indices .now) (c .before .before .before .before .before .before .before .verdict-of .result) (c .before .before .before .before .before .answer .given .1) (c .before .before .before .before .before .before .before .verdict-of .ensures) in
+    let r = ready-for (a .designer) (a .state) (a .settings) (a .patch) (a .vertices .now) (a .indices .now)
+    (c .before .before .before .before .before .before .before .verdict-of .result) (c .before .before .before .before .before .answer .given .1)
+    (c .before .before .before .before .before .before .before .verdict-of .ensures) in
     rw (c .before .share-of .ensures) (omega (arith, r .numbered))
 
 append-points-requires : tie.Need-append-points-requires
 append-points-requires c κs =
     let a = c .before .before .before .before .before .before .before .before .before .before .before .args in
-    let r = ready-for (a .designer) (a .state) (a .settings) (a .patch) (a .vertices .now) (a .indices .now) (c .before .before .before .before .before .before .before .before .verdict-of .result) (c .before .before .before .before .before .before .answer .given .1) (c .before .before .before .before .before .before .before .before .verdict-of .ensures) in
+    let r = ready-for (a .designer) (a .state) (a .settings) (a .patch) (a .vertices .now) (a .indices .now)
+    (c .before .before .before .before .before .before .before .before .verdict-of .result)
+    (c .before .before .before .before .before .before .answer .given .1)
+    (c .before .before .before .before .before .before .before .before .verdict-of .ensures) in
     (r .vertices, ap (λ (n : ℕ). 3 * n) (r .points))
 
 append-indices-requires : tie.Need-append-indices-requires
 append-indices-requires c κs =
     let a = c .before .before .before .before .before .before .before .before .before .before .before .before .before .before .before .args in
-    let r = ready-for (a .designer) (a .state) (a .settings) (a .patch) (a .vertices .now) (a .indices .now) (c .before .before .before .before .before .before .before .before .before .before .before .before .verdict-of .result) (c .before .before .before .before .before .before .before .before .before .before .answer .given .1) (c .before .before .before .before .before .before .before .before .before .before .before .before .verdict-of .ensures) in
+    let r = ready-for (a .designer) (a .state) (a .settings) (a .patch) (a .vertices .now) (a .indices .now)
+    (c .before .before .before .before .before .before .before .before .before .before .before .before .verdict-of .result)
+    (c .before .before .before .before .before .before .before .before .before .before .answer .given .1)
+    (c .before .before .before .before .before .before .before .before .before .before .before .before .verdict-of .ensures) in
     (r .indices, (r .words, rw (c .before .before .before .before .before .before .share-of .ensures) (r .numbered)))
 
 returns : tie.Need-returns
 returns c =
     let a = c .before .before .before .before .before .before .before .before .before .before .before .before .before .before .before .before .before .before .args in
-    drew-both (a .designer) (a .state) (a .settings) (a .patch) (a .vertices .now) (a .indices .now) (c .before .before .before .before .before .before .before .before .before .before .before .before .before .before .before .verdict-of .result) (c .before .before .before .before .before .before .before .before .before .before .before .before .before .answer .given .1) (c .before .before .before .before .before .before .before .before .before .before .before .before .before .before .before .verdict-of .ensures)
-    (c .before .before .before .before .before .before .before .before .before .share-of .ensures) (c .before .before .before .before .before .before .append-points .ensures) (c .before .before .append-indices .ensures)
+    drew-both (a .designer) (a .state) (a .settings) (a .patch) (a .vertices .now) (a .indices .now)
+    (c .before .before .before .before .before .before .before .before .before .before .before .before .before .before .before .verdict-of .result)
+    (c .before .before .before .before .before .before .before .before .before .before .before .before .before .answer .given .1)
+    (c .before .before .before .before .before .before .before .before .before .before .before .before .before .before .before .verdict-of .ensures)
+    (c .before .before .before .before .before .before .before .before .before .share-of .ensures)
+    (c .before .before .before .before .before .before .append-points .ensures) (c .before .before .append-indices .ensures)
 
 returns-2 : tie.Need-returns-2
 returns-2 c = refused-draw (c .before .verdict-of .result) (c .match .keys2) (c .before .verdict-of .ensures)

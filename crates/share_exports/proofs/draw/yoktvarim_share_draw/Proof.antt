@@ -9,12 +9,24 @@ use Rattle.share_exports.proofs.draw.yoktvarim_share_draw.Tie as tie
 returns : tie.Need-returns
 returns c =
     let a = c .before .before .before .before .before .before .before .before .before .args in
-    draw-refused (a .settings .now) (a .levels .now) (a .designer) (a .state .now) (a .vertices .now) (a .indices .now) (c .before .before .before .before .before .state-in .ensures) (c .before .before .before .before .objection .ensures) (c .before .before .if1 .taken) (c .say-two .ensures)
+    draw-refused (a .settings .now) (a .levels .now) (a .designer) (a .state .now) (a .vertices .now) (a .indices .now)
+    (c .before .before .before .before .before .state-in .ensures) (c .before .before .before .before .objection .ensures) (c .before .before .if1 .taken)
+    (c .say-two .ensures)
 
 returns-2 : tie.Need-returns-2
 returns-2 c =
     let a = c .before .before .before .before .before .before .before .before .before .before .before .before .before .before .before .before .before .before .before .before .before .before .args in
-    draw-known (a .settings .now) (a .levels .now) (a .designer) (a .state .now) (a .vertices .now) (a .indices .now) (c .before .before .before .before .before .before .before .before .before .before .before .before .before .before .before .before .before .before .state-in .ensures) (c .before .before .before .before .before .before .before .before .before .before .before .before .before .before .before .before .before .objection .ensures) (c .before .before .before .before .before .before .before .before .before .before .before .before .before .before .before .if1 .left) (c .before .before .before .before .before .before .before .before .before .before .before .designer-of .ensures) (c .before .before .before .before .before .before .before .before .read-settings .ensures ∙ ap (settingsAt (c .before .before .before .before .before .before .before .before .before .before .before .before .before .before .before .before .before .before .before .before .before .before .args .settings .now) 0) (c .before .before .before .before .before .before .before .before .before .before .before .before .before .top-in .ensures)) (c .before .before .before .before .before .before .before .before .before .before .patch-in .ensures) (c .before .before .before .before .draw-known .ensures)
+    draw-known (a .settings .now) (a .levels .now) (a .designer) (a .state .now) (a .vertices .now) (a .indices .now)
+    (c .before .before .before .before .before .before .before .before .before .before .before .before .before .before .before .before .before .before
+    .state-in .ensures) (c .before .before .before .before .before .before .before .before .before .before .before .before .before .before .before .before
+    .before .objection .ensures) (c .before .before .before .before .before .before .before .before .before .before .before .before .before .before .before
+    .if1 .left) (c .before .before .before .before .before .before .before .before .before .before .before .designer-of .ensures)
+    (c .before .before .before .before .before .before .before .before .read-settings .ensures ∙
+    ap (settingsAt (c .before .before .before .before .before .before .before .before .before .before .before .before .before .before .before .before
+    .before .before .before .before .before .before .args .settings .now) 0)
+    (c .before .before .before .before .before .before .before .before .before .before .before .before .before .top-in .ensures))
+    (c .before .before .before .before .before .before .before .before .before .before .patch-in .ensures)
+    (c .before .before .before .before .draw-known .ensures)
 
 pub yoktvarim-share-draw-spec : {M : Type 1} → statement M
 yoktvarim-share-draw-spec =

@@ -21,7 +21,12 @@ with-used-requires-2 c κs = search needs
 
 returns-2 : tie.Need-returns-2
 unfolding clearVerdict
-returns-2 c = record { answer = rw (good (c .before .before .before .before .before .accepts .result) (c .before .before .before .before .before .accepts .ensures) (c .before .before .before .before .if1 .left)); state = rw (c .before .with-used .ensures, c .with-used2 .ensures) }
+returns-2 c = record {
+  answer = rw (good (c .before .before .before .before .before .accepts .result)
+      (c .before .before .before .before .before .accepts .ensures) (c .before .before .before .before .if1 .left));
+  state =
+      rw (c .before .with-used .ensures, c .with-used2 .ensures);
+}
 
 pub clear-spec : {M : Type 1} → statement M
 clear-spec =

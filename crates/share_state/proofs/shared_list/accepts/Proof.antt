@@ -16,15 +16,35 @@ returns-2 c = rw (eq-eqb _ _ (c .before .before .if1 .left), ne-eqb _ _ (c .if2 
 
 returns-3 : tie.Need-returns-3
 unfolding lent soundState
-returns-3 c = rw (eq-eqb _ _ (c .before .before .before .before .if1 .left), eq-eqb _ _ (c .before .before .if2 .left), bad (c .before .is-sound .result) (c .before .is-sound .ensures) (c .if3 .taken))
+returns-3 c = rw (
+  eq-eqb _ _ (c .before .before .before .before .if1 .left),
+  eq-eqb _ _ (c .before .before .if2 .left),
+  bad (c .before .is-sound .result)
+      (c .before .is-sound .ensures) (c .if3 .taken),
+)
 
 returns-4 : tie.Need-returns-4
 unfolding lent soundState
-returns-4 c = rw (eq-eqb _ _ (c .before .before .before .before .before .before .if1 .left), eq-eqb _ _ (c .before .before .before .before .if2 .left), good (c .before .before .before .is-sound .result) (c .before .before .before .is-sound .ensures) (c .before .before .if3 .left), bad (c .before .is-sound2 .result) (c .before .is-sound2 .ensures) (c .if4 .taken))
+returns-4 c = rw (
+  eq-eqb _ _ (c .before .before .before .before .before .before .if1 .left),
+  eq-eqb _ _ (c .before .before .before .before .if2 .left),
+  good
+      (c .before .before .before .is-sound .result) (c .before .before .before .is-sound .ensures) (c .before .before .if3 .left),
+  bad
+      (c .before .is-sound2 .result) (c .before .is-sound2 .ensures) (c .if4 .taken),
+)
 
 returns-5 : tie.Need-returns-5
 unfolding lent soundState
-returns-5 c = rw (eq-eqb _ _ (c .before .before .before .before .before .before .before .if1 .left), eq-eqb _ _ (c .before .before .before .before .before .if2 .left), good (c .before .before .before .before .is-sound .result) (c .before .before .before .before .is-sound .ensures) (c .before .before .before .if3 .left), good (c .before .before .is-sound2 .result) (c .before .before .is-sound2 .ensures) (c .before .if4 .left)) (c .is-whole .ensures)
+returns-5 c = rw (
+  eq-eqb _ _ (c .before .before .before .before .before .before .before .if1 .left),
+  eq-eqb _ _
+      (c .before .before .before .before .before .if2 .left),
+  good (c .before .before .before .before .is-sound .result)
+      (c .before .before .before .before .is-sound .ensures) (c .before .before .before .if3 .left),
+  good (c .before .before .is-sound2 .result)
+      (c .before .before .is-sound2 .ensures) (c .before .if4 .left),
+) (c .is-whole .ensures)
 
 pub accepts-spec : {M : Type 1} → statement M
 accepts-spec =

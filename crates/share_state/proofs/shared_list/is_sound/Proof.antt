@@ -19,7 +19,11 @@ returns-2 c = rw (good (c .before .before .before .quotas-fit .result) (c .befor
 
 returns-3 : tie.Need-returns-3
 unfolding sound
-returns-3 c = rw (good (c .before .before .before .before .quotas-fit .result) (c .before .before .before .before .quotas-fit .ensures) (c .before .before .before .if1 .left), le-leb _ _ (c .before .if2 .left))
+returns-3 c = rw (
+  good (c .before .before .before .before .quotas-fit .result) (c .before .before .before .before .quotas-fit .ensures)
+      (c .before .before .before .if1 .left),
+  le-leb _ _ (c .before .if2 .left),
+)
 
 pub is-sound-spec : {M : Type 1} → statement M
 is-sound-spec = tie.close (tie.spec quotas-fit-requires returns returns-2 returns-3)

@@ -13,14 +13,20 @@ step-requires c κs = search needs
 after-requires : tie.Need-after-requires
 after-requires c κs =
     let start = c .before .before .before .before in
-    let a = start .args in
-    (outer-goes (a .outer) (a .inner) (a .w) (start .pre .0) (start .pre .1) (flag (a .w .strip) (c .before .before .step .result) true (c .before .before .step .ensures) (c .if1 .taken)), start .pre .0 .x)
+    let a = start .args in (
+      outer-goes (a .outer) (a .inner) (a .w) (start .pre .0) (start .pre .1) (flag (a .w .strip) (c .before .before .step .result) true
+          (c .before .before .step .ensures) (c .if1 .taken)),
+      start .pre .0 .x,
+    )
 
 after-requires-2 : tie.Need-after-requires-2
 after-requires-2 c κs =
     let start = c .before .before .before .before in
-    let a = start .args in
-    (inner-goes (a .outer) (a .inner) (a .w) (start .pre .0) (start .pre .1) (flag (a .w .strip) (c .before .before .step .result) false (c .before .before .step .ensures) (c .if1 .left)), start .pre .0 .y)
+    let a = start .args in (
+      inner-goes (a .outer) (a .inner) (a .w) (start .pre .0) (start .pre .1) (flag (a .w .strip) (c .before .before .step .result) false
+          (c .before .before .step .ensures) (c .if1 .left)),
+      start .pre .0 .y,
+    )
 
 returns : tie.Need-returns
 returns c =

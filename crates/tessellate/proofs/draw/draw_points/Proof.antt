@@ -43,7 +43,8 @@ returns-4 c =
     let counted = c .before .before .before .before .before in
     let e = arm .cut .given .1 in
     let many = cut-points (a .settings) (a .patch) (cut .cut-with .ensures) e (counted .point-count .ensures) in
-    let wrote = c .before .before .write-points .ensures .is ∙ ap (λ (d : Subdivision). over (a .vertices .now) 0 (vertexWords (points d))) (is-cut (a .settings) (a .patch) (cut .cut-with .ensures) e .cut) in
+    let wrote = c .before .before .write-points .ensures .is ∙ ap (λ (d : Subdivision). over (a .vertices .now) 0 (vertexWords (points d)))
+    (is-cut (a .settings) (a .patch) (cut .cut-with .ensures) e .cut) in
     draw-done (a .settings) (a .patch) (cut .cut-with .ensures) _ _ _ _ e (omega (arith, many, c .before .before .before .before .if1 .left)) many refl wrote
 
 pub draw-points-spec : {M : Type 1} → statement M

@@ -16,32 +16,51 @@ row-from-requires-3 : tie.Need-row-from-requires-3
 row-from-requires-3 c κs =
     let s = c .before .before .before .before .before .before .before .before .before .before .before .before .before .before .before .before in
     let a = s .args in
-    kept (a .e0) (s .pre .0 .0 .0 .few) (c .before .before .before .before .fill-row4 .ensures) 65 (kept (a .e1) (s .pre .0 .0 .1 .0 .few) (c .before .before .before .before .before .before .before .fill-row3 .ensures) 0 (c .before .before .before .before .before .before .before .before .before .before .fill-row2 .ensures .row))
+    kept (a .e0) (s .pre .0 .0 .0 .few) (c .before .before .before .before .fill-row4 .ensures) 65
+    (kept (a .e1) (s .pre .0 .0 .1 .0 .few) (c .before .before .before .before .before .before .before .fill-row3 .ensures) 0
+    (c .before .before .before .before .before .before .before .before .before .before .fill-row2 .ensures .row))
 
 row-from-requires-4 : tie.Need-row-from-requires-4
 row-from-requires-4 c κs =
     let s = c .before .before .before .before .before .before .before .before .before .before .before .before .before .before .before .before .before in
     let a = s .args in
-    kept (a .e0) (s .pre .0 .0 .0 .few) (c .before .before .before .before .before .fill-row4 .ensures) 130 (kept (a .e1) (s .pre .0 .0 .1 .0 .few) (c .before .before .before .before .before .before .before .before .fill-row3 .ensures) 65 (kept (a .e2) (s .pre .0 .0 .1 .1 .0 .few) (c .before .before .before .before .before .before .before .before .before .before .before .fill-row2 .ensures) 0 (c .before .before .before .before .before .before .before .before .before .before .before .before .before .before .fill-row .ensures .row)))
+    kept (a .e0) (s .pre .0 .0 .0 .few) (c .before .before .before .before .before .fill-row4 .ensures) 130
+    (kept (a .e1) (s .pre .0 .0 .1 .0 .few) (c .before .before .before .before .before .before .before .before .fill-row3 .ensures) 65
+    (kept (a .e2) (s .pre .0 .0 .1 .1 .0 .few)
+    (c .before .before .before .before .before .before .before .before .before .before .before .fill-row2 .ensures) 0
+    (c .before .before .before .before .before .before .before .before .before .before .before .before .before .before .fill-row .ensures .row)))
 
 write-outline-requires : tie.Need-write-outline-requires
 write-outline-requires c κs =
     let s = c .before .before .before .before .before .before .before .before .before .before .before .before .before .before .before .before .before .before .before in
     let a = s .args in
-    outline-ready (a .e0) (a .e1) (a .e2) (c .before .before .before .before .row-from .ensures) (c .before .before .before .row-from2 .ensures) (c .before .before .row-from3 .ensures) (first-three (s .pre .0 .0)) (a .out .now) (a .at) (first-fits (triangle-parts (a .e0) (a .e1) (a .e2) (a .inside) (s .pre .0 .1) (a .out .now) (a .at) (s .pre .1)))
+    outline-ready (a .e0) (a .e1) (a .e2) (c .before .before .before .before .row-from .ensures) (c .before .before .before .row-from2 .ensures)
+    (c .before .before .row-from3 .ensures) (first-three (s .pre .0 .0)) (a .out .now) (a .at)
+    (first-fits (triangle-parts (a .e0) (a .e1) (a .e2) (a .inside) (s .pre .0 .1) (a .out .now) (a .at) (s .pre .1)))
 
 write-inside-requires : tie.Need-write-inside-requires
 write-inside-requires c κs =
     let s = c .before .before .before .before .before .before .before .before .before .before .before .before .before .before .before .before .before .before .before .before .before .before .before in
     let a = s .args in
     let o = c .before .before .before .write-outline in
-    inside-ready (a .inside) (c .before .before .before .before .before .row-from4 .ensures) (s .pre .0 .1) (s .pre .0 .0 .1 .1 .1) (o .last .0) (o .result) (second-fits (triangle-parts (a .e0) (a .e1) (a .e2) (a .inside) (s .pre .0 .1) (a .out .now) (a .at) (s .pre .1)) (outline-written (a .e0) (a .e1) (a .e2) (c .before .before .before .before .before .before .before .before .row-from .ensures) (c .before .before .before .before .before .before .before .row-from2 .ensures) (c .before .before .before .before .before .before .row-from3 .ensures) (o .ensures)))
+    inside-ready (a .inside) (c .before .before .before .before .before .row-from4 .ensures) (s .pre .0 .1) (s .pre .0 .0 .1 .1 .1) (o .last .0) (o .result)
+    (second-fits (triangle-parts (a .e0) (a .e1) (a .e2) (a .inside) (s .pre .0 .1) (a .out .now) (a .at) (s .pre .1))
+    (outline-written (a .e0) (a .e1) (a .e2) (c .before .before .before .before .before .before .before .before .row-from .ensures)
+    (c .before .before .before .before .before .before .before .row-from2 .ensures) (c .before .before .before .before .before .before .row-from3 .ensures)
+    (o .ensures)))
 
 returns : tie.Need-returns
 returns c =
-    let s = c .before .before .before .before .before .before .before .before .before .before .before .before .before .before .before .before .before .before .before .before .before .before .before .before .before .before in
+    let s = c .before .before .before .before .before .before .before .before .before .before .before .before .before .before .before .before .before .before
+    .before .before .before .before .before .before .before .before in
     let a = s .args in
-    both-parts (triangle-parts (a .e0) (a .e1) (a .e2) (a .inside) (s .pre .0 .1) (a .out .now) (a .at) (s .pre .1)) (outline-written (a .e0) (a .e1) (a .e2) (c .before .before .before .before .before .before .before .before .before .before .before .row-from .ensures) (c .before .before .before .before .before .before .before .before .before .before .row-from2 .ensures) (c .before .before .before .before .before .before .before .before .before .row-from3 .ensures) (c .before .before .before .before .before .before .write-outline .ensures)) (inside-written (a .inside) (c .before .before .before .before .before .before .before .before .row-from4 .ensures) (s .pre .0 .1) (c .before .before .write-inside .ensures))
+    both-parts (triangle-parts (a .e0) (a .e1) (a .e2) (a .inside) (s .pre .0 .1) (a .out .now) (a .at) (s .pre .1))
+    (outline-written (a .e0) (a .e1) (a .e2) (c .before .before .before .before .before .before .before .before .before .before .before .row-from .ensures)
+    (c .before .before .before .before .before .before .before .before .before .before .row-from2 .ensures)
+    (c .before .before .before .before .before .before .before .before .before .row-from3 .ensures)
+    (c .before .before .before .before .before .before .write-outline .ensures))
+    (inside-written (a .inside) (c .before .before .before .before .before .before .before .before .row-from4 .ensures) (s .pre .0 .1)
+    (c .before .before .write-inside .ensures))
 
 pub write-divided-spec : {M : Type 1} → statement M
 write-divided-spec =

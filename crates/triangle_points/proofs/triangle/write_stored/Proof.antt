@@ -16,13 +16,16 @@ write-inside-requires c κs =
     let s = c .before .before .before .before .before .before .before .before in
     let a = s .args in
     let o = c .before .before .before .before .write-stored-outline in
-    inside-ready (a .inside) (c .before .row-of .ensures) (s .pre .0 .1) (s .pre .0 .0 .1 .1 .1) (o .last .0) (o .result) (second-fits (triangle-parts (a .e0) (a .e1) (a .e2) (a .inside) (s .pre .0 .1) (a .out .now) (a .at) (s .pre .1 .1)) (o .ensures))
+    inside-ready (a .inside) (c .before .row-of .ensures) (s .pre .0 .1) (s .pre .0 .0 .1 .1 .1) (o .last .0) (o .result)
+    (second-fits (triangle-parts (a .e0) (a .e1) (a .e2) (a .inside) (s .pre .0 .1) (a .out .now) (a .at) (s .pre .1 .1)) (o .ensures))
 
 returns : tie.Need-returns
 returns c =
     let s = c .before .before .before .before .before .before .before .before .before .before .before in
     let a = s .args in
-    both-parts (triangle-parts (a .e0) (a .e1) (a .e2) (a .inside) (s .pre .0 .1) (a .out .now) (a .at) (s .pre .1 .1)) (c .before .before .before .before .before .before .before .write-stored-outline .ensures) (inside-written (a .inside) (c .before .before .before .before .row-of .ensures) (s .pre .0 .1) (c .before .before .write-inside .ensures))
+    both-parts (triangle-parts (a .e0) (a .e1) (a .e2) (a .inside) (s .pre .0 .1) (a .out .now) (a .at) (s .pre .1 .1))
+    (c .before .before .before .before .before .before .before .write-stored-outline .ensures)
+    (inside-written (a .inside) (c .before .before .before .before .row-of .ensures) (s .pre .0 .1) (c .before .before .write-inside .ensures))
 
 pub write-stored-spec : {M : Type 1} → statement M
 write-stored-spec =

@@ -23,16 +23,22 @@ returns-2 c =
     let put = c .before .before .before .before .before in
     let found = put .before .before in
     let reading = found .before .before in
-    let read = reading .before .before .before .read-or-tell .ensures in
-    (header-unwritten read (reading .if1 .left) (found .read-header .ensures .is) (put .put-header .ensures) (c .before .write-or-tell .ensures) (c .if2 .taken), read-text read (reading .if1 .left) (found .read-header .ensures .is) (put .put-header .ensures))
+    let read = reading .before .before .before .read-or-tell .ensures in (
+      header-unwritten read (reading .if1 .left) (found .read-header .ensures .is) (put .put-header .ensures) (c .before .write-or-tell .ensures)
+          (c .if2 .taken),
+      read-text read (reading .if1 .left) (found .read-header .ensures .is) (put .put-header .ensures),
+    )
 
 returns-3 : tie.Need-returns-3
 returns-3 c =
     let put = c .before .before .before .before .before .before in
     let found = put .before .before in
     let reading = found .before .before in
-    let read = reading .before .before .before .read-or-tell .ensures in
-    (header-written read (reading .if1 .left) (found .read-header .ensures .is) (put .put-header .ensures) (c .before .before .write-or-tell .ensures) (c .before .if2 .left) (c .rest-of .ensures), read-text read (reading .if1 .left) (found .read-header .ensures .is) (put .put-header .ensures))
+    let read = reading .before .before .before .read-or-tell .ensures in (
+      header-written read (reading .if1 .left) (found .read-header .ensures .is) (put .put-header .ensures) (c .before .before .write-or-tell .ensures)
+          (c .before .if2 .left) (c .rest-of .ensures),
+      read-text read (reading .if1 .left) (found .read-header .ensures .is) (put .put-header .ensures),
+    )
 
 pub answer-header-spec : {M : Type 1} → statement M
 answer-header-spec =

@@ -25,7 +25,12 @@ add-read : tie.Need-add-read Inv-loop μ-loop
 add-read c =
     let piece = c .before .before .before .before .before .before .before .before .before in
     let l = piece .before .before .before .before .before .before in
-    omega (arith, within (l .loop .read) (l .loop .written) 9223372036854775808 (piece .before .before .before .before .before .loop-test .taken), piece .answer-chunk .ensures .read .most, size-most (l .before .before .before .before .before .args .version))
+    omega (
+      arith,
+      within (l .loop .read) (l .loop .written) 9223372036854775808 (piece .before .before .before .before .before .loop-test .taken),
+      piece .answer-chunk .ensures .read .most,
+      size-most (l .before .before .before .before .before .args .version),
+    )
 
 add-written : tie.Need-add-written Inv-loop μ-loop
 add-written c =
@@ -43,7 +48,12 @@ loop-less : tie.Need-loop-less Inv-loop μ-loop
 loop-less c =
     let piece = c .before .before .before .before .before .before .before .before .before .before .before .before in
     let l = piece .before .before .before .before .before .before in
-    omega (arith, within (l .loop .read) (l .loop .written) 9223372036854775808 (piece .before .before .before .before .before .loop-test .taken), full-more (piece .answer-chunk .ensures) (not-false (piece .answer-chunk .result .more) (c .if1 .left)))
+    omega (
+      arith,
+      within (l .loop .read) (l .loop .written) 9223372036854775808 (piece .before .before .before .before .before .loop-test .taken),
+      full-more
+          (piece .answer-chunk .ensures) (not-false (piece .answer-chunk .result .more) (c .if1 .left)),
+    )
 
 loop-again : tie.Need-loop-again Inv-loop μ-loop
 loop-again c =

@@ -70,7 +70,12 @@ copy-row-requires : tie.Need-copy-row-requires Inv-loop μ-loop
 copy-row-requires c κs =
     let a = c .before .before .before .before .before .before .before .before .before .before .before .before .before .before .before .args in
     let l = c .before .before .before .before .before .before .before .before .loop in
-    omega (arith, length-take (3 * length (a .columns .now) - 0) (c .before .before .before .before .raise .last .0), rows-fits (crossing (a .rows .now) (a .columns .now)) (length (a .columns .now)) (omega arith) (l .inv .0))
+    omega (
+      arith,
+      length-take (3 * length (a .columns .now) - 0) (c .before .before .before .before .raise .last .0),
+      rows-fits
+          (crossing (a .rows .now) (a .columns .now)) (length (a .columns .now)) (omega arith) (l .inv .0),
+    )
 
 add-r : tie.Need-add-r Inv-loop μ-loop
 add-r c = search needs

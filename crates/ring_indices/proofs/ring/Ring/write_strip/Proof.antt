@@ -14,7 +14,8 @@ same-length : tie.Need-same-length
 same-length c = search needs
 
 returns : tie.Need-returns
-returns c = outer-follows (c .before .before .before .before .before .before .args .positive) (c .before .before .before .before .before .before .args .inner) (c .before .before .before .before .line .ensures) (c .before .before .write-strip .ensures)
+returns c = outer-follows (c .before .before .before .before .before .before .args .positive) (c .before .before .before .before .before .before .args .inner)
+    (c .before .before .before .before .line .ensures) (c .before .before .write-strip .ensures)
 
 pub write-strip-spec : {M : Type 1} → statement M
 write-strip-spec = tie.close (tie.spec line-requires write-strip-requires same-length returns)
