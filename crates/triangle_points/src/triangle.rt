@@ -46,8 +46,11 @@ fn write_stored(
     requires { ⌜ AllValid (e0 ∷ e1 ∷ e2 ∷ inside ∷ []) × (2 ≤ inside .count) ⌝ ∗ ⌜ AllStored (now table) (e0 ∷ e1 ∷ e2 ∷ inside ∷ []) ⌝ ∗ ⌜ at + 3 * length (trianglePatch (run e0) (run e1) (run e2) (run inside)) ≤ length (now out) ⌝ }
     ensures { λ w. ⌜ Wrote (now (out .entry)) at (vertexWords (trianglePatch (run e0) (run e1) (run e2) (run inside))) (now (out .exit)) w ⌝ }
 {
-    let w = write_stored_outline(out, at, table, e0, e1, e2);
+    let r0 = row_of(table, e0);
+    let r1 = row_of(table, e1);
+    let r2 = row_of(table, e2);
     let row = row_of(table, inside);
+    let w = write_outline(out, at, r0, r1, r2);
     write_inside(out, w, row)
 }
 
