@@ -11,7 +11,5 @@ pub use head::put_refused;
 pub use head::put_title;
 pub use line::put_ended;
 pub use line::put_line1;
-pub use line::put_line2;
 pub use line::put_line3;
 pub use number::put_long;
-pub use number::put_number;

@@ -26,7 +26,7 @@ pub fn put_line1(out: &mut [u8], at: usize, x: u32) -> usize
 }
 
 // Writes two numbers as a line.
-pub fn put_line2(out: &mut [u8], at: usize, x: u32, y: u32) -> usize
+pub(crate) fn put_line2(out: &mut [u8], at: usize, x: u32, y: u32) -> usize
     requires { ⌜ at + length (line (x ∷ y ∷ [])) ≤ length (now out) ⌝ }
     ensures { λ r. ⌜ Wrote (now (out .entry)) at (line (x ∷ y ∷ [])) (now (out .exit)) r ⌝ }
 {

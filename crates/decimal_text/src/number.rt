@@ -16,7 +16,7 @@ fn put_pair(out: &mut [u8], at: usize, x: u32) -> usize
 }
 
 // Writes the digits of x, two at a time from the end.
-pub fn put_number(out: &mut [u8], at: usize, x: u32) -> usize
+pub(crate) fn put_number(out: &mut [u8], at: usize, x: u32) -> usize
     requires { ⌜ at + length (digits x) ≤ length (now out) ⌝ }
     ensures { λ r. ⌜ Wrote (now (out .entry)) at (digits x) (now (out .exit)) r ⌝ }
 {

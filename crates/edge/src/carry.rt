@@ -8,7 +8,7 @@ pub struct Carry {
 }
 
 // Divides x by l.
-pub fn divide(x: u64, l: u32) -> Carry
+pub(crate) fn divide(x: u64, l: u32) -> Carry
     requires { ⌜ x ≤ 4294967296 ⌝ ∗ ⌜ 65536 ≤ l ⌝ }
     ensures { λ r. ⌜ Divides x l r ⌝ }
 {
@@ -20,7 +20,7 @@ pub fn divide(x: u64, l: u32) -> Carry
 }
 
 // Returns quotient and remainder of the sum of two dividends, without a division.
-pub fn sum(a: Carry, b: Carry, l: u32) -> Carry
+pub(crate) fn sum(a: Carry, b: Carry, l: u32) -> Carry
     requires { ⌜ (a .quotient ≤ 4194304) × (b .quotient ≤ 4194304) ⌝ ∗ ⌜ (a .remainder < l) × (b .remainder < l) × (l ≤ 4194304) ⌝ }
     ensures { λ r. ⌜ Divides (a .quotient * l + a .remainder + (b .quotient * l + b .remainder)) l r ⌝ }
 {

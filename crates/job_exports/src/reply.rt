@@ -11,7 +11,7 @@ use job_fields::version::version_number;
 use job_writer::answer::HeaderWritten;
 use job_writer::answer::RecordWritten;
 
-pub fn of_written_header(answer: HeaderWritten) -> Reply
+pub(crate) fn of_written_header(answer: HeaderWritten) -> Reply
     ensures { λ r. ⌜ IsReply (headerCode answer) r ⌝ }
 {
     match answer {
@@ -20,7 +20,7 @@ pub fn of_written_header(answer: HeaderWritten) -> Reply
     }
 }
 
-pub fn of_written_record(answer: RecordWritten) -> Reply
+pub(crate) fn of_written_record(answer: RecordWritten) -> Reply
     ensures { λ r. ⌜ IsReply (recordCode answer) r ⌝ }
 {
     match answer {
@@ -31,7 +31,7 @@ pub fn of_written_record(answer: RecordWritten) -> Reply
 }
 
 // The value for 0 is the version's number.
-pub fn of_header(header: Header) -> Reply
+pub(crate) fn of_header(header: Header) -> Reply
     ensures { λ r. ⌜ IsReply (readCode header) r ⌝ }
 {
     match header {

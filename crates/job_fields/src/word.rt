@@ -13,7 +13,7 @@ pub fn read_u16(bytes: &[u8], at: usize) -> u16
     low + 256 * high
 }
 
-pub fn read_u32(bytes: &[u8], at: usize) -> u32
+pub(crate) fn read_u32(bytes: &[u8], at: usize) -> u32
     requires { ⌜ at + 4 ≤ length (now bytes) ⌝ }
     ensures { λ r. ⌜ r ≡ word 4 (now (bytes .entry)) at ⌝ }
 {

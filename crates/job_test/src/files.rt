@@ -9,7 +9,7 @@ fn header(name: &[u8], bytes: &[u8]) {
 }
 
 // Whole and cut headers, and marks of other files.
-pub fn marks() {
+pub(crate) fn marks() {
     header(b"header alone", b"TSJ\x01\x00");
     header(b"header and a byte", b"TSJ\x01\x00\x07");
     header(b"no byte", b"");
@@ -19,7 +19,7 @@ pub fn marks() {
 }
 
 // Versions, and a wrong mark together with a wrong version.
-pub fn versions() {
+pub(crate) fn versions() {
     header(b"version 2", b"TSJ\x02\x00");
     header(b"version 0", b"TSJ\x00\x00");
     header(b"version 3", b"TSJ\x03\x00");

@@ -6,14 +6,14 @@ use job::next::read_record;
 use job_fields::version::Version;
 
 // The record at a place.
-pub fn sample(name: &[u8], bytes: &[u8], version: Version, at: usize) {
+pub(crate) fn sample(name: &[u8], bytes: &[u8], version: Version, at: usize) {
     io::write_all(1, name);
     io::write_all(1, b": ");
     write_answer(read_record(bytes, version, Cursor { at }));
 }
 
 // Every record from a place on.
-pub fn walk(bytes: &[u8], version: Version, from: usize) {
+pub(crate) fn walk(bytes: &[u8], version: Version, from: usize) {
     let mut at = from;
     loop {
         let answer = read_record(bytes, version, Cursor { at });

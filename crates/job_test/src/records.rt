@@ -19,7 +19,7 @@ fn zeros(kind: u8, spacing: u8, order: u8, origin: u8, points: u8) -> [u8; 29] {
 }
 
 // Setting bytes out of range, alone and together.
-pub fn unknown() {
+pub(crate) fn unknown() {
     record(b"kind 3", &zeros(3, 2, 1, 1, 1), 0);
     record(b"spacing 3", &zeros(2, 3, 1, 1, 1), 0);
     record(b"winding 2", &zeros(2, 2, 2, 1, 1), 0);
@@ -30,7 +30,7 @@ pub fn unknown() {
 }
 
 // Under 29 bytes left, with setting bytes in range and out of range.
-pub fn cut() {
+pub(crate) fn cut() {
     record(b"28 bytes", &zeros(0, 0, 0, 0, 0), 1);
     record(b"28 bytes and kind 3", &zeros(0, 3, 0, 0, 0), 1);
     record(b"one byte", &zeros(0, 0, 0, 0, 0), 28);
@@ -38,7 +38,7 @@ pub fn cut() {
 }
 
 // One triangle record: equal spacing, counter-clockwise, lower-left, no point mode, outer levels 1 1 1, inner level 2.
-pub fn whole() {
+pub(crate) fn whole() {
     let bytes =
         b"TSJ\x01\x00\x00\x00\x01\x01\x00\x00\x00\x80\x3f\x00\x00\x80\x3f\x00\x00\x80\x3f\x00\x00\x00\x00\x00\x00\x00\x40\x00\x00\x00\x00";
     record(b"at the record", bytes, 5);
@@ -50,7 +50,7 @@ pub fn whole() {
 }
 
 // Quads with NaNs that have payloads, kind 9, isolines in point mode, and three further bytes.
-pub fn in_turn() {
+pub(crate) fn in_turn() {
     let bytes =
         b"TSJ\x01\x00\x01\x01\x00\x01\x00\x01\x00\x80\x7f\x02\x00\xc0\xff\x00\x00\x80\x7f\x00\x00\x80\xff\x00\x00\x80\x42\x01\x00\x80\x3f\x09\x00\x00\x00\x00------------------------\x02\x02\x01\x00\x01\x00\x00\x40\x40\x00\x00\x00\x40\x01\x02\x03\x04\x05\x06\x07\x08\x00\x00\x00\x80\xff\xff\xff\xff\x00\x01\x02";
     walk(bytes, Version::One, 5);

@@ -13,7 +13,7 @@ use patch::settings::DomainOrigin;
 use patch::settings::Settings;
 use patch::settings::VertexOrder;
 
-pub fn write_header(header: Header) {
+pub(crate) fn write_header(header: Header) {
     match header {
         Header::Read { version, next } => {
             io::write_all(1, b"version ");
@@ -31,7 +31,7 @@ pub fn write_header(header: Header) {
     }
 }
 
-pub fn write_answer(answer: NextRecord) {
+pub(crate) fn write_answer(answer: NextRecord) {
     match answer {
         NextRecord::Read { record, next } => {
             write_record(record);

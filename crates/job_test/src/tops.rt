@@ -24,7 +24,7 @@ fn with_top(top: u8) {
 }
 
 // Top levels out of range, alone and after another setting byte out of range.
-pub fn unknown() {
+pub(crate) fn unknown() {
     with_top(0);
     with_top(1);
     with_top(3);
@@ -39,7 +39,7 @@ pub fn unknown() {
 }
 
 // Under 30 bytes left, with a top level in range and out of range.
-pub fn cut() {
+pub(crate) fn cut() {
     record(
         b"29 bytes",
         b"\x00\x00\x00\x00\x00\x40-----------------------",
@@ -55,7 +55,7 @@ pub fn cut() {
 }
 
 // One triangle record with the top level 16, read as its own version and as the other.
-pub fn by_version() {
+pub(crate) fn by_version() {
     let bytes =
         b"TSJ\x02\x00\x00\x00\x01\x01\x00\x10\x00\x00\x80\x3f\x00\x00\x80\x3f\x00\x00\x80\x3f\x00\x00\x00\x00\x00\x00\x00\x40\x00\x00\x00\x00";
     sample(b"version 2 as 2", bytes, Version::Two, 5);
@@ -65,7 +65,7 @@ pub fn by_version() {
 }
 
 // The least and the greatest top level, with one out of range between them, and three further bytes.
-pub fn in_turn() {
+pub(crate) fn in_turn() {
     let bytes =
         b"TSJ\x02\x00\x01\x02\x00\x01\x00\x02\x00\x00\x80\x3f\x00\x00\x00\x40\x00\x00\x00\x00\x00\x00\x80\x42\x01\x00\x80\x3f\x01\x00\x80\x7f\x00\x00\x00\x00\x00\x07------------------------\x02\x01\x01\x00\x01\x40\x00\x00\x40\x40\x00\x00\x80\x42\x01\x02\x03\x04\x05\x06\x07\x08\x09\x0a\x0b\x0c\x0d\x0e\x0f\x10\x00\x01\x02";
     walk(bytes, Version::Two, 5);

@@ -18,7 +18,7 @@ pub struct Ring {
 
 impl Ring {
     // Returns the line of n segments from the ring's vertex o on; it ends at the first vertex if it runs to the ring's end.
-    pub fn line(self, o: u32, n: u32) -> Line
+    pub(crate) fn line(self, o: u32, n: u32) -> Line
         requires { ⌜ o + n ≤ self .total ⌝ ∗ ⌜ self .base + self .total < 65536 ⌝ }
         ensures { λ r. ⌜ Follows r (from o (ringAt (self .base) (self .total))) n ⌝ }
     {

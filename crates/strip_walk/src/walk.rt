@@ -18,7 +18,7 @@ pub struct Progress {
     pub walk: Walk,
 }
 
-pub fn begin(outer: Line, inner: Line) -> Walk
+pub(crate) fn begin(outer: Line, inner: Line) -> Walk
     requires { ⌜ outer .count ≤ 64 ⌝ ∗ ⌜ inner .count ≤ 64 ⌝ }
     ensures { λ r. ⌜ AtStart outer inner r ⌝ }
 {
@@ -33,7 +33,7 @@ pub fn begin(outer: Line, inner: Line) -> Walk
     }
 }
 
-pub fn advance(outer: Line, inner: Line, w: Walk) -> Progress
+pub(crate) fn advance(outer: Line, inner: Line, w: Walk) -> Progress
     requires { ⌜ Standing outer inner w ⌝ ∗ ⌜ w .strip .a + w .strip .b < w .strip .p + w .strip .r ⌝ }
     ensures { λ r. ⌜ Advanced outer inner w r ⌝ }
 {

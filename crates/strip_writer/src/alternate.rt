@@ -16,7 +16,7 @@ use strip_pairs::write_pairs;
 
 // Writes pairs of steps up to the middle of the inner line, a step of the outer line, pairs up to the end of the inner line,
 // and the last step of the outer line.
-pub fn write_plain(out: &mut [u16], at: usize, outer: Line, inner: Line) -> usize
+pub(crate) fn write_plain(out: &mut [u16], at: usize, outer: Line, inner: Line) -> usize
     requires { ⌜ outer .count ≡ inner .count + 2 ⌝ ∗ ⌜ outer .count ≤ 64 ⌝ ∗ ⌜ inner .count ≤ 64 ⌝ ∗ ⌜ at + 3 * (outer .count + inner .count) ≤ length (now out) ⌝ }
     ensures { λ w. ⌜ Wrote (now (out .entry)) at (indices true (strip (vertex outer) (vertex inner) (outer .count) (inner .count))) (now (out .exit)) w ⌝ }
 {
@@ -37,7 +37,7 @@ pub fn write_plain(out: &mut [u16], at: usize, outer: Line, inner: Line) -> usiz
 }
 
 // The same, with the second and third corner of each triangle exchanged.
-pub fn write_turned(out: &mut [u16], at: usize, outer: Line, inner: Line) -> usize
+pub(crate) fn write_turned(out: &mut [u16], at: usize, outer: Line, inner: Line) -> usize
     requires { ⌜ outer .count ≡ inner .count + 2 ⌝ ∗ ⌜ outer .count ≤ 64 ⌝ ∗ ⌜ inner .count ≤ 64 ⌝ ∗ ⌜ at + 3 * (outer .count + inner .count) ≤ length (now out) ⌝ }
     ensures { λ w. ⌜ Wrote (now (out .entry)) at (indices false (strip (vertex outer) (vertex inner) (outer .count) (inner .count))) (now (out .exit)) w ⌝ }
 {
