@@ -2,13 +2,10 @@
 // is copied to the stack where it is used, so callers take no more rows than they need.
 ghost use mathlib.Core.Path.{_≡_};
 ghost use mathlib.Core.List.{_++_};
-ghost use Prim.Native.Nat.{_*_, _≤_};
+ghost use Prim.Native.Nat.{_≤_};
 ghost use lib.ListN.{length, drop};
-ghost use Rattle.edge.specs.Positions.{entry};
 ghost use Rattle.edge.specs.Rows.{edgeRow, RowAt};
 ghost use Rattle.edge_table.specs.Stored.{rowStart, rowsTo, Widest};
-ghost use Rattle.edge.specs.Table.{table};
-ghost use Rattle.level.specs.Segments.{Valid};
 use level::Segments;
 
 #[rattlefmt::skip]
@@ -211,31 +208,4 @@ pub fn widest(most: u32, s: Segments) -> u32
         return 65;
     }
     if most < s.count { s.count } else { most }
-}
-
-// Returns the places of an edge of n equal segments, from the table, followed by zeros.
-pub fn stored_row(n: u32) -> [u32; 65]
-    requires { ⌜ (1 ≤ n) × (n ≤ 64) ⌝ }
-    ensures { λ r. ⌜ r ≡ table (entry n (65536 * n)) 65 ⌝ }
-{
-    let all = rows_to_64();
-    let s = Segments {
-        count: n,
-        scaled: 65536 * n,
-    };
-    let row = row_of(&all, s);
-    let mut out = [0u32; 65];
-    copy(&mut out, row);
-    out
-}
-
-// Returns the places of an edge's points, followed by zeros: from the table if the segments are equal, else by division.
-pub fn row(s: Segments) -> [u32; 65]
-    requires { ⌜ Valid (s .count) (s .scaled) ⌝ }
-    ensures { λ r. ⌜ r ≡ table (entry (s .count) (s .scaled)) 65 ⌝ }
-{
-    if s.scaled == 65536 * s.count {
-        return stored_row(s.count);
-    }
-    edge::divided_row(s)
 }
