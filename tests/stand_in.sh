@@ -1,7 +1,7 @@
 # A small checkout with a stand-in for the toolchain's rt, which has the real compiler compile modules that are written here. For the test
 # scripts, which source this file instead of common.sh:
 #     $repository   the checkout, with two crates to export; the name of its folder has a space
-#     $MODULES      the folder of the modules that stand for the crates
+#     $MODULES      the folder of the modules in place of the crates
 #     modules [SED] writes the modules of both crates, the second one changed by a script of sed
 # shellcheck shell=bash disable=SC2034 # the scripts that source this file use its variables
 . "$(dirname "${BASH_SOURCE[0]}")/common.sh" || exit 2
@@ -18,7 +18,7 @@ printf 'YOKTVARIM_MUST_USE yoktvarim_answer yoktvarim_%s(void);\n' one two >"$re
 ln -s "$kit/toolchain" "$stand_in/toolchain"
 ln -s "$clang" "$stand_in/$at/clang"
 
-# The stand-in for rt compiles each module that stands for a crate, as the toolchain does.
+# The stand-in for rt compiles each module in place of a crate, as the toolchain does.
 cat >"$stand_in/bin/rt" <<'SCRIPT'
 #!/bin/sh
 [ "$1" = staticlib ] || exit 2

@@ -155,7 +155,7 @@ int main(void)
     settings.spacing = 3;
     show(&settings, &levels, YOKTVARIM_VERTEX_WORDS, YOKTVARIM_INDEX_WORDS);
 
-    /* A top is an even number from 2 to 64; any other is told before everything else, here the spacing. */
+    /* A top is an even number from 2 to 64; any other is reported before everything else, here the spacing. */
     settings.top = 15;
     show(&settings, &levels, YOKTVARIM_VERTEX_WORDS, YOKTVARIM_INDEX_WORDS);
     return 0;

@@ -36,7 +36,7 @@ static void show(const yoktvarim_settings *settings, const yoktvarim_patterns *p
         printf(": discarded\n");
 }
 
-/* Prints what stands in a file, and writes its records again into bytes; how many bytes those are. */
+/* Prints what is in a file, and writes its records again into bytes; how many bytes those are. */
 static size_t copy(const uint8_t *file, size_t length, uint8_t *bytes, size_t room)
 {
     uint32_t version, count, place;

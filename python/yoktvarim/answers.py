@@ -46,7 +46,7 @@ class NoRoomForIndices(Answer):
 
 @dataclass(frozen=True)
 class BadTop(Answer):
-    """The top is not an even number from 2 to 64. Told before everything else."""
+    """The top is not an even number from 2 to 64. Reported before everything else."""
 
     number = 11
 

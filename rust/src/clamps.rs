@@ -45,7 +45,7 @@ fn clamp_of(byte: u8) -> Clamp {
         1 => Clamp::Below,
         2 => Clamp::Inside,
         3 => Clamp::Above,
-        _ => unreachable!("a level that counts is told by 1, 2 or 3 and not {byte}"),
+        _ => unreachable!("a level that counts is reported by 1, 2 or 3 and not {byte}"),
     }
 }
 

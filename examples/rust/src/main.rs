@@ -36,7 +36,7 @@ fn show_indices(patch: &Patch, settings: &Settings, indices: &mut [u16]) {
     }
 }
 
-/// Measures, and prints the counts and what is told of each level; the counts, or `None` where it was not measured.
+/// Measures, and prints the counts and where each level lies; the counts, or `None` where it was not measured.
 fn show_size(patch: &Patch, settings: &Settings) -> Option<(usize, usize)> {
     let Size::Counts {
         points,
@@ -118,7 +118,7 @@ fn main() {
     };
     show_points(&discarded, &settings, &mut vertices);
 
-    // A top is an even number from 2 to 64; any other is told before everything else, here that the patch is discarded.
+    // A top is an even number from 2 to 64; any other is reported before everything else, here that the patch is discarded.
     let bad = Settings {
         top: 15,
         ..settings

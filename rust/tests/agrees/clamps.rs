@@ -1,4 +1,4 @@
-//! What measuring tells of each level, around the ends of each range at each top.
+//! What measuring reports of each level, around the ends of each range at each top.
 
 use crate::numbers::compare_numbers;
 use crate::records::COUNTING;
@@ -13,7 +13,7 @@ fn levels_around_ends(top: u8) -> Vec<u32> {
     levels
 }
 
-/// Which bytes are told of one level as it goes around the ends, with the others at 3.
+/// Which bytes are reported of one level as it goes around the ends, with the others at 3.
 fn told_around_ends(kind: u8, spacing: u8, top: u8, place: usize) -> [bool; 4] {
     let mut told = [false; 4];
     for level in levels_around_ends(top) {
@@ -28,7 +28,7 @@ fn told_around_ends(kind: u8, spacing: u8, top: u8, place: usize) -> [bool; 4] {
     told
 }
 
-/// Each of 1, 2 and 3 is told of every level that counts, and none of them of the others.
+/// Each of 1, 2 and 3 is reported of every level that counts, and none of them of the others.
 #[test]
 fn each_level_around_each_end() {
     for top in (2..=64).step_by(2) {

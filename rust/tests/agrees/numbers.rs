@@ -6,7 +6,7 @@ use crate::records::{levels, records, setting_bytes};
 use reference::job::{Record, Version, SETTING_COUNTS};
 use yoktvarim::raw::{self, Measured, Numbered};
 
-/// How many words stand behind the longest list that a patch needs.
+/// How many words follow the longest list that a patch needs.
 const BEHIND: usize = 7;
 
 /// Draws points in a list with room for every patch, and a drawn patch in one that is a word short too.
@@ -41,12 +41,12 @@ fn compare_indices(settings: &[u8; 6], levels: &[f32; 6], expected: Numbered) {
     assert!(is_untouched(&short), "{settings:?} {levels:?}");
 }
 
-/// Compares all three functions; what measuring told.
+/// Compares all three functions; what measuring reported.
 pub fn compare_numbers(record: &Record) -> Measured {
     let (settings, levels) = (setting_bytes(record), levels(record));
     let measured = raw::measure(&settings, &levels);
     assert_eq!(measured, measured_here(record), "{record:?}");
-    // With room for everything drawing has the same number; a place is told by both calls.
+    // With room for everything drawing has the same number; a place is reported by both calls.
     let Measured { number, counts, .. } = measured;
     let [points, indices] = match number {
         0 => counts,
@@ -58,7 +58,7 @@ pub fn compare_numbers(record: &Record) -> Measured {
     measured
 }
 
-/// Each of these numbers is told of more than a hundred random records, and no other of any.
+/// Each of these numbers is reported of more than a hundred random records, and no other of any.
 fn tells_all_of(numbers: &[usize], version: Version) {
     let mut told = [0; 12];
     for record in records(9, 6_000, version) {

@@ -9,7 +9,7 @@ use yoktvarim::{
     Settings,
 };
 
-/// How many words stand behind those that a patch needs.
+/// How many words follow those that a patch needs.
 const BEHIND: usize = 7;
 
 /// Draws points with both programs into lists of this length: the answers and every word have to agree.

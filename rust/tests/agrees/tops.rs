@@ -31,7 +31,7 @@ fn each_number_as_top() {
     }
 }
 
-/// Whatever else is wrong, and in lists without room, a bad top is told and nothing is written.
+/// Whatever else is wrong, and in lists without room, a bad top is reported and nothing is written.
 fn tells_bad_top(record: &Record) {
     let (settings, levels) = (setting_bytes(record), levels(record));
     let measured = Measured {

@@ -27,7 +27,7 @@ fn header_here(read: Result<(Version, &[u8]), Refusal>) -> Result<Header, Header
     }
 }
 
-/// What stands at a place, by the second program's readers.
+/// What is at a place, by the second program's readers.
 fn record_here(bytes: &[u8], version: Version, at: usize) -> RecordRead {
     let nothing = |number, next, place| RecordRead {
         number,

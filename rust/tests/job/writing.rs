@@ -13,7 +13,7 @@ const LONGEST: usize = 31;
 
 const VERSIONS: [Version; 2] = [Version::One, Version::Two];
 
-/// What stands in a list before a call.
+/// What is in a list before a call.
 fn sentinels(length: usize) -> Vec<u8> {
     (0..length).map(|place| 0xA5 ^ place as u8).collect()
 }

@@ -110,7 +110,7 @@ function wholes(words, line, limit) {
  * Points and faces of an OBJ file; other lines are passed over.
  *
  * @param {Line[]} filled
- * @param {number} one what stands for 1
+ * @param {number} one the number that represents 1
  */
 function objMesh(filled, one) {
     const vertices = [];

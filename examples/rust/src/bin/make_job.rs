@@ -23,7 +23,7 @@ fn show(record: &Record) {
     }
 }
 
-/// Prints what stands in a file, and writes its records again.
+/// Prints what is in a file, and writes its records again.
 fn copy(file: &[u8]) -> Vec<u8> {
     let mut again = Vec::new();
     let records = match read(file) {
