@@ -26,12 +26,15 @@ points-of : (f : ℕ → List ℕ) (P : ℕ → Point) (n m : ℕ) → m ≡ n �
 points-of f P n m e h = flat-below f (λ i. coordinateWords (P i)) 0 n (λ i l. h i (omega arith)) ∙ sym (words-table P n) ∙ ap (λ (k : ℕ). vertexWords (table P k)) (sym e)
 
 -- as many points as its three edges have places
-pub ring-size : (row : List ℕ) → length (ringPoints row) ≡ 3 * length row
+ring-size : (row : List ℕ) → length (ringPoints row) ≡ 3 * length row
 unfolding ring
 ring-size row = simp (length-append, length-table) (omega arith)
 
-pub front-size : (row : List ℕ) → 1 ≤ length row → length (take (length row - 1) row) ≡ length row - 1
+front-size : (row : List ℕ) → 1 ≤ length row → length (take (length row - 1) row) ≡ length row - 1
 front-size row h = front-length row (length row - 1) refl
+
+pub front-ring-size : (row : List ℕ) → 1 ≤ length row → length (ringPoints (take (length row - 1) row)) ≡ 3 * (length row - 1)
+front-ring-size row h = omega (arith, ring-size (take (length row - 1) row), front-size row h)
 
 -- it is not deeper than half the length
 pub ring-depth : (row : List ℕ) → 2 ≤ length row → ClearOfEnds (placeIn (take (length row - 1) row) 0) (listed (take (length row - 1) row)) → getD row 0 0 ≤ 32768

@@ -9,7 +9,7 @@ use Rattle.mesh_geometry.specs.TrianglePoints.{trianglePlace}
 use Rattle.vertices.specs.Rows.{placeIn, listed}
 use Rattle.vertices.proofs.Edges.{three-edges}
 use Rattle.triangle_point_rows.proofs.Eights.{sums-size}
-use Rattle.triangle_point_rows.proofs.Wide.{ring-size, front-size, ring-depth, edge-zero, edge-one, edge-two}
+use Rattle.triangle_point_rows.proofs.Wide.{front-ring-size, ring-depth, edge-zero, edge-one, edge-two}
 use Rattle.triangle_point_rows.proofs.write_wide_ring.Statement.{statement}
 use Rattle.triangle_point_rows.proofs.write_wide_ring.Tie as tie
 
@@ -21,32 +21,35 @@ mul-more c =
 write-run-requires : tie.Need-write-run-requires
 write-run-requires c κs =
     let s = c .before .before .before .before .before .before .before in
-    let row = s .args .row .now in
-    (omega (arith, s .pre .0, s .pre .1 .0 .room), omega (arith, ring-size (take (length row - 1) row), front-size row (omega arith), s .pre .1 .1 .1))
+    (omega (arith, s .pre .0, s .pre .1 .0 .room), omega (arith, front-ring-size (s .args .row .now) (omega arith), s .pre .1 .1 .1))
 
 write-run-requires-2 : tie.Need-write-run-requires-2
 write-run-requires-2 c κs =
     let s = c .before .before .before .before .before .before .before .before .before .before .before in
     let a = s .args in
     let row = a .row .now in
-    let d = getD row 0 0 in
     let less = c .before .before .before .before .before .negative .result in
     let w = c .before .before .before .write-run in
-    (omega (arith, s .pre .0, s .pre .1 .0 .other-room), omega (arith, ring-size (take (length row - 1) row), front-size row (omega arith), s .pre .1 .1 .1, w .ensures .next, w .kept .0, sums-size (a .base .now) (a .from) (2 * d) less less 0 (length row - 1)))
+    let size = sums-size (a .base .now) (a .from) (2 * getD row 0 0) less less 0 (length row - 1) in
+    (omega (arith, s .pre .0, s .pre .1 .0 .other-room), omega (arith, front-ring-size row (omega arith), s .pre .1 .1 .1, w .ensures .next, w .kept .0, size))
 
 add-write-run : tie.Need-add-write-run
-add-write-run c = omega (arith, c .before .before .before .before .before .before .before .before .before .before .before .before .before .before .before .pre .1 .0 .room)
+add-write-run c =
+    let s = c .before .before .before .before .before .before .before .before .before .before .before .before .before .before .before in
+    omega (arith, s .pre .1 .0 .room)
 
 write-run-requires-3 : tie.Need-write-run-requires-3
 write-run-requires-3 c κs =
     let s = c .before .before .before .before .before .before .before .before .before .before .before .before .before .before .before in
     let a = s .args in
     let row = a .row .now in
-    let d = getD row 0 0 in
     let less = c .before .before .before .before .before .before .before .before .before .negative .result in
     let w = c .before .before .before .before .before .before .before .write-run in
     let v = c .before .before .before .write-run2 in
-    (omega (arith, s .pre .0, s .pre .1 .0 .room), omega (arith, ring-size (take (length row - 1) row), front-size row (omega arith), s .pre .1 .1 .1, w .ensures .next, w .kept .0, sums-size (a .base .now) (a .from) (2 * d) less less 0 (length row - 1), v .ensures .next, v .kept .0, sums-size (a .other .now) (a .from) less (2 * d) less 0 (length row - 1)))
+    let size = sums-size (a .base .now) (a .from) (2 * getD row 0 0) less less 0 (length row - 1) in
+    let size2 = sums-size (a .other .now) (a .from) less (2 * getD row 0 0) less 0 (length row - 1) in
+    let room = front-ring-size row (omega arith) in
+    (omega (arith, s .pre .0, s .pre .1 .0 .room), omega (arith, room, s .pre .1 .1 .1, w .ensures .next, w .kept .0, size, v .ensures .next, v .kept .0, size2))
 
 returns : tie.Need-returns
 returns c =

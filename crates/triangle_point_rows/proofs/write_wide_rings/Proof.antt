@@ -18,7 +18,8 @@ write-edge-requires-2 c κs =
 write-laid-rings-requires : tie.Need-write-laid-rings-requires
 write-laid-rings-requires c κs =
     let s = c .before .before .before .before .before .before .before .before .before .before .before in
-    (s .pre .0 .0, (laid-first (s .args .row .now) (c .before .before .before .before .before .before .before .write-edge .ensures) (c .before .before .before .before .write-edge2 .ensures), s .pre .1))
+    let laid = laid-first (s .args .row .now) (c .before .before .before .before .before .before .before .write-edge .ensures) (c .before .before .before .before .write-edge2 .ensures) in
+    (s .pre .0 .0, (laid, s .pre .1))
 
 pub write-wide-rings-spec : {M : Type 1} → statement M
 write-wide-rings-spec =
