@@ -1,24 +1,25 @@
 -- Meets its contract. Assumes nothing.
 use borrow.Author.Needs.{needs}
 use native.Mathlib.Omega.{arith}
-use Prim.Native.Nat.{ℕ, _+_}
-use mathlib.Core.Path.{_≡_, sym, _∙_}
-use mathlib.Core.List.{[], _∷_}
+use Prim.Native.Nat.{_+_}
+use mathlib.Core.Path.{_≡_}
+use mathlib.Core.List.{List, [], _∷_}
 use lib.Ieee.{Float}
-use Rattle.level.specs.declared.Spacing.{Spacing}
-use Rattle.level.specs.declared.Segments.{Segments}
-use Rattle.patch.specs.Counted.{Counted}
 use Rattle.patch.specs.Subdivide.{subdivision}
-use Rattle.patch.proofs.Every.{total, every-one, not-every-one}
-use Rattle.patch.proofs.Counts.{count, least}
+use Rattle.patch.proofs.Every.{total}
+use Rattle.patch.proofs.Counts.{count, all-one, not-all-one}
 use Rattle.patch.proofs.subdivision.triangle.Statement.{statement}
 use Rattle.patch.proofs.subdivision.triangle.Tie as tie
 
+abbrev levels : tie.Start → List Float
+levels s = s .args .outer0 ∷ s .args .outer1 ∷ s .args .outer2 ∷ s .args .inner0 ∷ []
+
 -- the code's sum of counts is `total`
-summed : {s : Spacing} {n : ℕ} {a b c i : Float} {p q r t : Segments} → Counted s n a p → Counted s n b q → Counted s n c r → Counted s n i t
-    → total (count s n) (a ∷ b ∷ c ∷ i ∷ []) ≡ p .count + q .count + r .count + t .count
+summed : (e : tie.After-segments-beside3) → (let s = e .before .before .before .before .before .before .before in
+    total (count (s .args .spacing) (s .args .top)) (levels s) ≡ e .before .before .before .segments-in .result .count + e .before .before .segments-beside .result .count
+    + e .before .segments-beside2 .result .count + e .segments-beside3 .result .count)
 unfolding total
-summed k1 k2 k3 k4 = omega arith
+summed e = omega arith
 
 returns : tie.Need-returns
 unfolding subdivision
@@ -27,33 +28,20 @@ returns c = rw (← c .before .discards3 .ensures, c .if1 .taken)
 returns-2 : tie.Need-returns-2
 unfolding subdivision
 returns-2 c =
-    let e4 = c .before .before .before .before .before in
-    let e3 = e4 .before in
-    let e2 = e3 .before in
-    let e1 = e2 .before in
-    let a = e1 .before .before .before .before .args in
-    let sum = summed (e1 .segments-in .ensures) (e2 .segments-beside .ensures) (e3 .segments-beside2 .ensures) (e4 .segments-beside3 .ensures) in
-    rw (← e1 .before .before .before .discards3 .ensures, e1 .before .before .if1 .left, every-one (count (a .spacing) (a .top)) (least (a .spacing) (a .top) (e1 .before .before .before .before .pre)) (a .outer0 ∷ a .outer1 ∷ a .outer2 ∷ a .inner0 ∷ []) (sum ∙ c .if2 .taken))
+    let e = c .before .before .before .before .before in
+    let x = e .before .before .before .before .before in
+    let s = x .before .before in
+    rw (← x .before .discards3 .ensures, x .if1 .left, all-one (s .args .spacing) (s .args .top) (s .pre) (levels s) (summed e) (c .if2 .taken))
 
 returns-3 : tie.Need-returns-3
 unfolding subdivision
 returns-3 c =
-    let e4 = c .before .before .before .before .before .before in
-    let e3 = e4 .before in
-    let e2 = e3 .before in
-    let e1 = e2 .before in
-    let a = e1 .before .before .before .before .args in
-    let sum = summed (e1 .segments-in .ensures) (e2 .segments-beside .ensures) (e3 .segments-beside2 .ensures) (e4 .segments-beside3 .ensures) in
-    rw (
-      ← e1 .before .before .before .discards3 .ensures,
-      e1 .before .before .if1 .left,
-      not-every-one (count (a .spacing) (a .top)) (least (a .spacing) (a .top) (e1 .before .before .before .before .pre)) (a .outer0 ∷ a .outer1 ∷ a .outer2 ∷ a .inner0 ∷ []) (λ e. c .before .if2 .left (sym sum ∙ e)),
-      ← e1 .segments-in .ensures .all,
-      ← e2 .segments-beside .ensures .all,
-      ← e3 .segments-beside2 .ensures .all,
-      ← e4 .segments-beside3 .ensures .all,
-      ← c .as-inner .ensures,
-    )
+    let e = c .before .before .before .before .before .before in
+    let x = e .before .before .before .before .before in
+    let s = x .before .before in
+    rw (← x .before .discards3 .ensures, x .if1 .left, not-all-one (s .args .spacing) (s .args .top) (s .pre) (levels s) (summed e) (c .before .if2 .left))
+    (rw (← e .before .before .before .segments-in .ensures .all, ← e .before .before .segments-beside .ensures .all)
+    (rw (← e .before .segments-beside2 .ensures .all, ← e .segments-beside3 .ensures .all, ← c .as-inner .ensures)))
 
 pub triangle-spec : {M : Type 1} → statement M
 triangle-spec =
