@@ -16,6 +16,7 @@ use Rattle.vertices.proofs.Parts.{Parts, wrote-same}
 use Rattle.vertices.proofs.Rows.{none, more, ring-same, along-at, along-same, along-length, good-row}
 use Rattle.triangle_point_rows.specs.Parts.{triangleOutline, triangleInside}
 use Rattle.triangle_point_rows.proofs.Rings.{inner-same}
+use Rattle.triangle_points.specs.Patches.{ValidOutline, patchPoints}
 
 -- the patch is its outline, then its inside
 patch-split : (e0 e1 e2 inside : Run) → 2 ≤ inside .c → trianglePatch e0 e1 e2 inside ≡ triangleOutline e0 e1 e2 ++ triangleInside inside
@@ -25,16 +26,15 @@ patch-split e0 e1 e2 inside h =
     ap (rings (e0 ∷ e1 ∷ e2 ∷ []) 0 (inside .q)) n
 
 pub triangle-parts : (e0 e1 e2 inside : Segments) → 2 ≤ inside .count → (xs : List ℕ) (at : ℕ)
-    → at + 3 * length (trianglePatch (run e0) (run e1) (run e2) (run inside)) ≤ length xs
-    → Parts (trianglePatch (run e0) (run e1) (run e2) (run inside)) (triangleOutline (run e0) (run e1) (run e2)) (triangleInside (run inside)) xs at
+    → at + 3 * length (patchPoints e0 e1 e2 inside) ≤ length xs
+    → Parts (patchPoints e0 e1 e2 inside) (triangleOutline (run e0) (run e1) (run e2)) (triangleInside (run inside)) xs at
 triangle-parts e0 e1 e2 inside h xs at room = record { is = patch-split (run e0) (run e1) (run e2) (run inside) h; room = room }
 
 -- facts of the four edges, taken apart and put together
 pub first-three : {A B C D : Type 0} → A × (B × (C × D)) → A × (B × C)
 first-three v = (v .0, (v .1 .0, v .1 .1 .0))
 
-pub all-valid : (e0 e1 e2 inside : Segments) → Valid (e0 .count) (e0 .scaled) × Valid (e1 .count) (e1 .scaled) × Valid (e2 .count) (e2 .scaled)
-    → Valid (inside .count) (inside .scaled) → AllValid (e0 ∷ e1 ∷ e2 ∷ inside ∷ [])
+pub all-valid : (e0 e1 e2 inside : Segments) → ValidOutline e0 e1 e2 → Valid (inside .count) (inside .scaled) → AllValid (e0 ∷ e1 ∷ e2 ∷ inside ∷ [])
 all-valid e0 e1 e2 inside v w = (v .0, (v .1, (v .2, w)))
 
 -- ---- the outline

@@ -3,12 +3,12 @@ ghost use Prim.Native.Nat.{_+_, _*_, _≤_};
 ghost use mathlib.Core.List.{[], _∷_};
 ghost use lib.ListN.{length};
 ghost use Rattle.buffer.specs.Over.{Wrote};
-ghost use Rattle.level.specs.Segments.{Valid};
-ghost use Rattle.mesh_geometry.specs.TrianglePoints.{trianglePatch, triangleCorners};
+ghost use Rattle.mesh_geometry.specs.TrianglePoints.{triangleCorners};
 ghost use Rattle.mesh_geometry.specs.Segmented.{run};
 ghost use Rattle.mesh_geometry.specs.Words.{vertexWords};
 ghost use Rattle.vertices.specs.Rows.{AllValid, AllStored, Widths};
 ghost use Rattle.triangle_point_rows.specs.Parts.{triangleOutline};
+ghost use Rattle.triangle_points.specs.Patches.{ValidOutline, ValidInner, patchPoints};
 use edge_table::row_of;
 use edge_table::widest;
 use level::Segments;
@@ -43,8 +43,9 @@ fn write_stored(
     e2: Segments,
     inside: Segments,
 ) -> usize
-    requires { ⌜ AllValid (e0 ∷ e1 ∷ e2 ∷ inside ∷ []) × (2 ≤ inside .count) ⌝ ∗ ⌜ AllStored (now table) (e0 ∷ e1 ∷ e2 ∷ inside ∷ []) ⌝ ∗ ⌜ at + 3 * length (trianglePatch (run e0) (run e1) (run e2) (run inside)) ≤ length (now out) ⌝ }
-    ensures { λ w. ⌜ Wrote (now (out .entry)) at (vertexWords (trianglePatch (run e0) (run e1) (run e2) (run inside))) (now (out .exit)) w ⌝ }
+    requires { ⌜ AllValid (e0 ∷ e1 ∷ e2 ∷ inside ∷ []) × (2 ≤ inside .count) ⌝ ∗ ⌜ AllStored (now table) (e0 ∷ e1 ∷ e2 ∷ inside ∷ []) ⌝ ∗
+        ⌜ at + 3 * length (patchPoints e0 e1 e2 inside) ≤ length (now out) ⌝ }
+    ensures { λ w. ⌜ Wrote (now (out .entry)) at (vertexWords (patchPoints e0 e1 e2 inside)) (now (out .exit)) w ⌝ }
 {
     let r0 = row_of(table, e0);
     let r1 = row_of(table, e1);
@@ -63,8 +64,8 @@ fn write_divided(
     e2: Segments,
     inside: Segments,
 ) -> usize
-    requires { ⌜ AllValid (e0 ∷ e1 ∷ e2 ∷ inside ∷ []) × (2 ≤ inside .count) ⌝ ∗ ⌜ at + 3 * length (trianglePatch (run e0) (run e1) (run e2) (run inside)) ≤ length (now out) ⌝ }
-    ensures { λ w. ⌜ Wrote (now (out .entry)) at (vertexWords (trianglePatch (run e0) (run e1) (run e2) (run inside))) (now (out .exit)) w ⌝ }
+    requires { ⌜ AllValid (e0 ∷ e1 ∷ e2 ∷ inside ∷ []) × (2 ≤ inside .count) ⌝ ∗ ⌜ at + 3 * length (patchPoints e0 e1 e2 inside) ≤ length (now out) ⌝ }
+    ensures { λ w. ⌜ Wrote (now (out .entry)) at (vertexWords (patchPoints e0 e1 e2 inside)) (now (out .exit)) w ⌝ }
 {
     let mut words = [0u32; 260];
     edge::fill_row(&mut words, 195, inside);
@@ -102,8 +103,8 @@ fn write_by_width(
     e2: Segments,
     inside: Segments,
 ) -> usize
-    requires { ⌜ AllValid (e0 ∷ e1 ∷ e2 ∷ inside ∷ []) × (2 ≤ inside .count) ⌝ ∗ ⌜ Widths 0 (e0 ∷ e1 ∷ e2 ∷ inside ∷ []) most ⌝ ∗ ⌜ at + 3 * length (trianglePatch (run e0) (run e1) (run e2) (run inside)) ≤ length (now out) ⌝ }
-    ensures { λ w. ⌜ Wrote (now (out .entry)) at (vertexWords (trianglePatch (run e0) (run e1) (run e2) (run inside))) (now (out .exit)) w ⌝ }
+    requires { ⌜ AllValid (e0 ∷ e1 ∷ e2 ∷ inside ∷ []) × (2 ≤ inside .count) ⌝ ∗ ⌜ Widths 0 (e0 ∷ e1 ∷ e2 ∷ inside ∷ []) most ⌝ ∗ ⌜ at + 3 * length (patchPoints e0 e1 e2 inside) ≤ length (now out) ⌝ }
+    ensures { λ w. ⌜ Wrote (now (out .entry)) at (vertexWords (patchPoints e0 e1 e2 inside)) (now (out .exit)) w ⌝ }
 {
     if most <= 8 {
         let table = edge_table::rows_to_8();
@@ -133,8 +134,8 @@ pub fn write_triangle_patch(
     e2: Segments,
     inside: Segments,
 ) -> usize
-    requires { ⌜ Valid (e0 .count) (e0 .scaled) × Valid (e1 .count) (e1 .scaled) × Valid (e2 .count) (e2 .scaled) ⌝ ∗ ⌜ Valid (inside .count) (inside .scaled) × (2 ≤ inside .count) ⌝ ∗ ⌜ at + 3 * length (trianglePatch (run e0) (run e1) (run e2) (run inside)) ≤ length (now out) ⌝ }
-    ensures { λ w. ⌜ Wrote (now (out .entry)) at (vertexWords (trianglePatch (run e0) (run e1) (run e2) (run inside))) (now (out .exit)) w ⌝ }
+    requires { ⌜ ValidOutline e0 e1 e2 ⌝ ∗ ⌜ ValidInner inside ⌝ ∗ ⌜ at + 3 * length (patchPoints e0 e1 e2 inside) ≤ length (now out) ⌝ }
+    ensures { λ w. ⌜ Wrote (now (out .entry)) at (vertexWords (patchPoints e0 e1 e2 inside)) (now (out .exit)) w ⌝ }
 {
     let most = width_of(e0, e1, e2, inside);
     write_by_width(out, at, most, e0, e1, e2, inside)
@@ -149,8 +150,8 @@ pub fn write_drawn_triangle(
     e2: Segments,
     inside: Segments,
 ) -> usize
-    requires { ⌜ Valid (e0 .count) (e0 .scaled) × Valid (e1 .count) (e1 .scaled) × Valid (e2 .count) (e2 .scaled) ⌝ ∗ ⌜ Valid (inside .count) (inside .scaled) × (2 ≤ inside .count) ⌝ ∗ ⌜ at + 3 * length (trianglePatch (run e0) (run e1) (run e2) (run inside)) ≤ length (now out) ⌝ }
-    ensures { λ w. ⌜ Wrote (now (out .entry)) at (vertexWords (trianglePatch (run e0) (run e1) (run e2) (run inside))) (now (out .exit)) w ⌝ }
+    requires { ⌜ ValidOutline e0 e1 e2 ⌝ ∗ ⌜ ValidInner inside ⌝ ∗ ⌜ at + 3 * length (patchPoints e0 e1 e2 inside) ≤ length (now out) ⌝ }
+    ensures { λ w. ⌜ Wrote (now (out .entry)) at (vertexWords (patchPoints e0 e1 e2 inside)) (now (out .exit)) w ⌝ }
 {
     let most = width_of(e0, e1, e2, inside);
     if most < 9 {

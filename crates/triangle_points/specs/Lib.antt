@@ -1,0 +1,2 @@
+-- The definitions of `triangle_points`.
+pub mod Patches
