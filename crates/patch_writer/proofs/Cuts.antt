@@ -26,6 +26,10 @@ valid-as v e = subst ValidCut e v
 pub room-as : (F : Subdivision → ℕ) {c d : Subdivision} {n : ℕ} → F c ≤ n → c ≡ d → F d ≤ n
 room-as F {n = n} h e = subst (λ (d : Subdivision). F d ≤ n) e h
 
+-- that room, where the number of words is known
+pub count-fits : (turn : Bool) {c : Subdivision} (d : Subdivision) {n : ℕ} → length (primitives turn c) ≤ n → c ≡ d → ValidCut d → primitiveCount d ≤ n
+count-fits turn d h e v = omega (arith, room-as (λ c. length (primitives turn c)) h e, primitive-count turn d v)
+
 -- what was written for it was written for the subdivision matched on
 pub as-cut : (F : Subdivision → List ℕ) {c d : Subdivision} {xs xs′ : List ℕ} {at w : ℕ} → c ≡ d → Wrote xs at (F d) xs′ w → Wrote xs at (F c) xs′ w
 as-cut F {xs = xs} {xs′ = xs′} {at = at} {w = w} e h = subst (λ (d : Subdivision). Wrote xs at (F d) xs′ w) (sym e) h

@@ -6,14 +6,13 @@ use Rattle.buffer.proofs.Laws.{wrote-none}
 use Rattle.patch.specs.declared.subdivision.Subdivision.the-variants.{PlainTriangle, PlainQuad}
 use Rattle.patch_mesh.specs.Primitives.{triangles, primitives}
 use Rattle.patch_mesh.specs.Counts.{primitiveCount}
-use Rattle.patch_mesh.proofs.Counts.{primitive-count}
-use Rattle.patch_writer.proofs.Cuts.{valid-as, room-as, as-cut, nest-room, quad-room, lines-room}
+use Rattle.patch_writer.proofs.Cuts.{valid-as, room-as, count-fits, as-cut, nest-room, quad-room, lines-room}
 use Rattle.patch_writer.proofs.connect.write_primitives.Statement.{statement}
 use Rattle.patch_writer.proofs.connect.write_primitives.Tie as tie
 
 write-plain-triangle-requires : tie.Need-write-plain-triangle-requires
 unfolding primitiveCount
-write-plain-triangle-requires c κs = let start = c .before .before .before .before in omega (arith, room-as (λ d. length (primitives (start .args .positive) d)) {d = PlainTriangle} (start .pre .1) (c .before .enum-told2 .given .1), primitive-count (start .args .positive) PlainTriangle tt)
+write-plain-triangle-requires c κs = let s = c .before .before .before .before in omega (arith, count-fits (s .args .positive) PlainTriangle (s .pre .1) (c .before .enum-told2 .given .1) tt)
 
 write-nest-requires : tie.Need-write-nest-requires
 write-nest-requires c κs =
@@ -25,7 +24,7 @@ write-nest-requires c κs =
 
 write-plain-quad-requires : tie.Need-write-plain-quad-requires
 unfolding primitiveCount
-write-plain-quad-requires c κs = let start = c .before .before .before .before in omega (arith, room-as (λ d. length (primitives (start .args .positive) d)) {d = PlainQuad} (start .pre .1) (c .before .enum-told3 .given .1), primitive-count (start .args .positive) PlainQuad tt)
+write-plain-quad-requires c κs = let s = c .before .before .before .before in omega (arith, count-fits (s .args .positive) PlainQuad (s .pre .1) (c .before .enum-told3 .given .1) tt)
 
 write-quad-requires : tie.Need-write-quad-requires
 write-quad-requires c κs =
@@ -47,21 +46,21 @@ returns : tie.Need-returns
 returns c = as-cut (primitives (c .before .before .before .args .positive)) (c .enum-told .given .1) (wrote-none (c .before .before .before .args .out .now) 0)
 
 returns-2 : tie.Need-returns-2
-returns-2 c = as-cut (primitives (c .before .before .before .before .before .before .before .args .positive)) (c .before .before .before .before .enum-told2 .given .1) (c .before .before .write-plain-triangle .ensures)
+returns-2 c = let s = c .before .before .before .before in as-cut (primitives (s .before .before .before .args .positive)) (s .enum-told2 .given .1) (c .before .before .write-plain-triangle .ensures)
 
 returns-3 : tie.Need-returns-3
 unfolding triangles
-returns-3 c = as-cut (primitives (c .before .before .before .before .before .before .before .before .args .positive)) (c .before .before .before .before .before .cut .given .1) (c .before .before .write-nest .ensures)
+returns-3 c = let s = c .before .before .before .before .before in as-cut (primitives (s .before .before .before .args .positive)) (s .cut .given .1) (c .before .before .write-nest .ensures)
 
 returns-4 : tie.Need-returns-4
-returns-4 c = as-cut (primitives (c .before .before .before .before .before .before .before .args .positive)) (c .before .before .before .before .enum-told3 .given .1) (c .before .before .write-plain-quad .ensures)
+returns-4 c = let s = c .before .before .before .before in as-cut (primitives (s .before .before .before .args .positive)) (s .enum-told3 .given .1) (c .before .before .write-plain-quad .ensures)
 
 returns-5 : tie.Need-returns-5
 unfolding triangles
-returns-5 c = as-cut (primitives (c .before .before .before .before .before .before .before .before .args .positive)) (c .before .before .before .before .before .cut2 .given .1) (c .before .before .write-quad .ensures)
+returns-5 c = let s = c .before .before .before .before .before in as-cut (primitives (s .before .before .before .args .positive)) (s .cut2 .given .1) (c .before .before .write-quad .ensures)
 
 returns-6 : tie.Need-returns-6
-returns-6 c = as-cut (primitives (c .before .before .before .before .before .before .before .before .args .positive)) (c .before .before .before .before .before .cut3 .given .1) (c .before .before .write-isolines .ensures)
+returns-6 c = let s = c .before .before .before .before .before in as-cut (primitives (s .before .before .before .args .positive)) (s .cut3 .given .1) (c .before .before .write-isolines .ensures)
 
 pub write-primitives-spec : {M : Type 1} → statement M
 write-primitives-spec =
