@@ -66,9 +66,17 @@ pub record Flagged (t : ℕ → Bool) (n : ℕ) (fs : List ℕ) : Type 0 where
 pub record KnownFlags (known : Bool) (t : ℕ → Bool) (n : ℕ) (fs : List ℕ) : Type 0 where
   pub is : known ≡ true → Flagged t n fs
 
+-- the flags of all points, if they are known: whether the other mesh lacks the point
+abbrev pub PointFlags : Bool → List ℕ → List ℕ → List ℕ → Type 0
+PointFlags known pw ow fs = KnownFlags known (lacks samePoint (pointRow pw) (pointRow ow)) (length pw / 3) fs
+
+-- the same for all triangles
+abbrev pub FaceFlags : Bool → List ℕ → List ℕ → List ℕ → List ℕ → List ℕ → Type 0
+FaceFlags known pw iw ow jw fs = KnownFlags known (lacks sameFace (faceRow pw iw) (faceRow ow jw)) (length iw / 3) fs
+
 -- the flags of all points and triangles of a left and a right mesh, if they are known
 pub record MeshFlags (known : Bool) (lp li rp ri left-points left-faces right-points right-faces : List ℕ) : Type 0 where
-  pub points : KnownFlags known (lacks samePoint (pointRow lp) (pointRow rp)) (length lp / 3) left-points
-  pub faces : KnownFlags known (lacks sameFace (faceRow lp li) (faceRow rp ri)) (length li / 3) left-faces
-  pub back-points : KnownFlags known (lacks samePoint (pointRow rp) (pointRow lp)) (length rp / 3) right-points
-  pub back-faces : KnownFlags known (lacks sameFace (faceRow rp ri) (faceRow lp li)) (length ri / 3) right-faces
+  pub points : PointFlags known lp rp left-points
+  pub faces : FaceFlags known lp li rp ri left-faces
+  pub back-points : PointFlags known rp lp right-points
+  pub back-faces : FaceFlags known rp ri lp li right-faces
