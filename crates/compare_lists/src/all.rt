@@ -1,14 +1,12 @@
 // All differences between two meshes: how many there are, and their words.
 ghost use mathlib.Core.Path.{_≡_};
-ghost use mathlib.Core.List.{_++_};
-ghost use Prim.Native.Nat.{_/_, _≤_};
+ghost use Prim.Native.Nat.{_≤_};
 ghost use lib.ListN.{length};
 ghost use Rattle.buffer.specs.Over.{Wrote};
-ghost use Rattle.check_searches.specs.Points.{samePoint};
-ghost use Rattle.compare_differences.specs.Lacking.{lacks};
-ghost use Rattle.compare_differences.specs.Meshes.{NoneRepeated, DistinctAndNumbered, pointRow, readMesh};
-ghost use Rattle.compare_differences.specs.Differences.{pointDifferences, differences, words};
-ghost use Rattle.compare_table_flags.specs.Flags.{KnownFlags, MeshFlags};
+ghost use Rattle.compare_differences.specs.Meshes.{NoneRepeated, DistinctAndNumbered, readMesh};
+ghost use Rattle.compare_differences.specs.Differences.{differences};
+ghost use Rattle.compare_table_flags.specs.Flags.{PointFlags, MeshFlags};
+ghost use Rattle.compare_lists.specs.Words.{allPointWords, allWords};
 use crate::list::count_faces;
 use crate::list::count_points;
 use crate::list::write_faces;
@@ -26,7 +24,9 @@ pub fn count_differences(
     right_point_flags: &[u8],
     right_face_flags: &[u8],
 ) -> usize
-    requires { ⌜ DistinctAndNumbered (now «left_points») (now «left_indices») ⌝ ∗ ⌜ DistinctAndNumbered (now «right_points») (now «right_indices») ⌝ ∗ ⌜ MeshFlags known (now «left_points») (now «left_indices») (now «right_points») (now «right_indices») (now «left_point_flags») (now «left_face_flags») (now «right_point_flags») (now «right_face_flags») ⌝ }
+    requires { ⌜ DistinctAndNumbered (now «left_points») (now «left_indices») ⌝ ∗ ⌜ DistinctAndNumbered (now «right_points») (now «right_indices») ⌝ ∗
+        ⌜ MeshFlags known (now «left_points») (now «left_indices») (now «right_points») (now «right_indices»)
+        (now «left_point_flags») (now «left_face_flags») (now «right_point_flags») (now «right_face_flags») ⌝ }
     ensures { λ n. ⌜ n ≡ length (differences (readMesh (now («left_points» .entry)) (now («left_indices» .entry))) (readMesh (now («right_points» .entry)) (now («right_indices» .entry)))) ⌝ }
 {
     let n0 = count_points(left_points, right_points, known, left_point_flags);
@@ -59,8 +59,9 @@ fn write_all_points(
     right_flags: &[u8],
     out: &mut [u64],
 ) -> usize
-    requires { ⌜ NoneRepeated (now «left_points») × NoneRepeated (now «right_points») ⌝ ∗ ⌜ KnownFlags known (lacks samePoint (pointRow (now «left_points»)) (pointRow (now «right_points»))) (length (now «left_points») / 3) (now «left_flags») ⌝ ∗ ⌜ KnownFlags known (lacks samePoint (pointRow (now «right_points»)) (pointRow (now «left_points»))) (length (now «right_points») / 3) (now «right_flags») ⌝ ∗ ⌜ length (words (pointDifferences 0 (pointRow (now «left_points»)) (pointRow (now «right_points»))) ++ words (pointDifferences 1 (pointRow (now «right_points»)) (pointRow (now «left_points»)))) ≤ length (now out) ⌝ }
-    ensures { λ r. ⌜ Wrote (now (out .entry)) 0 (words (pointDifferences 0 (pointRow (now («left_points» .entry))) (pointRow (now («right_points» .entry)))) ++ words (pointDifferences 1 (pointRow (now («right_points» .entry))) (pointRow (now («left_points» .entry))))) (now (out .exit)) r ⌝ }
+    requires { ⌜ NoneRepeated (now «left_points») × NoneRepeated (now «right_points») ⌝ ∗ ⌜ PointFlags known (now «left_points») (now «right_points») (now «left_flags») ⌝ ∗
+        ⌜ PointFlags known (now «right_points») (now «left_points») (now «right_flags») ⌝ ∗ ⌜ length (allPointWords (now «left_points») (now «right_points»)) ≤ length (now out) ⌝ }
+    ensures { λ r. ⌜ Wrote (now (out .entry)) 0 (allPointWords (now («left_points» .entry)) (now («right_points» .entry))) (now (out .exit)) r ⌝ }
 {
     let w = write_points(out, 0, 0, left_points, right_points, known, left_flags);
     write_points(out, w, 1, right_points, left_points, known, right_flags)
@@ -79,8 +80,12 @@ pub fn write_differences(
     right_point_flags: &[u8],
     right_face_flags: &[u8],
 ) -> usize
-    requires { ⌜ DistinctAndNumbered (now «left_points») (now «left_indices») ⌝ ∗ ⌜ DistinctAndNumbered (now «right_points») (now «right_indices») ⌝ ∗ ⌜ MeshFlags known (now «left_points») (now «left_indices») (now «right_points») (now «right_indices») (now «left_point_flags») (now «left_face_flags») (now «right_point_flags») (now «right_face_flags») ⌝ ∗ ⌜ length (words (differences (readMesh (now «left_points») (now «left_indices»)) (readMesh (now «right_points») (now «right_indices»)))) ≤ length (now out) ⌝ }
-    ensures { λ r. ⌜ Wrote (now (out .entry)) 0 (words (differences (readMesh (now («left_points» .entry)) (now («left_indices» .entry))) (readMesh (now («right_points» .entry)) (now («right_indices» .entry))))) (now (out .exit)) r ⌝ }
+    requires { ⌜ DistinctAndNumbered (now «left_points») (now «left_indices») ⌝ ∗
+        ⌜ DistinctAndNumbered (now «right_points») (now «right_indices») ⌝ ∗ ⌜ MeshFlags known (now «left_points») (now «left_indices») (now «right_points») (now «right_indices»)
+        (now «left_point_flags») (now «left_face_flags») (now «right_point_flags») (now «right_face_flags») ⌝ ∗
+        ⌜ length (allWords (now «left_points») (now «left_indices») (now «right_points») (now «right_indices»)) ≤ length (now out) ⌝ }
+    ensures { λ r. ⌜ Wrote (now (out .entry)) 0 (allWords (now («left_points» .entry)) (now («left_indices» .entry)) (now («right_points» .entry)) (now («right_indices» .entry)))
+        (now (out .exit)) r ⌝ }
 {
     let w = write_all_points(
         left_points,

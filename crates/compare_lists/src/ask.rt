@@ -5,7 +5,7 @@ ghost use lib.ListN.{length};
 ghost use Rattle.check_searches.specs.Points.{samePoint};
 ghost use Rattle.compare_differences.specs.Lacking.{lacks};
 ghost use Rattle.compare_differences.specs.Meshes.{NoneRepeated, DistinctAndNumbered, pointRow, faceRow, sameFace};
-ghost use Rattle.compare_table_flags.specs.Flags.{KnownFlags};
+ghost use Rattle.compare_table_flags.specs.Flags.{PointFlags, FaceFlags};
 
 pub(crate) fn lacks_point(
     points: &[u32],
@@ -14,7 +14,7 @@ pub(crate) fn lacks_point(
     known: bool,
     flags: &[u8],
 ) -> bool
-    requires { ⌜ k < length (now points) / 3 ⌝ ∗ ⌜ NoneRepeated (now points) ⌝ ∗ ⌜ KnownFlags known (lacks samePoint (pointRow (now points)) (pointRow (now others))) (length (now points) / 3) (now flags) ⌝ }
+    requires { ⌜ k < length (now points) / 3 ⌝ ∗ ⌜ NoneRepeated (now points) ⌝ ∗ ⌜ PointFlags known (now points) (now others) (now flags) ⌝ }
     ensures { λ r. ⌜ r ≡ lacks samePoint (pointRow (now (points .entry))) (pointRow (now (others .entry))) k ⌝ }
 {
     if known {
@@ -32,7 +32,8 @@ pub(crate) fn lacks_face(
     known: bool,
     flags: &[u8],
 ) -> bool
-    requires { ⌜ k < length (now indices) / 3 ⌝ ∗ ⌜ DistinctAndNumbered (now points) (now indices) ⌝ ∗ ⌜ DistinctAndNumbered (now «other_points») (now «other_indices») ⌝ ∗ ⌜ KnownFlags known (lacks sameFace (faceRow (now points) (now indices)) (faceRow (now «other_points») (now «other_indices»))) (length (now indices) / 3) (now flags) ⌝ }
+    requires { ⌜ k < length (now indices) / 3 ⌝ ∗ ⌜ DistinctAndNumbered (now points) (now indices) ⌝ ∗ ⌜ DistinctAndNumbered (now «other_points») (now «other_indices») ⌝ ∗
+        ⌜ FaceFlags known (now points) (now indices) (now «other_points») (now «other_indices») (now flags) ⌝ }
     ensures { λ r. ⌜ r ≡ lacks sameFace (faceRow (now (points .entry)) (now (indices .entry))) (faceRow (now («other_points» .entry)) (now («other_indices» .entry))) k ⌝ }
 {
     if known {

@@ -5,10 +5,11 @@ ghost use Prim.Native.Nat.{_+_, _/_, _≤_};
 ghost use lib.ListN.{length};
 ghost use Rattle.buffer.specs.Over.{Wrote};
 ghost use Rattle.check_searches.specs.Points.{samePoint};
-ghost use Rattle.compare_differences.specs.Lacking.{passing, lacks, lacking};
+ghost use Rattle.compare_differences.specs.Lacking.{passing, lacking};
 ghost use Rattle.compare_differences.specs.Meshes.{NoneRepeated, DistinctAndNumbered, pointRow, faceRow, sameFace};
-ghost use Rattle.compare_table_flags.specs.Flags.{isSet, KnownFlags};
-ghost use Rattle.compare_differences.specs.Differences.{wordsIf, pointDifferences, faceDifferences, words};
+ghost use Rattle.compare_table_flags.specs.Flags.{isSet, PointFlags, FaceFlags};
+ghost use Rattle.compare_differences.specs.Differences.{wordsIf};
+ghost use Rattle.compare_lists.specs.Words.{pointWords, faceWords};
 use crate::ask::lacks_face;
 use crate::ask::lacks_point;
 
@@ -34,7 +35,7 @@ fn count_set(flags: &[u8], count: usize) -> usize
 }
 
 pub(crate) fn count_points(points: &[u32], others: &[u32], known: bool, flags: &[u8]) -> usize
-    requires { ⌜ NoneRepeated (now points) ⌝ ∗ ⌜ KnownFlags known (lacks samePoint (pointRow (now points)) (pointRow (now others))) (length (now points) / 3) (now flags) ⌝ }
+    requires { ⌜ NoneRepeated (now points) ⌝ ∗ ⌜ PointFlags known (now points) (now others) (now flags) ⌝ }
     ensures { λ n. ⌜ n ≡ length (lacking samePoint (pointRow (now (points .entry))) (pointRow (now (others .entry)))) ⌝ }
 {
     let count = points.len() / 3;
@@ -58,7 +59,8 @@ pub(crate) fn count_faces(
     known: bool,
     flags: &[u8],
 ) -> usize
-    requires { ⌜ DistinctAndNumbered (now points) (now indices) ⌝ ∗ ⌜ DistinctAndNumbered (now «other_points») (now «other_indices») ⌝ ∗ ⌜ KnownFlags known (lacks sameFace (faceRow (now points) (now indices)) (faceRow (now «other_points») (now «other_indices»))) (length (now indices) / 3) (now flags) ⌝ }
+    requires { ⌜ DistinctAndNumbered (now points) (now indices) ⌝ ∗ ⌜ DistinctAndNumbered (now «other_points») (now «other_indices») ⌝ ∗
+        ⌜ FaceFlags known (now points) (now indices) (now «other_points») (now «other_indices») (now flags) ⌝ }
     ensures { λ n. ⌜ n ≡ length (lacking sameFace (faceRow (now (points .entry)) (now (indices .entry))) (faceRow (now («other_points» .entry)) (now («other_indices» .entry)))) ⌝ }
 {
     let count = indices.len() / 3;
@@ -103,8 +105,8 @@ pub(crate) fn write_points(
     known: bool,
     flags: &[u8],
 ) -> usize
-    requires { ⌜ NoneRepeated (now points) ⌝ ∗ ⌜ KnownFlags known (lacks samePoint (pointRow (now points)) (pointRow (now others))) (length (now points) / 3) (now flags) ⌝ ∗ ⌜ at + length (words (pointDifferences side (pointRow (now points)) (pointRow (now others)))) ≤ length (now out) ⌝ }
-    ensures { λ r. ⌜ Wrote (now (out .entry)) at (words (pointDifferences side (pointRow (now (points .entry))) (pointRow (now (others .entry))))) (now (out .exit)) r ⌝ }
+    requires { ⌜ NoneRepeated (now points) ⌝ ∗ ⌜ PointFlags known (now points) (now others) (now flags) ⌝ ∗ ⌜ at + length (pointWords side (now points) (now others)) ≤ length (now out) ⌝ }
+    ensures { λ r. ⌜ Wrote (now (out .entry)) at (pointWords side (now (points .entry)) (now (others .entry))) (now (out .exit)) r ⌝ }
 {
     let count = points.len() / 3;
     let mut to = at;
@@ -134,8 +136,10 @@ pub(crate) fn write_faces(
     known: bool,
     flags: &[u8],
 ) -> usize
-    requires { ⌜ DistinctAndNumbered (now points) (now indices) ⌝ ∗ ⌜ DistinctAndNumbered (now «other_points») (now «other_indices») ⌝ ∗ ⌜ KnownFlags known (lacks sameFace (faceRow (now points) (now indices)) (faceRow (now «other_points») (now «other_indices»))) (length (now indices) / 3) (now flags) ⌝ ∗ ⌜ at + length (words (faceDifferences side (faceRow (now points) (now indices)) (faceRow (now «other_points») (now «other_indices»)))) ≤ length (now out) ⌝ }
-    ensures { λ r. ⌜ Wrote (now (out .entry)) at (words (faceDifferences side (faceRow (now (points .entry)) (now (indices .entry))) (faceRow (now («other_points» .entry)) (now («other_indices» .entry))))) (now (out .exit)) r ⌝ }
+    requires { ⌜ DistinctAndNumbered (now points) (now indices) ⌝ ∗ ⌜ DistinctAndNumbered (now «other_points») (now «other_indices») ⌝ ∗
+        ⌜ FaceFlags known (now points) (now indices) (now «other_points») (now «other_indices») (now flags) ⌝ ∗
+        ⌜ at + length (faceWords side (now points) (now indices) (now «other_points») (now «other_indices»)) ≤ length (now out) ⌝ }
+    ensures { λ r. ⌜ Wrote (now (out .entry)) at (faceWords side (now (points .entry)) (now (indices .entry)) (now («other_points» .entry)) (now («other_indices» .entry))) (now (out .exit)) r ⌝ }
 {
     let count = indices.len() / 3;
     let mut to = at;

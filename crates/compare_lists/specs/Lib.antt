@@ -1,0 +1,2 @@
+-- The definitions of `compare_lists`.
+pub mod Words
