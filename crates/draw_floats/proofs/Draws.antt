@@ -18,14 +18,14 @@ use Rattle.draw_floats.specs.declared.answer.FloatsAnswer.{FloatsAnswer}
 use Rattle.draw_floats.specs.declared.answer.FloatsAnswer.the-variants.{Drawn, Discarded, NoRoomForVertices, NoRoomForIndices, NoRoomForFloats, BadTop}
 use Rattle.draw_floats.proofs.answer.FloatsAnswer.{the-type}
 use Rattle.draw_floats.specs.Answers.{floatsCode, floatsVerdict}
-use Rattle.draw_floats.specs.Draws.{DrewWithFloats}
+use Rattle.draw_floats.specs.Draws.{MeshLists, DrewWithFloats}
 use Rattle.draw_floats.proofs.Verdicts.{answer-fits}
 use Rattle.draw_floats.proofs.Lists.{points-over, indices-over, floats-over}
 
-module _ (set : Settings) (p : Patch) {v i : List ℕ} {f : List Float} where
+module _ (set : Settings) (p : Patch) {before : MeshLists} where
   -- any answer but "drawn", which has tag 0
-  pub untouched : (r : FloatsAnswer) → OneOf (1 ∷ 2 ∷ 3 ∷ 4 ∷ 5 ∷ []) (tagOf the-type r) → floatsCode r ≡ floatsVerdict set p (length v) (length i) (length f)
-      → DrewWithFloats set p v v i i f f r
+  pub untouched : (r : FloatsAnswer) → OneOf (1 ∷ 2 ∷ 3 ∷ 4 ∷ 5 ∷ []) (tagOf the-type r)
+      → floatsCode r ≡ floatsVerdict set p (length (before .vertices)) (length (before .indices)) (length (before .floats)) → DrewWithFloats set p before before r
   untouched (Drawn P I) h e = absurd (miss (1 ∷ 2 ∷ 3 ∷ 4 ∷ 5 ∷ []) 0 tt h)
   untouched Discarded h e = record { answer = e; vertices = refl; indices = refl; floats = refl }
   untouched NoRoomForVertices h e = record { answer = e; vertices = refl; indices = refl; floats = refl }
@@ -34,16 +34,16 @@ module _ (set : Settings) (p : Patch) {v i : List ℕ} {f : List Float} where
   untouched BadTop h e = record { answer = e; vertices = refl; indices = refl; floats = refl }
 
   -- drawn, by the two operations and the loop for the floats
-  pub all-written : {P I unit : ℕ} {v′ i′ : List ℕ} {f′ : List Float} (r : FloatsAnswer) (a : PointsAnswer) (b : IndicesAnswer)
-      → r ≡ Drawn P I → floatsCode r ≡ floatsVerdict set p (length v) (length i) (length f)
-      → DrewPoints set p v v′ a → DrewIndices set p i i′ b → unit ≡ one p → f′ ≡ over f 0 (map (coordinate unit) (take (3 * P) v′))
-      → DrewWithFloats set p v v′ i i′ f f′ (Drawn P I)
-  all-written {P} {v′ = v′} r a b is e da db u d =
-      let fits = answer-fits set p v i f r is e in
+  pub all-written : {P I unit : ℕ} {after : MeshLists} (r : FloatsAnswer) (a : PointsAnswer) (b : IndicesAnswer) → r ≡ Drawn P I
+      → floatsCode r ≡ floatsVerdict set p (length (before .vertices)) (length (before .indices)) (length (before .floats))
+      → DrewPoints set p (before .vertices) (after .vertices) a → DrewIndices set p (before .indices) (after .indices) b → unit ≡ one p
+      → after .floats ≡ over (before .floats) 0 (map (coordinate unit) (take (3 * P) (after .vertices))) → DrewWithFloats set p before after (Drawn P I)
+  all-written {P} {after = after} r a b is e da db u d =
+      let fits = answer-fits set p (before .vertices) (before .indices) (before .floats) r is e in
       let es = points-over set p fits a da in
       record {
         answer = ap floatsCode (sym is) ∙ e;
         vertices = es;
         indices = indices-over set p fits b db;
-        floats = floats-over set p fits es (d ∙ ap (λ (n : ℕ). over f 0 (map (coordinate n) (take (3 * P) v′))) u);
+        floats = floats-over set p fits es (d ∙ ap (λ (n : ℕ). over (before .floats) 0 (map (coordinate n) (take (3 * P) (after .vertices)))) u);
       }

@@ -31,7 +31,7 @@ use Rattle.coordinate.specs.Coordinate.{coordinate}
 use Rattle.draw_floats.specs.declared.answer.FloatsAnswer.{FloatsAnswer}
 use Rattle.answer_codes.specs.AnswerCode.{drewBoth}
 use Rattle.draw_floats.specs.Answers.{floatsCode}
-use Rattle.draw_floats.specs.Draws.{DrewWithFloats}
+use Rattle.draw_floats.specs.Draws.{MeshLists, DrewWithFloats}
 use Rattle.draw_floats.specs.Edges.{axis, inRisingOrder, edgeFloat, floatsAlong, SameKind}
 use Rattle.draw_floats.proofs.Together.{fits, as-points}
 use Rattle.draw_floats.proofs.Floats.{point-at, many, whole, float-at}
@@ -62,13 +62,13 @@ word-of ps (suc (suc zero)) j h l =
     rw z (ap (λ (q : Point). q .w) (sym (point-at ps j (3 * j) l refl)))
 word-of ps (suc (suc (suc n))) j h l = absurd (omega arith)
 
-module _ (set : Settings) (p : Patch) (r : FloatsAnswer) {v v′ i i′ : List ℕ} {f f′ : List Float} {P I : ℕ}
-    (d : DrewWithFloats set p v v′ i i′ f f′ r) (e : floatsCode r ≡ drewBoth P I) where
+module _ (set : Settings) (p : Patch) (r : FloatsAnswer) {before after : MeshLists} {P I : ℕ}
+    (d : DrewWithFloats set p before after r) (e : floatsCode r ≡ drewBoth P I) where
   abbrev drawn : List Point
   drawn = points (subdivisionOf set p)
 
   at-place : Surface p → (k j : ℕ) → j < P → edges p k .on (getD drawn j missing) ≡ true
-      → getD f′ (axis p k + 3 * j) nan ≡ edgeFloat p k (edges p k .along (getD drawn j missing))
+      → getD (after .floats) (axis p k + 3 * j) nan ≡ edgeFloat p k (edges p k .along (getD drawn j missing))
   at-place s k j h on =
       let n = words-length drawn in
       let m = many set p r d e in
@@ -80,8 +80,8 @@ module _ (set : Settings) (p : Patch) (r : FloatsAnswer) {v v′ i i′ : List �
       ∙ all-at missing j l (points-on (set .spacing) (set .top) (top-as _ (fits set p r d e .top)) p s) k on)
 
   -- the float of a point on outer edge k is that of its place, both read from the lists
-  pub edge-float : Surface p → (k j : ℕ) → j < P → edges p k .on (getD (readPoints (take (3 * P) v′)) j missing) ≡ true
-      → getD f′ (axis p k + 3 * j) nan ≡ edgeFloat p k (edges p k .along (getD (readPoints (take (3 * P) v′)) j missing))
+  pub edge-float : Surface p → (k j : ℕ) → j < P → edges p k .on (getD (readPoints (take (3 * P) (after .vertices))) j missing) ≡ true
+      → getD (after .floats) (axis p k + 3 * j) nan ≡ edgeFloat p k (edges p k .along (getD (readPoints (take (3 * P) (after .vertices))) j missing))
   edge-float = rw (points-drawn set p (Drawn P) (as-points set p r d e) refl .2) at-place
 
 -- ---- two edges

@@ -26,7 +26,7 @@ use Rattle.coordinate.proofs.Laws.{exact, near, triangle-apart, quad-apart}
 use Rattle.draw_floats.specs.declared.answer.FloatsAnswer.{FloatsAnswer}
 use Rattle.answer_codes.specs.AnswerCode.{drewBoth}
 use Rattle.draw_floats.specs.Answers.{floatsCode}
-use Rattle.draw_floats.specs.Draws.{floatWords, DrewWithFloats}
+use Rattle.draw_floats.specs.Draws.{floatWords, MeshLists, DrewWithFloats}
 use Rattle.draw_floats.specs.Said.{FloatOf}
 use Rattle.draw_floats.proofs.Lists.{counted, word-at, word-small}
 use Rattle.draw_floats.proofs.Together.{fits}
@@ -50,40 +50,41 @@ point-at [] j n h e = absurd (omega arith)
 point-at (p ∷ ps) zero n h e = let z : n ≡ 0 = omega arith in rw z
 point-at (p ∷ ps) (suc j) n h e = let z : n ≡ suc (suc (suc (3 * j))) = omega arith in rw z (point-at ps j (3 * j) (omega arith) refl)
 
-module _ (set : Settings) (p : Patch) (r : FloatsAnswer) {v v′ i i′ : List ℕ} {f f′ : List Float} {P I : ℕ}
-    (d : DrewWithFloats set p v v′ i i′ f f′ r) (e : floatsCode r ≡ drewBoth P I) where
+module _ (set : Settings) (p : Patch) (r : FloatsAnswer) {before after : MeshLists} {P I : ℕ}
+    (d : DrewWithFloats set p before after r) (e : floatsCode r ≡ drewBoth P I) where
   pub many : 3 * P ≡ length (pointWords set p)
   many = counted set p (fits set p r d e)
 
   -- word k of the points, as both lists have it
-  pub whole : (k : ℕ) → k < 3 * P → getD v′ k 0 ≡ getD (pointWords set p) k 0
+  pub whole : (k : ℕ) → k < 3 * P → getD (after .vertices) k 0 ≡ getD (pointWords set p) k 0
   whole = word-at set p (fits set p r d e) (d .vertices ∙ rw e)
 
-  whole-small : (k : ℕ) → k < 3 * P → getD v′ k 0 ≤ one p
+  whole-small : (k : ℕ) → k < 3 * P → getD (after .vertices) k 0 ≤ one p
   whole-small = word-small set p (fits set p r d e) (d .vertices ∙ rw e)
 
   -- float k is word k divided
-  pub float-at : (k : ℕ) → k < 3 * P → getD f′ k nan ≡ coordinate (one p) (getD v′ k 0)
+  pub float-at : (k : ℕ) → k < 3 * P → getD (after .floats) k nan ≡ coordinate (one p) (getD (after .vertices) k 0)
   float-at k h =
       let ws = pointWords set p in
       let n : 3 * P ≡ length (floatWords set p) = many ∙ sym (length-map ws (coordinate (one p))) in
-      let taken : take (3 * P) f′ ≡ floatWords set p = ap (take (3 * P)) (d .floats ∙ rw e) ∙ over-front f (floatWords set p) (3 * P) n in
-      sym (getD-take (3 * P) f′ k nan h) ∙ ap (λ (l : List Float). getD l k nan) taken
+      let taken : take (3 * P) (after .floats) ≡ floatWords set p = ap (take (3 * P)) (d .floats ∙ rw e) ∙ over-front (before .floats) (floatWords set p) (3 * P) n in
+      sym (getD-take (3 * P) (after .floats) k nan h) ∙ ap (λ (l : List Float). getD l k nan) taken
       ∙ get-within (floatWords set p) nan (coordinate (one p) 0) k (omega (arith, n))
       ∙ List·getD-map (coordinate (one p)) ws k 0 ∙ ap (coordinate (one p)) (sym (whole k h))
 
   -- so it is exact or near, by the kind of patch
-  pub floats-said : (k : ℕ) → k < 3 * P → FloatOf p (getD v′ k 0) (getD f′ k nan)
-  floats-said k h = rw (float-at k h) (float-of p (getD v′ k 0) (whole-small k h))
+  pub floats-said : (k : ℕ) → k < 3 * P → FloatOf p (getD (after .vertices) k 0) (getD (after .floats) k nan)
+  floats-said k h = rw (float-at k h) (float-of p (getD (after .vertices) k 0) (whole-small k h))
 
   -- equal floats belong to equal words
-  same-word : (j k : ℕ) → j < 3 * P → k < 3 * P → getD f′ j nan ≡ getD f′ k nan → getD (pointWords set p) j 0 ≡ getD (pointWords set p) k 0
+  same-word : (j k : ℕ) → j < 3 * P → k < 3 * P → getD (after .floats) j nan ≡ getD (after .floats) k nan → getD (pointWords set p) j 0 ≡ getD (pointWords set p) k 0
   same-word j k h l q =
-      sym (whole j h) ∙ apart p (getD v′ j 0) (getD v′ k 0) (whole-small j h) (whole-small k l) (sym (float-at j h) ∙ q ∙ float-at k l) ∙ whole k l
+      sym (whole j h) ∙ apart p (getD (after .vertices) j 0) (getD (after .vertices) k 0) (whole-small j h) (whole-small k l) (sym (float-at j h) ∙ q ∙ float-at k l) ∙ whole k l
 
   -- no two points have the same three floats
-  pub floats-distinct : (j k : ℕ) → j < P → k < P → getD f′ (3 * j) nan ≡ getD f′ (3 * k) nan → getD f′ (suc (3 * j)) nan ≡ getD f′ (suc (3 * k)) nan
-      → getD f′ (suc (suc (3 * j))) nan ≡ getD f′ (suc (suc (3 * k))) nan → j ≡ k
+  pub floats-distinct : (j k : ℕ) → j < P → k < P → getD (after .floats) (3 * j) nan ≡ getD (after .floats) (3 * k) nan
+      → getD (after .floats) (suc (3 * j)) nan ≡ getD (after .floats) (suc (3 * k)) nan
+      → getD (after .floats) (suc (suc (3 * j))) nan ≡ getD (after .floats) (suc (suc (3 * k))) nan → j ≡ k
   floats-distinct j k h l a b c =
       let ps = points (subdivisionOf set p) in
       let g = fits set p r d e in

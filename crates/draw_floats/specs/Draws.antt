@@ -17,13 +17,19 @@ use Rattle.draw_floats.specs.Answers.{floatsCode, floatsVerdict}
 abbrev pub floatWords : Settings → Patch → List Float
 floatWords set p = map (coordinate (one p)) (pointWords set p)
 
--- v, i and f are the vertex, index and float list at entry, v′, i′ and f′ at exit. If drawn, each list begins with the words of
--- the patch and is unchanged after them; otherwise all three are unchanged
-pub record DrewWithFloats (set : Settings) (p : Patch) (v v′ i i′ : List ℕ) (f f′ : List Float) (r : FloatsAnswer) : Type 0 where
+-- the three lists that are drawn into
+pub record MeshLists : Type 0 where
+  pub vertices : List ℕ
+  pub indices : List ℕ
+  pub floats : List Float
+
+-- `before` are the lists at entry, `after` at exit. If drawn, each list begins with the words of the patch and is unchanged after
+-- them; otherwise all three are unchanged
+pub record DrewWithFloats (set : Settings) (p : Patch) (before after : MeshLists) (r : FloatsAnswer) : Type 0 where
   -- the answer, with both counts if drawn
-  pub answer : floatsCode r ≡ floatsVerdict set p (length v) (length i) (length f)
+  pub answer : floatsCode r ≡ floatsVerdict set p (length (before .vertices)) (length (before .indices)) (length (before .floats))
   -- the same words as the two drawing operations write
-  pub vertices : v′ ≡ listAfter (floatsCode r .number) v (pointWords set p)
-  pub indices : i′ ≡ listAfter (floatsCode r .number) i (connectionWords set p)
+  pub vertices : after .vertices ≡ listAfter (floatsCode r .number) (before .vertices) (pointWords set p)
+  pub indices : after .indices ≡ listAfter (floatsCode r .number) (before .indices) (connectionWords set p)
   -- three floats per point
-  pub floats : f′ ≡ listAfter (floatsCode r .number) f (floatWords set p)
+  pub floats : after .floats ≡ listAfter (floatsCode r .number) (before .floats) (floatWords set p)

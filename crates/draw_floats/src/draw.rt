@@ -12,7 +12,8 @@ pub fn draw_with_floats(
     indices: &mut [u16],
     floats: &mut [f32],
 ) -> FloatsAnswer
-    ensures { λ r. ⌜ DrewWithFloats settings patch (now (vertices .entry)) (now (vertices .exit)) (now (indices .entry)) (now (indices .exit)) (now (floats .entry)) (now (floats .exit)) r ⌝ }
+    ensures { λ r. ⌜ DrewWithFloats settings patch (record { vertices = now (vertices .entry); indices = now (indices .entry); floats = now (floats .entry) })
+        (record { vertices = now (vertices .exit); indices = now (indices .exit); floats = now (floats .exit) }) r ⌝ }
 {
     let answer = crate::room::judge(patch, settings, vertices.len(), indices.len(), floats.len());
     let FloatsAnswer::Drawn { points, indices: _ } = answer else {

@@ -58,20 +58,20 @@ module _ (bs : List ℕ) (xs : List Float) where
   pub drew-words : {pw : List ℕ} → CallDrew bs xs pw → Words bs xs pw (pointWords (settingsIn bs) (patchIn bs xs))
   drew-words (written.points v v′ c′ d) =
       points-of (getD c′ 0 0) (zero-known bs _ (d .says .number)) (points-call bs xs d)
-  drew-words (written.CallDrew.with-floats v v′ i i′ f f′ c′ d) =
+  drew-words (written.CallDrew.with-floats before after c′ d) =
       points-of (getD c′ 0 0) (zero-known bs _ (d .says .number))
       (as-points (settingsIn bs) (patchIn bs xs) (floats.Drawn (getD c′ 0 0) (getD c′ 1 0)) (called-drew bs xs d) refl)
-  drew-words (written.CallDrew.shared d w w′ v v′ i i′ c′ h) =
+  drew-words (written.CallDrew.shared d before after c′ h) =
       let a = called-all bs xs d h in
       record { known = called-known bs xs d h; top = a .top; drawn = a .drawn; are = called-point-words bs xs d h }
 
   pub connected-words : {iw : List ℕ} → CallConnected bs xs iw → Words bs xs iw (connectionWords (settingsIn bs) (patchIn bs xs))
   connected-words (written.indices i i′ c′ d) =
       indices-of (getD c′ 0 0) (zero-known bs _ (d .says .number)) (indices-call bs xs d)
-  connected-words (written.CallConnected.with-floats v v′ i i′ f f′ c′ d) =
+  connected-words (written.CallConnected.with-floats before after c′ d) =
       indices-of (getD c′ 1 0) (zero-known bs _ (d .says .number))
       (as-indices (settingsIn bs) (patchIn bs xs) (floats.Drawn (getD c′ 0 0) (getD c′ 1 0)) (called-drew bs xs d) refl)
-  connected-words (written.CallConnected.shared d w w′ v v′ i i′ c′ h) =
+  connected-words (written.CallConnected.shared d before after c′ h) =
       let a = called-all bs xs d h in
       record { known = called-known bs xs d h; top = a .top; drawn = a .drawn; are = called-index-words bs xs d h }
 

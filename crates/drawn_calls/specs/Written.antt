@@ -11,6 +11,8 @@ use Rattle.call_inputs.specs.Inputs.{patchIn, settingsIn}
 use Rattle.share_state.specs.SharedList.{firstFree}
 use Rattle.share_answers.specs.Answers.{pointsHeld}
 use Rattle.share_words.specs.Words.{stateIn, designerOf}
+use Rattle.share_words.specs.Memory.{Memory}
+use Rattle.draw_floats.specs.Draws.{MeshLists}
 use Rattle.draw_exports.specs.Calls.{PointsCalled, IndicesCalled}
 use Rattle.float_exports.specs.Calls.{FloatsCalled}
 use Rattle.share_exports.specs.Calls.{DrawCalled}
@@ -19,16 +21,17 @@ use Rattle.share_exports.specs.Calls.{DrawCalled}
 -- says, at the front of the vertex list, or on shared lists from the first free word of the designer's part on
 pub data CallDrew (bs : List ℕ) (xs : List Float) : List ℕ → Type 0 where
   points : (v v′ c′ : List ℕ) → PointsCalled bs xs v v′ c′ 0 → CallDrew bs xs (take (3 * getD c′ 0 0) v′)
-  with-floats : (v v′ i i′ : List ℕ) (f f′ : List Float) (c′ : List ℕ) → FloatsCalled bs xs v v′ i i′ f f′ c′ 0 → CallDrew bs xs (take (3 * getD c′ 0 0) v′)
-  shared : (d : ℕ) (w w′ v v′ i i′ c′ : List ℕ) → DrawCalled bs xs d w w′ v v′ i i′ c′ 0
-      → CallDrew bs xs (take (3 * getD c′ 0 0) (drop (firstFree (designerOf d) (stateIn w .vertices)) v′))
+  with-floats : (before after : MeshLists) (c′ : List ℕ) → FloatsCalled bs xs before after c′ 0 → CallDrew bs xs (take (3 * getD c′ 0 0) (after .vertices))
+  shared : (d : ℕ) (before after : Memory) (c′ : List ℕ) → DrawCalled bs xs d before after c′ 0
+      → CallDrew bs xs (take (3 * getD c′ 0 0) (drop (firstFree (designerOf d) (stateIn (before .words) .vertices)) (after .vertices)))
 
 -- the same for the indices; on shared lists, each less the number of points that the part held before
 pub data CallConnected (bs : List ℕ) (xs : List Float) : List ℕ → Type 0 where
   indices : (i i′ c′ : List ℕ) → IndicesCalled bs xs i i′ c′ 0 → CallConnected bs xs (take (getD c′ 0 0) i′)
-  with-floats : (v v′ i i′ : List ℕ) (f f′ : List Float) (c′ : List ℕ) → FloatsCalled bs xs v v′ i i′ f f′ c′ 0 → CallConnected bs xs (take (getD c′ 1 0) i′)
-  shared : (d : ℕ) (w w′ v v′ i i′ c′ : List ℕ) → DrawCalled bs xs d w w′ v v′ i i′ c′ 0
-      → CallConnected bs xs (map (λ x. x - pointsHeld (designerOf d) (stateIn w)) (take (getD c′ 1 0) (drop (firstFree (designerOf d) (stateIn w .indices)) i′)))
+  with-floats : (before after : MeshLists) (c′ : List ℕ) → FloatsCalled bs xs before after c′ 0 → CallConnected bs xs (take (getD c′ 1 0) (after .indices))
+  shared : (d : ℕ) (before after : Memory) (c′ : List ℕ) → DrawCalled bs xs d before after c′ 0
+      → CallConnected bs xs
+      (map (λ x. x - pointsHeld (designerOf d) (stateIn (before .words))) (take (getD c′ 1 0) (drop (firstFree (designerOf d) (stateIn (before .words) .indices)) (after .indices))))
 
 -- ps are all points that some call drew for these settings and this patch
 pub data SomeCallDrew : Settings → Patch → List Point → Type 0 where

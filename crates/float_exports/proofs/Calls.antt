@@ -7,7 +7,7 @@ use Rattle.patch.specs.declared.kinds.Patch.{Patch}
 use Rattle.patch.specs.declared.settings.Settings.{Settings}
 use Rattle.draw_floats.specs.declared.answer.FloatsAnswer.{FloatsAnswer}
 use Rattle.draw_floats.specs.Answers.{floatsCode}
-use Rattle.draw_floats.specs.Draws.{DrewWithFloats}
+use Rattle.draw_floats.specs.Draws.{MeshLists, DrewWithFloats}
 use Rattle.call_answers.specs.declared.reply.Reply.{Reply}
 use Rattle.call_answers.specs.Replies.{IsReply, unknownSetting, badTop}
 use Rattle.call_answers.proofs.Replies.{said-two, says-as}
@@ -17,18 +17,18 @@ use Rattle.call_inputs.specs.Asked.{askedIn}
 use Rattle.call_inputs.proofs.Reading.{refused-instead, known-granted, granted}
 use Rattle.float_exports.specs.Calls.{FloatsCalled}
 
-module _ (bs : List ℕ) (xs : List Float) {a : Asked} (is : a ≡ askedIn bs xs) {v i : List ℕ} {f : List Float} {c′ : List ℕ} {r : ℕ} {reply : Reply}
+module _ (bs : List ℕ) (xs : List Float) {a : Asked} (is : a ≡ askedIn bs xs) {before : MeshLists} {c′ : List ℕ} {r : ℕ} {reply : Reply}
     (s : (r ≡ reply .number) × (c′ ≡ reply .first ∷ reply .second ∷ [])) where
   -- a refusal leaves the lists unchanged
-  pub floats-refused : a ≡ Refused reply → FloatsCalled bs xs v v i i f f c′ r
+  pub floats-refused : a ≡ Refused reply → FloatsCalled bs xs before before c′ r
   floats-refused e =
       let instead = refused-instead bs xs is e in
       let said = said-two (instead .tells) s in
       let z : r ≡ suc (instead .less) = said .number ∙ instead .number in
       record { says = says-as (instead .answer _) said; vertices = rw z; indices = rw z; floats = rw z }
 
-  pub floats-known : {set : Settings} {p : Patch} (o : FloatsAnswer) {v′ i′ : List ℕ} {f′ : List Float} → a ≡ Known set p → DrewWithFloats set p v v′ i i′ f f′ o
-      → IsReply (floatsCode o) reply → FloatsCalled bs xs v v′ i i′ f f′ c′ r
+  pub floats-known : {set : Settings} {p : Patch} (o : FloatsAnswer) {after : MeshLists} → a ≡ Known set p → DrewWithFloats set p before after o → IsReply (floatsCode o) reply
+      → FloatsCalled bs xs before after c′ r
   floats-known o e d t =
       let g = known-granted bs xs is e in
       let drew = rw (g .settings, g .patch) at d in

@@ -18,6 +18,7 @@ use Rattle.level.proofs.Top.{top-as, is-top, no-top, top-no}
 use Rattle.draw_floats.specs.declared.answer.FloatsAnswer.{FloatsAnswer}
 use Rattle.draw_floats.specs.declared.answer.FloatsAnswer.the-variants as floats
 use Rattle.draw_floats.specs.Answers.{floatsCode, floatsVerdict}
+use Rattle.draw_floats.specs.Draws.{MeshLists}
 use Rattle.call_answers.specs.Replies.{unknownSetting, badTop, twoWords}
 use Rattle.call_answers.proofs.Replies.{says-as}
 use Rattle.call_inputs.specs.Inputs.{patchIn, settingsIn}
@@ -103,14 +104,14 @@ floats-readable = record { same = same; no-eight = no-eight; place = λ k. refl 
     no-eight floats.NoRoomForFloats = refl
     no-eight floats.BadTop = refl
 
-pub floats-call-exactly : (bs : List ℕ) (xs : List Float) {v v′ i i′ : List ℕ} {f f′ : List Float} {c′ : List ℕ} {r : ℕ} → FloatsCalled bs xs v v′ i i′ f f′ c′ r
-    → FloatsExactly bs xs (length v) (length i) (length f) c′ r
-floats-call-exactly bs xs {v} {i = i} {f = f} d =
+pub floats-call-exactly : (bs : List ℕ) (xs : List Float) {before after : MeshLists} {c′ : List ℕ} {r : ℕ} → FloatsCalled bs xs before after c′ r
+    → FloatsExactly bs xs (length (before .vertices)) (length (before .indices)) (length (before .floats)) c′ r
+floats-call-exactly bs xs {before} d =
     let set = settingsIn bs in
     let p = patchIn bs xs in
-    let a = length v in
-    let b = length i in
-    let c = length f in
+    let a = length (before .vertices) in
+    let b = length (before .indices) in
+    let c = length (before .floats) in
     let op : Answers bs floatsCode (FloatsMeans set p a b c) (right set p a b c) floats.BadTop = record {
       exactly = exactly set p a b c;
       bad-number = refl;

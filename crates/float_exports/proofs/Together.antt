@@ -18,7 +18,7 @@ use Rattle.call_inputs.specs.Inputs.{patchIn, settingsIn}
 use Rattle.call_inputs.proofs.Known.{known-zero}
 use Rattle.draw_floats.specs.declared.answer.FloatsAnswer.the-variants.{Drawn}
 use Rattle.draw_floats.specs.Answers.{floatsVerdict}
-use Rattle.draw_floats.specs.Draws.{DrewWithFloats}
+use Rattle.draw_floats.specs.Draws.{MeshLists, DrewWithFloats}
 use Rattle.draw_floats.proofs.Together.{together-with-floats}
 use Rattle.float_exports.specs.Calls.{FloatsCalled}
 
@@ -42,17 +42,20 @@ module _ (bs : List ℕ) (xs : List Float) where
       go true false false false true e = absurd (omega arith)
       go true false false false false e = refl
 
-  module _ {v v′ i i′ : List ℕ} {f f′ : List Float} {c′ : List ℕ} (d : FloatsCalled bs xs v v′ i i′ f f′ c′ 0) where
+  module _ {before after : MeshLists} {c′ : List ℕ} (d : FloatsCalled bs xs before after c′ 0) where
     -- such a call is a drawing with both counts in memory
-    pub called-drew : DrewWithFloats (settingsIn bs) (patchIn bs xs) v v′ i i′ f f′ (Drawn (getD c′ 0 0) (getD c′ 1 0))
+    pub called-drew : DrewWithFloats (settingsIn bs) (patchIn bs xs) before after (Drawn (getD c′ 0 0) (getD c′ 1 0))
     called-drew =
-        let t = floatsVerdict (settingsIn bs) (patchIn bs xs) (length v) (length i) (length f) in
+        let v = length (before .vertices) in
+        let i = length (before .indices) in
+        let f = length (before .floats) in
+        let t = floatsVerdict (settingsIn bs) (patchIn bs xs) v i f in
         let k = known-zero bs t (sym (d .says .number)) in
-        let z = verdict-zero (length v) (length i) (length f) (ap (λ (x : AnswerCode). x .number) (sym k) ∙ sym (d .says .number)) in
+        let z = verdict-zero v i f (ap (λ (x : AnswerCode). x .number) (sym k) ∙ sym (d .says .number)) in
         let w : c′ ≡ points ∷ corners ∷ [] = d .says .counts ∙ ap (λ (x : AnswerCode). twoWords (x .values)) (k ∙ z) in
         let first : getD c′ 0 0 ≡ points = ap (λ (l : List ℕ). getD l 0 0) w in
         let second : getD c′ 1 0 ≡ corners = ap (λ (l : List ℕ). getD l 1 0) w in
         record { answer = rw (first, second) (sym z); vertices = d .vertices; indices = d .indices; floats = d .floats }
 
-    pub called-with-floats : Demand (settingsIn bs) (patchIn bs xs) (readPoints (take (3 * getD c′ 0 0) v′)) (take (getD c′ 1 0) i′)
+    pub called-with-floats : Demand (settingsIn bs) (patchIn bs xs) (readPoints (take (3 * getD c′ 0 0) (after .vertices))) (take (getD c′ 1 0) (after .indices))
     called-with-floats = together-with-floats (settingsIn bs) (patchIn bs xs) (Drawn (getD c′ 0 0) (getD c′ 1 0)) called-drew refl

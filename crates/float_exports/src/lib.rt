@@ -37,8 +37,9 @@ pub extern "C" fn yoktvarim_draw_with_floats(
     floats: &mut [f32],
     counts: &mut [u32; 2],
 ) -> u32
-    ensures { λ r. ⌜ FloatsCalled (now (settings .entry)) (now (levels .entry)) (now (vertices .entry)) (now (vertices .exit)) (now (indices .entry))
-        (now (indices .exit)) (now (floats .entry)) (now (floats .exit)) (now (counts .exit)) r ⌝ }
+    ensures { λ r. ⌜ FloatsCalled (now (settings .entry)) (now (levels .entry))
+        (record { vertices = now (vertices .entry); indices = now (indices .entry); floats = now (floats .entry) })
+        (record { vertices = now (vertices .exit); indices = now (indices .exit); floats = now (floats .exit) }) (now (counts .exit)) r ⌝ }
 {
     match read_call(settings, levels) {
         Asked::Refused { reply } => say_two(reply, counts),

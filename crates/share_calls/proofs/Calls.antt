@@ -22,6 +22,7 @@ use Rattle.share_state.proofs.Sound.{and-true, state-test}
 use Rattle.share_answers.specs.Answers.{drawVerdict}
 use Rattle.share_draw.specs.Operations.{drawnState}
 use Rattle.share_words.specs.Words.{stateIn, stateWords, designerOf}
+use Rattle.share_words.specs.Memory.{Memory}
 use Rattle.share_exports.specs.Calls.{unknownDesigner, asked, drawSays, clearSays}
 use Rattle.share_exports.proofs.Calls.{asked-none, asked-some}
 use Rattle.share_isolation.specs.Session.{Session, OwnState, View, sameDesigner, ownState, answerTo, served}
@@ -29,7 +30,7 @@ use Rattle.share_isolation.specs.Session as runs
 use Rattle.share_isolation.proofs.OwnState.{callAnswer, ownStateNext, viewNext}
 use Rattle.share_isolation.proofs.Step.{Good, good-next, length-next, other-next, own-answer, own-next, own-state-next}
 use Rattle.share_isolation.proofs.Runs.{session-of}
-use Rattle.share_calls.specs.Run.{RawRequest, draw, clear, RawCall, Memory, RawAnswer, RawSameLists, RawMade, drew, cleared, sessionIn}
+use Rattle.share_calls.specs.Run.{RawRequest, draw, clear, RawCall, RawAnswer, RawSameLists, RawMade, drew, cleared, sessionIn}
 
 -- the operation's call
 abbrev pub requestOf : RawRequest → runs.Request
@@ -201,7 +202,7 @@ either a t new old = go (a .number) refl
 
 pub made-is : (m m′ : Memory) (c : RawCall) (a : RawAnswer) → RawMade m c a m′ → (a ≡ reply (sessionIn m) c) × (sessionIn m′ ≡ step (sessionIn m) c)
 unfolding answerTo served against
-made-is _ _ _ _ (drew m d bs xs w′ v v′ i i′ c′ r h l) =
+made-is _ _ _ _ (drew m d bs xs v i after c′ r h l) =
     let s = sessionIn m in
     let e = designerOf d in
     let ok = accepted (length v) (length i) (s .state) in
@@ -216,7 +217,7 @@ made-is _ _ _ _ (drew m d bs xs w′ v v′ i i′ c′ r h l) =
     left n = unlessRefused n (stateWords (drawnState (designerOf d) (stateIn (m .words)) (settingsIn bs) (patchIn bs xs))) (m .words)
 
     go : (n : ℕ) → r ≡ n
-        → _≡_ {A = Session} (record { state = stateIn w′; vertices = unlessRefused n v′ (m .vertices); indices = unlessRefused n i′ (m .indices) })
+        → _≡_ {A = Session} (record { state = stateIn (after .words); vertices = unlessRefused n (after .vertices) (m .vertices); indices = unlessRefused n (after .indices) (m .indices) })
         (unlessRefused n (served (sessionIn m) (designerOf d) (runs.draw (settingsIn bs) (patchIn bs xs))) (sessionIn m))
     go zero z = session-of (ap stateIn (h .state ∙ ap left z)) (h .vertices ∙ rw (z, l .vertices z)) (h .indices ∙ rw (z, l .indices z))
     go (suc n) z = session-of (ap stateIn (h .state ∙ ap left z)) refl refl

@@ -10,6 +10,7 @@ use Rattle.call_inputs.specs.Inputs.{patchIn, settingsIn}
 use Rattle.share_state.specs.Operations.{unlessRefused}
 use Rattle.share_draw.specs.Operations.{drawnState}
 use Rattle.share_words.specs.Words.{stateIn, stateWords, designerOf}
+use Rattle.share_words.specs.Memory.{Memory}
 use Rattle.share_exports.specs.Calls.{drawSays, DrawCalled}
 
 -- the same answer, the same counts and the same ten words
@@ -19,8 +20,9 @@ pub record SameAnswer (r s : ℕ) (c e w u : List ℕ) : Type 0 where
   pub words : w ≡ u
 
 -- lists of equal lengths get the same answer and leave the same state; for clearing the contract itself says so
-pub by-lengths : (bs : List ℕ) (xs : List Float) (d : ℕ) {w w′ u′ v v′ i i′ l l′ k k′ c′ e′ : List ℕ} {r s : ℕ} → DrawCalled bs xs d w w′ v v′ i i′ c′ r
-    → DrawCalled bs xs d w u′ l l′ k k′ e′ s → length v ≡ length l → length i ≡ length k → SameAnswer r s c′ e′ w′ u′
+pub by-lengths : (bs : List ℕ) (xs : List Float) (d : ℕ) {w v i l k c′ e′ : List ℕ} {after after′ : Memory} {r s : ℕ}
+    → DrawCalled bs xs d (record { words = w; vertices = v; indices = i }) after c′ r → DrawCalled bs xs d (record { words = w; vertices = l; indices = k }) after′ e′ s
+    → length v ≡ length l → length i ≡ length k → SameAnswer r s c′ e′ (after .words) (after′ .words)
 by-lengths bs xs d {w} h g m n =
     let says : ℕ → ℕ → AnswerCode = λ (a b : ℕ). drawSays bs d (designerOf d) (stateIn w) (settingsIn bs) (patchIn bs xs) a b in
     let told = ap₂ says m n in

@@ -38,6 +38,7 @@ use Rattle.share_answers.proofs.Passed.{passed}
 use Rattle.share_draw.proofs.Counts.{point-words, index-words}
 use Rattle.share_draw.proofs.Drawn.{Ready, ready}
 use Rattle.share_words.specs.Words.{stateIn, designerOf}
+use Rattle.share_words.specs.Memory.{Memory}
 use Rattle.share_exports.specs.Calls.{unknownDesigner, asked, DrawCalled}
 use Rattle.share_exports.proofs.Calls.{asked-none, asked-some}
 use Rattle.share_isolation.proofs.OneCall.{lowered, written, one-call, once-call}
@@ -103,7 +104,7 @@ module _ (d : Designer) (s : State) (set : Settings) (p : Patch) {v v′ i i′ 
   }
 
 -- ---- for the call
-module _ (bs : List ℕ) (xs : List Float) (d : ℕ) {w w′ v v′ i i′ c′ : List ℕ} (h : DrawCalled bs xs d w w′ v v′ i i′ c′ 0) where
+module _ (bs : List ℕ) (xs : List Float) (d : ℕ) {before after : Memory} {c′ : List ℕ} (h : DrawCalled bs xs d before after c′ 0) where
   abbrev set : Settings
   set = settingsIn bs
 
@@ -114,16 +115,16 @@ module _ (bs : List ℕ) (xs : List Float) (d : ℕ) {w w′ v v′ i i′ c′ 
   by = designerOf d
 
   abbrev s : State
-  s = stateIn w
+  s = stateIn (before .words)
 
   -- a call that answered 0 is a drawing of its operation, with the counts in memory
   abbrev drawn : DrawResult
   drawn = record { answer = Drawn (getD c′ 0 0) (getD c′ 1 0); state = drawnState by s set p }
 
-  pub draw-call : DidDraw by s set p v v′ i i′ drawn
+  pub draw-call : DidDraw by s set p (before .vertices) (after .vertices) (before .indices) (after .indices) drawn
   draw-call =
-      let ok = accepted (length v) (length i) s in
-      let t = drawVerdict by s set p (length v) (length i) in
+      let ok = accepted (length (before .vertices)) (length (before .indices)) s in
+      let t = drawVerdict by s set p (length (before .vertices)) (length (before .indices)) in
       let k = asked-zero bs d ok t (sym (h .says .number)) in
       let z = verdict-zero set p ok (pointsHeld by s) (left by (s .vertices)) (left by (s .indices)) (ap (λ (x : AnswerCode). x .number) (sym k) ∙ sym (h .says .number)) in
       let c : c′ ≡ pointsOf set p ∷ indicesOf set p ∷ [] = h .says .counts ∙ ap (λ (x : AnswerCode). twoWords (x .values)) (k ∙ z) in
@@ -132,25 +133,25 @@ module _ (bs : List ℕ) (xs : List Float) (d : ℕ) {w w′ v v′ i i′ c′ 
       record { answer = rw (first, second) (sym z); state = refl; vertices = h .vertices; indices = h .indices }
 
   pub called-known : AllBelow choices bs 0
-  called-known = settings-zero bs d (accepted (length v) (length i) s) _ (h .says .number)
+  called-known = settings-zero bs d (accepted (length (before .vertices)) (length (before .indices)) s) _ (h .says .number)
 
   -- the points and indices that it appended, read from the lists at exit; from each index the number of earlier points is subtracted
-  pub called-one : Demand set p (drawnPoints (getD c′ 0 0) (drop (firstFree by (s .vertices)) v′))
-      (map (λ x. x - pointsHeld by s) (take (getD c′ 1 0) (drop (firstFree by (s .indices)) i′)))
+  pub called-one : Demand set p (drawnPoints (getD c′ 0 0) (drop (firstFree by (s .vertices)) (after .vertices)))
+      (map (λ x. x - pointsHeld by s) (take (getD c′ 1 0) (drop (firstFree by (s .indices)) (after .indices))))
   called-one = one-call by s set p drawn (getD c′ 0 0) (getD c′ 1 0) draw-call refl
 
   -- exactly one triangle holds each spot
-  pub called-once : SpotsOnce set p (drawnPoints (getD c′ 0 0) (drop (firstFree by (s .vertices)) v′))
-      (map (λ x. x - pointsHeld by s) (take (getD c′ 1 0) (drop (firstFree by (s .indices)) i′)))
+  pub called-once : SpotsOnce set p (drawnPoints (getD c′ 0 0) (drop (firstFree by (s .vertices)) (after .vertices)))
+      (map (λ x. x - pointsHeld by s) (take (getD c′ 1 0) (drop (firstFree by (s .indices)) (after .indices))))
   called-once = once-call by s set p drawn (getD c′ 0 0) (getD c′ 1 0) draw-call refl
 
   -- the words that it appended are those of the patch
-  pub called-point-words : take (3 * getD c′ 0 0) (drop (firstFree by (s .vertices)) v′) ≡ pointWords set p
+  pub called-point-words : take (3 * getD c′ 0 0) (drop (firstFree by (s .vertices)) (after .vertices)) ≡ pointWords set p
   called-point-words = appended-points by s set p drawn (getD c′ 0 0) (getD c′ 1 0) draw-call refl
 
-  pub called-index-words : map (λ x. x - pointsHeld by s) (take (getD c′ 1 0) (drop (firstFree by (s .indices)) i′)) ≡ connectionWords set p
+  pub called-index-words : map (λ x. x - pointsHeld by s) (take (getD c′ 1 0) (drop (firstFree by (s .indices)) (after .indices))) ≡ connectionWords set p
   called-index-words = appended-indices by s set p drawn (getD c′ 0 0) (getD c′ 1 0) draw-call refl
 
   -- the points are all points of the patch
-  pub called-all : AllPoints set p (drawnPoints (getD c′ 0 0) (drop (firstFree by (s .vertices)) v′))
+  pub called-all : AllPoints set p (drawnPoints (getD c′ 0 0) (drop (firstFree by (s .vertices)) (after .vertices)))
   called-all = appended-all by s set p drawn (getD c′ 0 0) (getD c′ 1 0) draw-call refl

@@ -9,6 +9,7 @@ use lib.ListN.{length}
 use Rattle.share_state.specs.declared.state.Quota.{Quota}
 use Rattle.share_state.specs.Operations.{unlessRefused}
 use Rattle.share_words.specs.Words.{stateIn, quotaIn, designerOf}
+use Rattle.share_words.specs.Memory.{Memory}
 use Rattle.share_exports.specs.Calls.{DrawCalled, StartCalled, ClearCalled}
 use Rattle.share_isolation.specs.Steps.{those}
 use Rattle.share_isolation.specs.Steps as steps
@@ -27,12 +28,6 @@ pub record RawCall : Type 0 where
   pub vertices : ℕ
   pub indices : ℕ
 
--- the caller's memory between two calls: the ten words of the state, and the two lists
-pub record Memory : Type 0 where
-  pub words : List ℕ
-  pub vertices : List ℕ
-  pub indices : List ℕ
-
 -- an answer: the designer, its number, and the two counts that drawing leaves in memory
 pub record RawAnswer : Type 0 where
   pub to : ℕ
@@ -50,10 +45,10 @@ pub record RawSameLists (m : Memory) (r : ℕ) (v i : List ℕ) : Type 0 where
 
 -- one call, given the ten words in memory: its answer, and the memory after it
 pub data RawMade : Memory → RawCall → RawAnswer → Memory → Type 0 where
-  drew : (m : Memory) (d : ℕ) (bs : List ℕ) (xs : List Float) (w′ v v′ i i′ c′ : List ℕ) (r : ℕ) → DrawCalled bs xs d (m .words) w′ v v′ i i′ c′ r
-      → RawSameLists m r v i
+  drew : (m : Memory) (d : ℕ) (bs : List ℕ) (xs : List Float) (v i : List ℕ) (after : Memory) (c′ : List ℕ) (r : ℕ)
+      → DrawCalled bs xs d (record { words = m .words; vertices = v; indices = i }) after c′ r → RawSameLists m r v i
       → RawMade m (record { by = d; request = draw bs xs; vertices = length v; indices = length i }) (record { to = d; number = r; counts = c′ })
-      (record { words = w′; vertices = unlessRefused r v′ (m .vertices); indices = unlessRefused r i′ (m .indices) })
+      (record { words = after .words; vertices = unlessRefused r (after .vertices) (m .vertices); indices = unlessRefused r (after .indices) (m .indices) })
   cleared : (m : Memory) (d v i : ℕ) (w′ : List ℕ) (r : ℕ) → ClearCalled d v i (m .words) w′ r
       → RawMade m (record { by = d; request = clear; vertices = v; indices = i }) (record { to = d; number = r; counts = [] })
       (record { words = w′; vertices = m .vertices; indices = m .indices })

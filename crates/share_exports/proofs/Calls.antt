@@ -30,6 +30,7 @@ use Rattle.share_answers.specs.Answers.{drawCode, drawVerdict}
 use Rattle.share_state.specs.Operations.{unlessRefused, startState, clearedState, DidStart, DidClear}
 use Rattle.share_draw.specs.Operations.{drawnState, DidDraw}
 use Rattle.share_words.specs.Words.{stateIn, stateWords, quotaIn, designerOf}
+use Rattle.share_words.specs.Memory.{Memory}
 use Rattle.share_exports.specs.Calls.{unknownDesigner, asked, ShareCalled, DrawAsked, DrawCalled, Started, StartCalled, clearSays, ShareCleared, ClearCalled}
 
 -- ---- refusals that the patch does not matter for
@@ -96,11 +97,12 @@ stored zero a b s w e = ap stateWords e
 stored (suc n) a b s w e = rw (ne-eqb (suc n) 0 (λ h. omega (arith, h)))
 
 -- what the operation did, answered and stored
-pub drew-known : {e : Designer} {s : State} {set : Settings} {p : Patch} {w w′ v v′ i i′ c′ : List ℕ} {r : DrawResult} {reply : Reply} {n : ℕ}
-    → DidDraw e s set p v v′ i i′ r → IsReply (drawCode (r .answer)) reply → w′ ≡ cond (eqb (reply .number) 0) (stateWords (r .state)) w
-    → (n ≡ reply .number) × (c′ ≡ reply .first ∷ reply .second ∷ [])
-    → ShareCalled (drawVerdict e s set p (length v) (length i)) e s set p w w′ v v′ i i′ c′ n
-drew-known {e} {s} {set} {p} {w} {r = r} {reply = reply} h is k said =
+pub drew-known : {e : Designer} {s : State} {set : Settings} {p : Patch} {before after : Memory} {c′ : List ℕ} {r : DrawResult} {reply : Reply} {n : ℕ}
+    → DidDraw e s set p (before .vertices) (after .vertices) (before .indices) (after .indices) r → IsReply (drawCode (r .answer)) reply
+    → after .words ≡ cond (eqb (reply .number) 0) (stateWords (r .state)) (before .words) → (n ≡ reply .number) × (c′ ≡ reply .first ∷ reply .second ∷ [])
+    → ShareCalled (drawVerdict e s set p (length (before .vertices)) (length (before .indices))) e s set p before after c′ n
+drew-known {e} {s} {set} {p} {before} {r = r} {reply = reply} h is k said =
+    let w = before .words in
     let told = said-two is said in
     record {
       says = says-as (sym (h .answer)) told;
@@ -110,32 +112,34 @@ drew-known {e} {s} {set} {p} {w} {r = r} {reply = reply} h is k said =
     }
 
 -- the same for equal designers, states, settings and patches
-called-as : (bs : List ℕ) (d : ℕ) {e e′ : Designer} {s s′ : State} {set set′ : Settings} {p p′ : Patch} {w w′ v v′ i i′ c′ : List ℕ} {r : ℕ}
-    → e ≡ e′ → s ≡ s′ → set ≡ set′ → p ≡ p′ → DrawAsked bs d e s set p w w′ v v′ i i′ c′ r → DrawAsked bs d e′ s′ set′ p′ w w′ v v′ i i′ c′ r
+called-as : (bs : List ℕ) (d : ℕ) {e e′ : Designer} {s s′ : State} {set set′ : Settings} {p p′ : Patch} {before after : Memory} {c′ : List ℕ} {r : ℕ}
+    → e ≡ e′ → s ≡ s′ → set ≡ set′ → p ≡ p′ → DrawAsked bs d e s set p before after c′ r → DrawAsked bs d e′ s′ set′ p′ before after c′ r
 called-as bs d a b c f h = rw (← a, ← b, ← c, ← f) h
 
-module _ (bs : List ℕ) (xs : List Float) (d : ℕ) (w v i : List ℕ) {s : State} (state : s ≡ stateIn w) {reply : Reply}
-    (is : IsReply (asked bs d (accepted (length v) (length i) s) done) reply) {c′ : List ℕ} {r : ℕ} where
+-- whether the state is accepted with the lists in memory
+abbrev acceptedIn : Memory → State → Bool
+acceptedIn m s = accepted (length (m .vertices)) (length (m .indices)) s
+
+module _ (bs : List ℕ) (xs : List Float) (d : ℕ) (m : Memory) {s : State} (state : s ≡ stateIn (m .words)) {reply : Reply}
+    (is : IsReply (asked bs d (acceptedIn m s) done) reply) {c′ : List ℕ} {r : ℕ} where
   -- a refusal leaves everything as it was
-  pub draw-refused : 0 < reply .number → (r ≡ reply .number) × (c′ ≡ reply .first ∷ reply .second ∷ []) → DrawCalled bs xs d w w v v i i c′ r
-  draw-refused h said = called-as bs d refl state refl refl (go (asked bs d (accepted (length v) (length i) s) done .number) refl)
+  pub draw-refused : 0 < reply .number → (r ≡ reply .number) × (c′ ≡ reply .first ∷ reply .second ∷ []) → DrawCalled bs xs d m m c′ r
+  draw-refused h said = called-as bs d refl state refl refl (go (asked bs d (acceptedIn m s) done .number) refl)
     where
-      go : (n : ℕ) → asked bs d (accepted (length v) (length i) s) done .number ≡ n
-          → DrawAsked bs d (designerOf d) s (settingsIn bs) (patchIn bs xs) w w v v i i c′ r
+      go : (n : ℕ) → asked bs d (acceptedIn m s) done .number ≡ n → DrawAsked bs d (designerOf d) s (settingsIn bs) (patchIn bs xs) m m c′ r
       go zero e = let z : reply .number ≡ 0 = is .number ∙ e in absurd (omega arith)
       go (suc n) e =
           let told = said-two is said in
           let z : r ≡ suc n = told .number ∙ e in
-          record { says = says-as (asked-some bs d (accepted (length v) (length i) s) _ n e) told; state = rw z; vertices = rw z; indices = rw z }
+          record { says = says-as (asked-some bs d (acceptedIn m s) _ n e) told; state = rw z; vertices = rw z; indices = rw z }
 
   -- a designer and settings that are known
-  pub draw-known : reply .number ≤ 0 → {e : Designer} {set : Settings} {p : Patch} → e ≡ designerOf d → set ≡ settingsIn bs → p ≡ patchIn bs xs → {w′ v′ i′ : List ℕ}
-      → ShareCalled (drawVerdict e s set p (length v) (length i)) e s set p w w′ v v′ i i′ c′ r → DrawCalled bs xs d w w′ v v′ i i′ c′ r
+  pub draw-known : reply .number ≤ 0 → {e : Designer} {set : Settings} {p : Patch} → e ≡ designerOf d → set ≡ settingsIn bs → p ≡ patchIn bs xs → {after : Memory}
+      → ShareCalled (drawVerdict e s set p (length (m .vertices)) (length (m .indices))) e s set p m after c′ r → DrawCalled bs xs d m after c′ r
   draw-known low ed es ep h =
-      let ok = accepted (length v) (length i) s in
-      let none : asked bs d ok done .number ≡ 0 = omega (arith, is .number) in
+      let none : asked bs d (acceptedIn m s) done .number ≡ 0 = omega (arith, is .number) in
       called-as bs d ed state es ep
-      (record { says = says-as (asked-none bs d ok _ none) (h .says); state = h .state; vertices = h .vertices; indices = h .indices })
+      (record { says = says-as (asked-none bs d (acceptedIn m s) _ none) (h .says); state = h .state; vertices = h .vertices; indices = h .indices })
 
 -- ---- starting
 started-as : {v i : ℕ} {a a′ b b′ : Quota} {w w′ : List ℕ} {r : ℕ} → a ≡ a′ → b ≡ b′ → Started v i a b w w′ r → Started v i a′ b′ w w′ r

@@ -28,6 +28,7 @@ use Rattle.share_state.specs.Answers.{quotasFit, accepted}
 use Rattle.share_answers.specs.declared.answer.DrawAnswer.the-variants as drawing
 use Rattle.share_answers.specs.Answers.{roomVerdict, partVerdict, shareVerdict, pointsHeld}
 use Rattle.share_words.specs.Words.{stateIn, quotaIn, designerOf}
+use Rattle.share_words.specs.Memory.{Memory}
 use Rattle.share_exports.specs.Calls.{unknownDesigner, asked, DrawCalled, StartCalled, clearSays, ClearCalled}
 use Rattle.share_exports.specs.Exactly.{Fit, StartExactly, ClearExactly, ShareAnswer, no-designer, unknown, found, shareCode, ShareMeans, DrawExactly}
 
@@ -185,12 +186,12 @@ same-answer (found drawing.BadTop) = refl
 same-answer (found drawing.TooManyPoints) = refl
 same-answer (found drawing.BadState) = refl
 
-pub draw-call-exactly : (bs : List ℕ) (xs : List Float) (d : ℕ) (w : List ℕ) {w′ v v′ i i′ c′ : List ℕ} {r : ℕ} → DrawCalled bs xs d w w′ v v′ i i′ c′ r
-    → DrawExactly bs xs d w (length v) (length i) c′ r
-draw-call-exactly bs xs d w {v = v} {i = i} {c′ = c′} {r = r} h =
+pub draw-call-exactly : (bs : List ℕ) (xs : List Float) (d : ℕ) (before : Memory) {after : Memory} {c′ : List ℕ} {r : ℕ} → DrawCalled bs xs d before after c′ r
+    → DrawExactly bs xs d before c′ r
+draw-call-exactly bs xs d before {c′ = c′} {r = r} h =
     let p = patchIn bs xs in
-    let s = stateIn w in
-    let ok = accepted (length v) (length i) s in
+    let s = stateIn (before .words) in
+    let ok = accepted (length (before .vertices)) (length (before .indices)) s in
     let n = pointsHeld (designerOf d) s in
     let x = left (designerOf d) (s .vertices) in
     let y = left (designerOf d) (s .indices) in

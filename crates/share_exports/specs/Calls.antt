@@ -1,5 +1,5 @@
--- What a call answers and leaves, for every input: bs are the setting bytes, xs the levels, w and w′ the words of the state at entry and at
--- exit, v and v′ the vertex list, i and i′ the index list, and c′ the counts at exit. Assumes nothing.
+-- What a call answers and leaves, for every input: bs are the setting bytes, xs the levels, `before` and `after` the memory at entry and at
+-- exit, w and w′ the words of the state, and c′ the counts at exit. Assumes nothing.
 use Prim.Native.Nat.{ℕ}
 use mathlib.Core.Path.{_≡_}
 use mathlib.Core.Bool.{Bool, cond}
@@ -24,6 +24,7 @@ use Rattle.share_answers.specs.Answers.{drawVerdict}
 use Rattle.share_state.specs.Operations.{unlessRefused, startState, clearedState}
 use Rattle.share_draw.specs.Operations.{newIndices, drawnState}
 use Rattle.share_words.specs.Words.{stateIn, stateWords, quotaIn, designerOf}
+use Rattle.share_words.specs.Memory.{Memory}
 
 -- answer 15: the designer is neither 0 nor 1
 abbrev pub unknownDesigner : AnswerCode
@@ -37,23 +38,24 @@ asked bs d ok t =
     badTop
 
 -- the contract of a drawing call with the answer t, for a designer, a state, settings and a patch
-pub record ShareCalled (t : AnswerCode) (e : Designer) (s : State) (set : Settings) (p : Patch) (w w′ v v′ i i′ c′ : List ℕ) (r : ℕ) : Type 0 where
+pub record ShareCalled (t : AnswerCode) (e : Designer) (s : State) (set : Settings) (p : Patch) (before after : Memory) (c′ : List ℕ) (r : ℕ) : Type 0 where
   pub says : Says twoWords t c′ r
   -- if drawn, the state and both lists are those of the operation; otherwise all are unchanged
-  pub state : w′ ≡ unlessRefused r (stateWords (drawnState e s set p)) w
-  pub vertices : v′ ≡ unlessRefused r (appended e (pointWords set p) (s .vertices) v) v
-  pub indices : i′ ≡ unlessRefused r (appended e (newIndices e s set p) (s .indices) i) i
+  pub state : after .words ≡ unlessRefused r (stateWords (drawnState e s set p)) (before .words)
+  pub vertices : after .vertices ≡ unlessRefused r (appended e (pointWords set p) (s .vertices) (before .vertices)) (before .vertices)
+  pub indices : after .indices ≡ unlessRefused r (appended e (newIndices e s set p) (s .indices) (before .indices)) (before .indices)
 
 -- the answer to drawing, for the setting bytes bs and the designer's number d
 abbrev pub drawSays : List ℕ → ℕ → Designer → State → Settings → Patch → ℕ → ℕ → AnswerCode
 drawSays bs d e s set p v i = asked bs d (accepted v i s) (drawVerdict e s set p v i)
 
-abbrev pub DrawAsked : List ℕ → ℕ → Designer → State → Settings → Patch → List ℕ → List ℕ → List ℕ → List ℕ → List ℕ → List ℕ → List ℕ → ℕ → Type 0
-DrawAsked bs d e s set p w w′ v v′ i i′ c′ r = ShareCalled (drawSays bs d e s set p (length v) (length i)) e s set p w w′ v v′ i i′ c′ r
+abbrev pub DrawAsked : List ℕ → ℕ → Designer → State → Settings → Patch → Memory → Memory → List ℕ → ℕ → Type 0
+DrawAsked bs d e s set p before after c′ r =
+    ShareCalled (drawSays bs d e s set p (length (before .vertices)) (length (before .indices))) e s set p before after c′ r
 
 -- the contract of drawing
-abbrev pub DrawCalled : List ℕ → List Float → ℕ → List ℕ → List ℕ → List ℕ → List ℕ → List ℕ → List ℕ → List ℕ → ℕ → Type 0
-DrawCalled bs xs d w w′ v v′ i i′ c′ r = DrawAsked bs d (designerOf d) (stateIn w) (settingsIn bs) (patchIn bs xs) w w′ v v′ i i′ c′ r
+abbrev pub DrawCalled : List ℕ → List Float → ℕ → Memory → Memory → List ℕ → ℕ → Type 0
+DrawCalled bs xs d before after c′ r = DrawAsked bs d (designerOf d) (stateIn (before .words)) (settingsIn bs) (patchIn bs xs) before after c′ r
 
 -- a start on lists of v and i words, with the quotas a and b
 pub record Started (v i : ℕ) (a b : Quota) (w w′ : List ℕ) (r : ℕ) : Type 0 where

@@ -5,6 +5,7 @@ use mathlib.Core.Bool.{Bool, true, false}
 use mathlib.Core.List.{List}
 use mathlib.Core.Logic.{_↔_}
 use lib.Ieee.{Float}
+use lib.ListN.{length}
 use Rattle.level.specs.Top.{Top}
 use Rattle.patch.specs.declared.kinds.Patch.{Patch}
 use Rattle.patch.specs.Subdivide.{discards}
@@ -21,6 +22,7 @@ use Rattle.share_answers.specs.declared.answer.DrawAnswer.{DrawAnswer}
 use Rattle.share_answers.specs.declared.answer.DrawAnswer.the-variants as drawing
 use Rattle.share_answers.specs.Answers.{drawCode, pointsHeld}
 use Rattle.share_words.specs.Words.{stateIn, quotaIn, designerOf}
+use Rattle.share_words.specs.Memory.{Memory}
 use Rattle.share_exports.specs.Calls.{unknownDesigner}
 
 -- ---- starting: the quotas a and b fit into lists of v and i words
@@ -69,10 +71,11 @@ ShareMeans bs d ok p n v i m k (found drawing.NoRoomForVertices) = ShareDrawable
 ShareMeans bs d ok p n v i m k (found drawing.NoRoomForIndices) = ShareDrawable bs d ok p × (n + m ≤ 65535) × (3 * m ≤ v) × (i < k)
 ShareMeans bs d ok p n v i m k (found (drawing.Drawn x y)) = ShareDrawable bs d ok p × (n + m ≤ 65535) × (3 * m ≤ v) × (k ≤ i) × (x ≡ m) × (y ≡ k)
 
--- each answer is given, by number and words, exactly if it is right: w are the words of the state at entry, c′ the counts at exit
-abbrev pub DrawExactly : List ℕ → List Float → ℕ → List ℕ → ℕ → ℕ → List ℕ → ℕ → Type 0
-DrawExactly bs xs d w v i c′ r =
+-- each answer is given, by number and words, exactly if it is right: `before` is the memory at entry, c′ the counts at exit
+abbrev pub DrawExactly : List ℕ → List Float → ℕ → Memory → List ℕ → ℕ → Type 0
+DrawExactly bs xs d before c′ r =
+    let s = stateIn (before .words) in
     AnsweredExactly (λ a. shareCode a .number) (λ a. twoWords (shareCode a .values))
-    (ShareMeans bs d (accepted v i (stateIn w)) (patchIn bs xs) (pointsHeld (designerOf d) (stateIn w))
-    (left (designerOf d) (stateIn w .vertices)) (left (designerOf d) (stateIn w .indices)) (pointsOf (settingsIn bs) (patchIn bs xs)) (indicesOf (settingsIn bs) (patchIn bs xs)))
+    (ShareMeans bs d (accepted (length (before .vertices)) (length (before .indices)) s) (patchIn bs xs) (pointsHeld (designerOf d) s)
+    (left (designerOf d) (s .vertices)) (left (designerOf d) (s .indices)) (pointsOf (settingsIn bs) (patchIn bs xs)) (indicesOf (settingsIn bs) (patchIn bs xs)))
     c′ r

@@ -52,8 +52,8 @@ fn draw_known(
     counts: &mut [u32; 2],
 ) -> u32
     ensures { λ r. ⌜ ShareCalled (drawVerdict designer state settings patch (length (now (vertices .entry))) (length (now (indices .entry)))) designer state
-        settings patch (now (words .entry)) (now (words .exit)) (now (vertices .entry)) (now (vertices .exit)) (now (indices .entry)) (now (indices .exit))
-        (now (counts .exit)) r ⌝ }
+        settings patch (record { words = now (words .entry); vertices = now (vertices .entry); indices = now (indices .entry) })
+        (record { words = now (words .exit); vertices = now (vertices .exit); indices = now (indices .exit) }) (now (counts .exit)) r ⌝ }
 {
     let result = share_draw::draw::draw(state, designer, patch, settings, vertices, indices);
     let answer = result.answer;
@@ -73,8 +73,9 @@ pub extern "C" fn yoktvarim_share_draw(
     indices: &mut [u16],
     counts: &mut [u32; 2],
 ) -> u32
-    ensures { λ r. ⌜ DrawCalled (now (settings .entry)) (now (levels .entry)) designer (now (state .entry)) (now (state .exit)) (now (vertices .entry))
-        (now (vertices .exit)) (now (indices .entry)) (now (indices .exit)) (now (counts .exit)) r ⌝ }
+    ensures { λ r. ⌜ DrawCalled (now (settings .entry)) (now (levels .entry)) designer
+        (record { words = now (state .entry); vertices = now (vertices .entry); indices = now (indices .entry) })
+        (record { words = now (state .exit); vertices = now (vertices .exit); indices = now (indices .exit) }) (now (counts .exit)) r ⌝ }
 {
     let shared = state_in(state);
     let why = objection(shared, designer, settings, vertices.len(), indices.len());

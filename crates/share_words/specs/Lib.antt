@@ -1,2 +1,3 @@
 -- The definitions of `share_words`.
 pub mod Words
+pub mod Memory

@@ -9,14 +9,14 @@ use Rattle.share_exports.proofs.draw.yoktvarim_share_draw.Tie as tie
 returns : tie.Need-returns
 returns c =
     let a = c .before .before .before .before .before .before .before .before .before .args in
-    draw-refused (a .settings .now) (a .levels .now) (a .designer) (a .state .now) (a .vertices .now) (a .indices .now)
+    draw-refused (a .settings .now) (a .levels .now) (a .designer) _
     (c .before .before .before .before .before .state-in .ensures) (c .before .before .before .before .objection .ensures) (c .before .before .if1 .taken)
     (c .say-two .ensures)
 
 returns-2 : tie.Need-returns-2
 returns-2 c =
     let a = c .before .before .before .before .before .before .before .before .before .before .before .before .before .before .before .before .before .before .before .before .before .before .args in
-    draw-known (a .settings .now) (a .levels .now) (a .designer) (a .state .now) (a .vertices .now) (a .indices .now)
+    draw-known (a .settings .now) (a .levels .now) (a .designer) _
     (c .before .before .before .before .before .before .before .before .before .before .before .before .before .before .before .before .before .before
     .state-in .ensures) (c .before .before .before .before .before .before .before .before .before .before .before .before .before .before .before .before
     .before .objection .ensures) (c .before .before .before .before .before .before .before .before .before .before .before .before .before .before .before
