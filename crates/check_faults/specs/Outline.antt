@@ -11,6 +11,7 @@ use Rattle.mesh_geometry.specs.Faces.{at, faceOf}
 use Rattle.check_searches.specs.First.{first, someBelow}
 use Rattle.check_searches.specs.Points.{samePoint}
 use Rattle.check_searches.specs.Triangles.{triangleAt, someSide}
+use Rattle.check_faults.specs.JudgedMesh.{JudgedMesh}
 
 -- the directed sides are equal, by coordinates
 abbrev pub sameEnds : Side → Side → Bool
@@ -25,8 +26,8 @@ abbrev pub sideBetween : List Point → ℕ → ℕ → Side
 sideBetween ps x y = record { start = at ps x; end = at ps y }
 
 -- whether the side x→y is closed: its reverse is a side, or it is a piece of the outline
-abbrev pub sideClosed : Bool → List Point → List Point → List Triangle → ℕ → ℕ → Bool
-sideClosed positive outline ps ts x y = someSide ts y x || onOutline positive outline (sideBetween ps x y)
+abbrev pub sideClosed : JudgedMesh → ℕ → ℕ → Bool
+sideClosed mesh x y = someSide (mesh .triangles) y x || onOutline (mesh .positive) (mesh .outline) (sideBetween (mesh .points) x y)
 
 -- the vertex where side e of a triangle starts; side 0 goes from the first corner to the second
 abbrev pub startCorner : Triangle → ℕ → ℕ
@@ -41,17 +42,16 @@ endOf t (suc zero) = t .c
 endOf t (suc (suc e)) = t .a
 
 -- whether side number m is closed; each triangle has three sides
-abbrev pub closes : Bool → List Point → List Point → List Triangle → ℕ → Bool
-closes positive outline ps ts m =
-    let t = triangleAt ts (m / 3) in sideClosed positive outline ps ts (startCorner t (m % 3)) (endOf t (m % 3))
+abbrev pub closes : JudgedMesh → ℕ → Bool
+closes mesh m = let t = triangleAt (mesh .triangles) (m / 3) in sideClosed mesh (startCorner t (m % 3)) (endOf t (m % 3))
 
 -- the first side that is not closed
-unfoldable pub firstOpen : Bool → List Point → List Point → List Triangle → ℕ
-firstOpen positive outline ps ts = first (λ m. not (closes positive outline ps ts m)) (length ts * 3)
+unfoldable pub firstOpen : JudgedMesh → ℕ
+firstOpen mesh = first (λ m. not (closes mesh m)) (length (mesh .triangles) * 3)
 
 -- the first n sides are closed
-pub record ClosedTo (positive : Bool) (outline ps : List Point) (ts : List Triangle) (n : ℕ) : Type 0 where
-  pub each : (m : ℕ) → m < n → closes positive outline ps ts m ≡ true
+pub record ClosedTo (mesh : JudgedMesh) (n : ℕ) : Type 0 where
+  pub each : (m : ℕ) → m < n → closes mesh m ≡ true
 
 -- whether the directed side is one of the triangle's, by coordinates
 abbrev pub bounds : Face → Side → Bool
@@ -62,10 +62,14 @@ bounds f s =
 abbrev pub isDrawn : List Point → List Triangle → Side → Bool
 isDrawn ps ts s = someBelow (λ i. bounds (faceOf (at ps) (triangleAt ts i)) s) (length ts)
 
+-- whether piece k of the outline is a side
+abbrev pub pieceDrawn : JudgedMesh → ℕ → Bool
+pieceDrawn mesh k = isDrawn (mesh .points) (mesh .triangles) (piece (mesh .positive) (mesh .outline) k)
+
 -- the first piece of the outline that is not a side
-unfoldable pub firstMissing : Bool → List Point → List Point → List Triangle → ℕ
-firstMissing positive outline ps ts = first (λ k. not (isDrawn ps ts (piece positive outline k))) (length outline)
+unfoldable pub firstMissing : JudgedMesh → ℕ
+firstMissing mesh = first (λ k. not (pieceDrawn mesh k)) (length (mesh .outline))
 
 -- the first n pieces are sides
-pub record DrawnTo (positive : Bool) (outline ps : List Point) (ts : List Triangle) (n : ℕ) : Type 0 where
-  pub each : (k : ℕ) → k < n → isDrawn ps ts (piece positive outline k) ≡ true
+pub record DrawnTo (mesh : JudgedMesh) (n : ℕ) : Type 0 where
+  pub each : (k : ℕ) → k < n → pieceDrawn mesh k ≡ true

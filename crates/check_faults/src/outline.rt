@@ -9,6 +9,7 @@ ghost use Rattle.mesh_geometry.specs.Words.{readPoints, readTriangles};
 ghost use Rattle.check_searches.specs.Points.{samePoint};
 ghost use Rattle.check_searches.specs.Indices.{AllNumbered};
 ghost use Rattle.check_faults.specs.Turns.{Numbered};
+ghost use Rattle.check_faults.specs.JudgedMesh.{judged};
 ghost use Rattle.check_faults.specs.Outline.{sameEnds, onOutline, bounds, isDrawn, DrawnTo, firstMissing};
 use check_searches::point::point_at;
 use check_searches::point::same_point;
@@ -122,8 +123,8 @@ pub fn first_missing(
     from: usize,
 ) -> usize
     requires { ⌜ AllNumbered (length (readPoints (now points))) (now indices) ⌝ ∗ ⌜ from ≤ length (now outline) / 3 ⌝ ∗
-        ⌜ DrawnTo positive (readPoints (now outline)) (readPoints (now points)) (readTriangles (now indices)) from ⌝ }
-    ensures { λ r. ⌜ r ≡ firstMissing positive (readPoints (now (outline .entry))) (readPoints (now (points .entry))) (readTriangles (now (indices .entry))) ⌝ }
+        ⌜ DrawnTo (judged positive (readPoints (now outline)) (now points) (now indices)) from ⌝ }
+    ensures { λ r. ⌜ r ≡ firstMissing (judged positive (readPoints (now (outline .entry))) (now (points .entry)) (now (indices .entry))) ⌝ }
 {
     let count = outline.len() / 3;
     let mut k = from;

@@ -2,8 +2,9 @@
 ghost use mathlib.Core.Path.{_≡_};
 ghost use Prim.Native.Nat.{_*_, _/_, _≤_, _<_};
 ghost use lib.ListN.{length};
-ghost use Rattle.mesh_geometry.specs.Words.{readPoints, readTriangles};
+ghost use Rattle.mesh_geometry.specs.Words.{readPoints};
 ghost use Rattle.check_searches.specs.Indices.{AllNumbered};
+ghost use Rattle.check_faults.specs.JudgedMesh.{judged};
 ghost use Rattle.check_faults.specs.Outline.{startCorner, endOf, sideClosed, closes, ClosedTo, firstOpen};
 use check_searches::point::point_at;
 use check_searches::triangle::triangle_at;
@@ -43,7 +44,7 @@ fn is_joined(
     y: u16,
 ) -> bool
     requires { ⌜ near ≤ length (now indices) / 3 ⌝ ∗ ⌜ x < length (readPoints (now points)) ⌝ ∗ ⌜ y < length (readPoints (now points)) ⌝ }
-    ensures { λ r. ⌜ r ≡ sideClosed positive (readPoints (now (outline .entry))) (readPoints (now (points .entry))) (readTriangles (now (indices .entry))) x y ⌝ }
+    ensures { λ r. ⌜ r ≡ sideClosed (judged positive (readPoints (now (outline .entry))) (now (points .entry)) (now (indices .entry))) x y ⌝ }
 {
     if has_side_near(indices, near, y, x) {
         return true;
@@ -59,7 +60,7 @@ fn is_joined(
 // The same for side m; each triangle has three sides.
 fn is_closed(outline: &[u32], points: &[u32], indices: &[u16], positive: bool, m: usize) -> bool
     requires { ⌜ m < length (now indices) / 3 * 3 ⌝ ∗ ⌜ AllNumbered (length (readPoints (now points))) (now indices) ⌝ }
-    ensures { λ r. ⌜ r ≡ closes positive (readPoints (now (outline .entry))) (readPoints (now (points .entry))) (readTriangles (now (indices .entry))) m ⌝ }
+    ensures { λ r. ⌜ r ≡ closes (judged positive (readPoints (now (outline .entry))) (now (points .entry)) (now (indices .entry))) m ⌝ }
 {
     let k = m / 3;
     let t = triangle_at(indices, k);
@@ -77,8 +78,8 @@ pub fn first_open(
     from: usize,
 ) -> usize
     requires { ⌜ AllNumbered (length (readPoints (now points))) (now indices) ⌝ ∗ ⌜ from ≤ length (now indices) / 3 * 3 ⌝ ∗
-        ⌜ ClosedTo positive (readPoints (now outline)) (readPoints (now points)) (readTriangles (now indices)) from ⌝ }
-    ensures { λ r. ⌜ r ≡ firstOpen positive (readPoints (now (outline .entry))) (readPoints (now (points .entry))) (readTriangles (now (indices .entry))) ⌝ }
+        ⌜ ClosedTo (judged positive (readPoints (now outline)) (now points) (now indices)) from ⌝ }
+    ensures { λ r. ⌜ r ≡ firstOpen (judged positive (readPoints (now (outline .entry))) (now (points .entry)) (now (indices .entry))) ⌝ }
 {
     let count = indices.len() / 3 * 3;
     let mut m = from;

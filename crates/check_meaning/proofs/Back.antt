@@ -23,6 +23,7 @@ use Rattle.check_faults.specs.Turns.{firstTurned}
 use Rattle.check_faults.specs.Outline.{firstOpen, firstMissing}
 use Rattle.check_verdict.specs.Faults.{orElse, openSide, sideTwice, equalPoints, outlineFault, sideFault, pointFault, meshFault}
 use Rattle.check_soundness.specs.Sound.{SoundWords}
+use Rattle.check_meaning.specs.Answers.{judgedFor}
 use Rattle.check_meaning.specs.Checks.{isTriangles}
 use Rattle.check_meaning.specs.Firsts.{FirstNot, FirstPair}
 use Rattle.check_meaning.specs.Means.{
@@ -69,34 +70,34 @@ module _ (set : Settings) (p : Patch) (pw iw : List ℕ) where
 
   -- the answer, as far as the stages before are passed
   to-index : PassedThrees set p pw iw → mesh ≡ orElse (firstUnknownIndex iw (length ps)) (length iw) (said.UnknownIndex (firstUnknownIndex iw (length ps)))
-      (pointFault (isTriangles p) (turnAsked set) (outlineOf set p) ps ts)
+      (pointFault (isTriangles p) (judgedFor set p pw iw))
   unfolding meshFault
   to-index c = rw (eq-eqb (length pw % 3) 0 (c .1 .0), eq-eqb (length iw % 3) 0 (c .1 .1))
 
-  to-points : PassedNumbered set p pw iw → mesh ≡ pointFault (isTriangles p) (turnAsked set) (outlineOf set p) ps ts
+  to-points : PassedNumbered set p pw iw → mesh ≡ pointFault (isTriangles p) (judgedFor set p pw iw)
   unfolding firstUnknownIndex
   to-points c = to-index (c .0) ∙ pass _ _ _ _ (all-none (numbered-decides ps iw) (c .1))
 
-  to-equal : PassedInside set p pw iw → mesh ≡ orElse (firstRepeated ps) (length ps) (equalPoints ps (firstRepeated ps)) (sideFault (turnAsked set) (outlineOf set p) ps ts)
+  to-equal : PassedInside set p pw iw → mesh ≡ orElse (firstRepeated ps) (length ps) (equalPoints ps (firstRepeated ps)) (sideFault (judgedFor set p pw iw))
   unfolding pointFault firstOutside
   to-equal c = to-points (c .0) ∙ pass _ _ _ _ (all-none (inside-decides p ps) (c .1))
 
-  to-sides : PassedDistinct set p pw iw → mesh ≡ sideFault (turnAsked set) (outlineOf set p) ps ts
+  to-sides : PassedDistinct set p pw iw → mesh ≡ sideFault (judgedFor set p pw iw)
   unfolding firstRepeated
   to-sides c = to-equal (c .0) ∙ pass _ _ _ _ (none-pair (λ i j. samePoint (at ps i) (at ps j)) (equal-decides ps) (c .1))
 
-  to-reused : PassedTurned set p pw iw → mesh ≡ orElse (firstReused ts) (length ts) (sideTwice ts (firstReused ts)) (outlineFault (turnAsked set) (outlineOf set p) ps ts)
+  to-reused : PassedTurned set p pw iw → mesh ≡ orElse (firstReused ts) (length ts) (sideTwice ts (firstReused ts)) (outlineFault (judgedFor set p pw iw))
   unfolding sideFault firstTurned
   to-reused c = to-sides (c .0) ∙ pass _ _ _ _ (all-none (turn-decides set p ps iw) (c .1))
 
-  to-outline : PassedSingle set p pw iw → mesh ≡ outlineFault (turnAsked set) (outlineOf set p) ps ts
+  to-outline : PassedSingle set p pw iw → mesh ≡ outlineFault (judgedFor set p pw iw)
   unfolding firstReused
   to-outline c =
       to-reused (c .0)
       ∙ pass _ _ _ _ (none-pair (λ i j. shareSide (triangleAt ts i) (triangleAt ts j)) (share-decides set p ps iw (distinct-of ps (c .0 .0 .1)) (numbers-of ps iw (c .0 .0 .0 .0 .1))) (c .1))
 
-  to-missing : PassedClosed set p pw iw → mesh ≡ orElse (firstMissing (turnAsked set) (outlineOf set p) ps ts) (length (outlineOf set p))
-      (said.MissingPiece (firstMissing (turnAsked set) (outlineOf set p) ps ts)) said.Accepted
+  to-missing : PassedClosed set p pw iw → mesh ≡ orElse (firstMissing (judgedFor set p pw iw)) (length (outlineOf set p))
+      (said.MissingPiece (firstMissing (judgedFor set p pw iw))) said.Accepted
   unfolding outlineFault firstOpen
   to-missing c =
       to-outline (c .0)

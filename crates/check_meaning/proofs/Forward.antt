@@ -23,6 +23,7 @@ use Rattle.check_faults.specs.Inside.{firstOutside}
 use Rattle.check_faults.specs.Turns.{firstTurned}
 use Rattle.check_faults.specs.Outline.{firstOpen, firstMissing}
 use Rattle.check_verdict.specs.Faults.{orElse, outlineFault, sideFault, pointFault, meshFault}
+use Rattle.check_meaning.specs.Answers.{judgedFor}
 use Rattle.check_meaning.specs.Checks.{isTriangles}
 use Rattle.check_meaning.specs.Means.{Kept, PassedThrees, PassedNumbered, PassedInside, PassedDistinct, PassedTurned, PassedSingle, PassedClosed, Means}
 use Rattle.patch.specs.Turn.{turnAsked}
@@ -50,20 +51,20 @@ module _ (set : Settings) (p : Patch) (pw iw : List ℕ) where
   abbrev M : Verdict → Type 0
   M v = Means set p pw iw v
 
-  outline-means : PassedSingle set p pw iw → M (outlineFault (turnAsked set) (outlineOf set p) ps ts)
+  outline-means : PassedSingle set p pw iw → M (outlineFault (judgedFor set p pw iw))
   unfolding outlineFault firstOpen firstMissing
   outline-means s =
       let h = closed-decides set p ps iw (distinct-of ps (s .0 .0 .1)) (numbers-of ps iw (s .0 .0 .0 .0 .1)) in
       let g = drawn-decides set p ps iw in
-      let m = firstOpen (turnAsked set) (outlineOf set p) ps ts in
+      let m = firstOpen (judgedFor set p pw iw) in
       stage M _ _ _ _
       (λ l. let e : m / 3 * 3 + m % 3 ≡ m = omega arith in (s, omega arith, rw e (decides-first h l)))
       (λ l. let c : PassedClosed set p pw iw = (s, decides-all h l) in
-      stage M (firstMissing (turnAsked set) (outlineOf set p) ps ts) (length (outlineOf set p))
-      (said.MissingPiece (firstMissing (turnAsked set) (outlineOf set p) ps ts)) said.Accepted (λ k. (c, decides-first g k))
+      stage M (firstMissing (judgedFor set p pw iw)) (length (outlineOf set p))
+      (said.MissingPiece (firstMissing (judgedFor set p pw iw))) said.Accepted (λ k. (c, decides-first g k))
       (λ k. inr (s .0 .0 .0 .0 .0 .0, passed-sound set p pw iw c (decides-all g k))))
 
-  side-means : PassedDistinct set p pw iw → M (sideFault (turnAsked set) (outlineOf set p) ps ts)
+  side-means : PassedDistinct set p pw iw → M (sideFault (judgedFor set p pw iw))
   unfolding sideFault firstTurned firstReused
   side-means d =
       let h = turn-decides set p ps iw in
@@ -73,7 +74,7 @@ module _ (set : Settings) (p : Patch) (pw iw : List ℕ) where
       stage M _ _ _ _ (λ k. (t, pair-first (λ i j. shareSide (triangleAt ts i) (triangleAt ts j)) g k))
       (λ k. outline-means (t, pair-none (λ i j. shareSide (triangleAt ts i) (triangleAt ts j)) g k)))
 
-  point-means : PassedNumbered set p pw iw → M (pointFault (isTriangles p) (turnAsked set) (outlineOf set p) ps ts)
+  point-means : PassedNumbered set p pw iw → M (pointFault (isTriangles p) (judgedFor set p pw iw))
   unfolding pointFault firstOutside firstRepeated
   point-means d =
       let h = inside-decides p ps in
@@ -89,7 +90,7 @@ module _ (set : Settings) (p : Patch) (pw iw : List ℕ) where
     where
       go : (x y : Bool) → eqb (length pw % 3) 0 ≡ x → eqb (length iw % 3) 0 ≡ y
           → M (cond (x && y) (orElse (firstUnknownIndex iw (length ps)) (length iw) (said.UnknownIndex (firstUnknownIndex iw (length ps)))
-          (pointFault (isTriangles p) (turnAsked set) (outlineOf set p) ps ts)) said.NotThrees)
+          (pointFault (isTriangles p) (judgedFor set p pw iw))) said.NotThrees)
       go true true e f =
           let t : PassedThrees set p pw iw = (d, (eqb-true (length pw % 3) 0 e, eqb-true (length iw % 3) 0 f)) in
           let h = numbered-decides ps iw in

@@ -9,12 +9,11 @@ use Rattle.level.specs.Top.{isTop}
 use Rattle.patch.specs.declared.kinds.Patch.{Patch}
 use Rattle.patch.specs.declared.settings.Settings.{Settings}
 use Rattle.patch.specs.Subdivide.{discards}
-use Rattle.strip.specs.declared.triangle.Triangle.{Triangle}
-use Rattle.mesh_geometry.specs.declared.Point.{Point}
 use Rattle.mesh_geometry.specs.Words.{readPoints}
 use Rattle.check_searches.specs.Indices.{firstUnknownIndex}
 use Rattle.check_searches.specs.Points.{firstRepeated}
 use Rattle.check_searches.specs.Triangles.{firstReused}
+use Rattle.check_faults.specs.JudgedMesh.{JudgedMesh}
 use Rattle.check_faults.specs.Inside.{firstOutside}
 use Rattle.check_faults.specs.Turns.{firstTurned}
 use Rattle.check_faults.specs.Outline.{firstOpen, firstMissing}
@@ -91,21 +90,23 @@ unless : (b : Bool) (v : Verdict) {rest : Verdict} {t : AnswerCode} → Has rest
 unless true v h = h
 unless false v h = record { told = refl }
 
-fault-has : (triangles positive : Bool) (rim ps : List Point) (ts : List Triangle) → Has (pointFault triangles positive rim ps ts) (faultVerdict triangles positive rim ps ts)
+fault-has : (triangles : Bool) (mesh : JudgedMesh) → Has (pointFault triangles mesh) (faultVerdict triangles mesh)
 unfolding pointFault sideFault outlineFault faultVerdict
-fault-has triangles positive rim ps ts =
+fault-has triangles mesh =
+    let ps = mesh .points in
+    let ts = mesh .triangles in
     found (length ps) (firstOutside triangles ps) Outside
     (found (length ps) (firstRepeated ps) (equalPoints ps)
-    (found (length ts) (firstTurned positive ps ts) Turned
+    (found (length ts) (firstTurned (mesh .positive) ps ts) Turned
     (found (length ts) (firstReused ts) (sideTwice ts)
-    (found (length ts * 3) (firstOpen positive rim ps ts) openSide (found (length rim) (firstMissing positive rim ps ts) MissingPiece (record { told = refl }))))))
+    (found (length ts * 3) (firstOpen mesh) openSide (found (length (mesh .outline)) (firstMissing mesh) MissingPiece (record { told = refl }))))))
 
 module _ (set : Settings) (p : Patch) (pw iw : List ℕ) where
   mesh-has : Has (patchFault set p pw iw) (meshVerdict set p pw iw)
   unfolding patchFault meshFault meshVerdict
   mesh-has =
       unless (eqb (length pw % 3) 0 && eqb (length iw % 3) 0) NotThrees
-      (found (length iw) (firstUnknownIndex iw (length (readPoints pw))) UnknownIndex (fault-has _ _ _ _ _))
+      (found (length iw) (firstUnknownIndex iw (length (readPoints pw))) UnknownIndex (fault-has _ _))
 
   verdict-has : Has (verdict set p pw iw) (checkVerdict set p pw iw)
   unfolding verdict checkVerdict

@@ -19,8 +19,9 @@ use Rattle.check_soundness.specs.Sound.{sidesIn}
 use Rattle.check_searches.specs.Points.{samePoint}
 use Rattle.check_searches.specs.Triangles.{triangleAt, hasSide, shareSide, someSide}
 use Rattle.check_searches.proofs.First.{some-here, some-which}
+use Rattle.check_faults.specs.JudgedMesh.{JudgedMesh}
 use Rattle.check_faults.specs.Turns.{hasSign, Numbered, turnsWrong}
-use Rattle.check_faults.specs.Outline.{sameEnds, onOutline, sideBetween, sideClosed, startCorner, endOf, closes, bounds, isDrawn}
+use Rattle.check_faults.specs.Outline.{sameEnds, onOutline, sideBetween, startCorner, endOf, closes, bounds, pieceDrawn}
 use Rattle.check_faults.proofs.Turns.{sign-holds, sign-tests}
 use Rattle.check_faults.proofs.Corners.{start-known, end-known}
 use Rattle.check_meaning.specs.Means.{TurnsAt, SharedAt, ClosedAt, DrawnAt}
@@ -55,6 +56,9 @@ either false y h = inr h
 module _ (set : Settings) (p : Patch) (ps : List Point) (iw : List ℕ) where
   abbrev ts : List Triangle
   ts = readTriangles iw
+
+  abbrev mesh : JudgedMesh
+  mesh = record { positive = turnAsked set; outline = outlineOf set p; points = ps; triangles = ts }
 
   pub turn-decides : Decides (λ k. turnsWrong (turnAsked set) ps (triangleAt ts k)) (TurnsAt set ps iw) (length ts)
   turn-decides = record {
@@ -125,16 +129,16 @@ module _ (set : Settings) (p : Patch) (ps : List Point) (iw : List ℕ) where
           let w = some-which (λ k. sameEnds (piece (turnAsked set) (outlineOf set p) k) (sideBetween ps x y)) (length (outlineOf set p)) h in
           inl (w .0, w .1, own ∙ sym (ends-is (piece (turnAsked set) (outlineOf set p) (w .0)) (sideBetween ps x y) (w .2)))
 
-      pub closes-closed : closes (turnAsked set) (outlineOf set p) ps ts m ≡ true → ClosedAt set p ps iw m
+      pub closes-closed : closes mesh m ≡ true → ClosedAt set p ps iw m
       closes-closed h = ⊎-elim met edge (either (someSide ts y x) (onOutline (turnAsked set) (outlineOf set p) (sideBetween ps x y)) h)
 
-      as-piece : (k : ℕ) × (k < length (outlineOf set p)) × (side (sidesIn ps iw) m ≡ piece (turnAsked set) (outlineOf set p) k) → closes (turnAsked set) (outlineOf set p) ps ts m ≡ true
+      as-piece : (k : ℕ) × (k < length (outlineOf set p)) × (side (sidesIn ps iw) m ≡ piece (turnAsked set) (outlineOf set p) k) → closes mesh m ≡ true
       as-piece w = rw (
         some-here (λ k. sameEnds (piece (turnAsked set) (outlineOf set p) k) (sideBetween ps x y)) (length (outlineOf set p)) (w .0) (w .1) (ends-same _ (sideBetween ps x y) (sym (w .2) ∙ own)),
         or-true,
       )
 
-      as-reverse : Occurs (reversed (side (sidesIn ps iw) m)) (sidesIn ps iw) → closes (turnAsked set) (outlineOf set p) ps ts m ≡ true
+      as-reverse : Occurs (reversed (side (sidesIn ps iw) m)) (sidesIn ps iw) → closes mesh m ≡ true
       as-reverse w =
           let i = w .0 / 3 in
           let c : w .0 < length ts * 3 = omega (arith, drawn-count ps ts, w .1) in
@@ -147,22 +151,22 @@ module _ (set : Settings) (p : Patch) (ps : List Point) (iw : List ℕ) where
           (sym (apart _ _ (start-known _ _ (w .0 % 3) (num i b)) (end-known _ t (m % 3) n) (ap (λ s. s .start) e)))
           (sym (apart _ _ (end-known _ _ (w .0 % 3) (num i b)) (start-known _ t (m % 3) n) (ap (λ s. s .end) e)))))
 
-    pub closed-decides : Decides (λ m. not (closes (turnAsked set) (outlineOf set p) ps ts m)) (ClosedAt set p ps iw) (length ts * 3)
+    pub closed-decides : Decides (λ m. not (closes mesh m)) (ClosedAt set p ps iw) (length ts * 3)
     closed-decides = record {
-      good = λ m l e. closes-closed m l (not-false (closes (turnAsked set) (outlineOf set p) ps ts m) e);
+      good = λ m l e. closes-closed m l (not-false (closes mesh m) e);
       bad = λ m l e h. clash e (⊎-elim (as-piece m l) (as-reverse m l) h);
     }
 
-  pub drawn-decides : Decides (λ k. not (isDrawn ps ts (piece (turnAsked set) (outlineOf set p) k))) (DrawnAt set p ps iw) (length (outlineOf set p))
+  pub drawn-decides : Decides (λ k. not (pieceDrawn mesh k)) (DrawnAt set p ps iw) (length (outlineOf set p))
   drawn-decides = record { good = good; bad = λ k l e h. clash e (bad k h) }
     where
-      good : (k : ℕ) → k < length (outlineOf set p) → not (isDrawn ps ts (piece (turnAsked set) (outlineOf set p) k)) ≡ false → DrawnAt set p ps iw k
+      good : (k : ℕ) → k < length (outlineOf set p) → not (pieceDrawn mesh k) ≡ false → DrawnAt set p ps iw k
       good k l e =
           let w = some-which (λ i. bounds (faceOf (at ps) (triangleAt ts i)) (piece (turnAsked set) (outlineOf set p) k)) (length ts) (not-false _ e) in
           let v = bounds-which (faceOf (at ps) (triangleAt ts (w .0))) (piece (turnAsked set) (outlineOf set p) k) (w .2) in
           (w .0 * 3 + v .0, omega (arith, drawn-count ps ts, w .1, v .1), side-of ps ts (w .0) (v .0) (w .1) (v .1) ∙ v .2)
 
-      bad : (k : ℕ) → DrawnAt set p ps iw k → isDrawn ps ts (piece (turnAsked set) (outlineOf set p) k) ≡ true
+      bad : (k : ℕ) → DrawnAt set p ps iw k → pieceDrawn mesh k ≡ true
       bad k w =
           let c : w .0 < length ts * 3 = omega (arith, drawn-count ps ts, w .1) in
           some-here (λ i. bounds (faceOf (at ps) (triangleAt ts i)) (piece (turnAsked set) (outlineOf set p) k)) (length ts) (w .0 / 3) (omega arith)

@@ -9,14 +9,13 @@ use Rattle.patch.specs.declared.kinds.Patch.{Patch}
 use Rattle.patch.specs.declared.settings.Settings.{Settings}
 use Rattle.patch.specs.Subdivide.{discards}
 use Rattle.patch.specs.Turn.{positive, turnAsked}
-use Rattle.strip.specs.declared.triangle.Triangle.{Triangle}
-use Rattle.mesh_geometry.specs.declared.Point.{Point}
 use Rattle.mesh_geometry.specs.Faces.{at}
-use Rattle.mesh_geometry.specs.Words.{readPoints, readTriangles}
+use Rattle.mesh_geometry.specs.Words.{readPoints}
 use Rattle.patch_mesh.specs.Demand.{outline, outlineOf}
 use Rattle.check_searches.specs.Indices.{firstUnknownIndex}
 use Rattle.check_searches.specs.Points.{firstEqual, firstRepeated}
 use Rattle.check_searches.specs.Triangles.{triangleAt, firstSharing, firstReused}
+use Rattle.check_faults.specs.JudgedMesh.{JudgedMesh, judged}
 use Rattle.check_faults.specs.Inside.{firstOutside}
 use Rattle.check_faults.specs.Turns.{firstTurned}
 use Rattle.check_faults.specs.Outline.{firstOpen, firstMissing}
@@ -31,22 +30,28 @@ faultAt number n x values rest = cond (ltb x n) (record { number = number; value
 abbrev pub here : ℕ → List ℕ
 here x = x ∷ []
 
--- the answer for the points ps and the triangles ts; equal points (26) and a side used twice (28) give the earlier partner first
-unfoldable pub faultVerdict : Bool → Bool → List Point → List Point → List Triangle → AnswerCode
-faultVerdict triangles positive outline ps ts =
+-- the answer for the mesh; equal points (26) and a side used twice (28) give the earlier partner first
+unfoldable pub faultVerdict : Bool → JudgedMesh → AnswerCode
+faultVerdict triangles mesh =
+    let ps = mesh .points in
+    let ts = mesh .triangles in
     faultAt 25 (length ps) (firstOutside triangles ps) here
     (faultAt 26 (length ps) (firstRepeated ps) (λ j. firstEqual ps (at ps j) j ∷ j ∷ [])
-    (faultAt 27 (length ts) (firstTurned positive ps ts) here
+    (faultAt 27 (length ts) (firstTurned (mesh .positive) ps ts) here
     (faultAt 28 (length ts) (firstReused ts) (λ j. firstSharing ts (triangleAt ts j) j ∷ j ∷ [])
-    (faultAt 29 (length ts * 3) (firstOpen positive outline ps ts) (λ m. m / 3 ∷ m % 3 ∷ [])
-    (faultAt 30 (length outline) (firstMissing positive outline ps ts) here done)))))
+    (faultAt 29 (length ts * 3) (firstOpen mesh) (λ m. m / 3 ∷ m % 3 ∷ [])
+    (faultAt 30 (length (mesh .outline)) (firstMissing mesh) here done)))))
+
+-- the mesh that words hold, judged by the orientation and the outline of a patch
+abbrev pub judgedFor : Settings → Patch → List ℕ → List ℕ → JudgedMesh
+judgedFor set p pw iw = judged (turnAsked set) (outlineOf set p) pw iw
 
 -- the answer for a mesh, given as words, of a patch that is not discarded
 unfoldable pub meshVerdict : Settings → Patch → List ℕ → List ℕ → AnswerCode
 meshVerdict set p pw iw =
     cond (eqb (length pw % 3) 0 && eqb (length iw % 3) 0)
     (faultAt 24 (length iw) (firstUnknownIndex iw (length (readPoints pw))) here
-    (faultVerdict (isTriangles p) (turnAsked set) (outlineOf set p) (readPoints pw) (readTriangles iw)))
+    (faultVerdict (isTriangles p) (judgedFor set p pw iw)))
     (refused 23)
 
 -- the answer for a mesh of any patch

@@ -2,8 +2,9 @@
 ghost use mathlib.Core.Path.{_≡_};
 ghost use Prim.Native.Nat.{_*_, _/_, _≤_};
 ghost use lib.ListN.{length};
-ghost use Rattle.mesh_geometry.specs.Words.{readPoints, readTriangles};
+ghost use Rattle.mesh_geometry.specs.Words.{readPoints};
 ghost use Rattle.check_searches.specs.Indices.{AllNumbered};
+ghost use Rattle.check_faults.specs.JudgedMesh.{judged};
 ghost use Rattle.check_faults.specs.Turns.{AllSmall};
 ghost use Rattle.check_faults.specs.Outline.{ClosedTo, DrawnTo};
 ghost use Rattle.check_verdict.specs.Faults.{outlineFault, sideFault, pointFault, meshFault};
@@ -20,9 +21,9 @@ fn outline_fault(
     drawn: usize,
 ) -> Verdict
     requires { ⌜ AllNumbered (length (readPoints (now points))) (now indices) ⌝ ∗ ⌜ joined ≤ length (now indices) / 3 * 3 ⌝ ∗
-        ⌜ ClosedTo positive (readPoints (now outline)) (readPoints (now points)) (readTriangles (now indices)) joined ⌝ ∗ ⌜ drawn ≤ length (now outline) / 3 ⌝ ∗
-        ⌜ DrawnTo positive (readPoints (now outline)) (readPoints (now points)) (readTriangles (now indices)) drawn ⌝ }
-    ensures { λ r. ⌜ r ≡ outlineFault positive (readPoints (now (outline .entry))) (readPoints (now (points .entry))) (readTriangles (now (indices .entry))) ⌝ }
+        ⌜ ClosedTo (judged positive (readPoints (now outline)) (now points) (now indices)) joined ⌝ ∗ ⌜ drawn ≤ length (now outline) / 3 ⌝ ∗
+        ⌜ DrawnTo (judged positive (readPoints (now outline)) (now points) (now indices)) drawn ⌝ }
+    ensures { λ r. ⌜ r ≡ outlineFault (judged positive (readPoints (now (outline .entry))) (now (points .entry)) (now (indices .entry))) ⌝ }
 {
     let side = check_faults::side::first_open(outline, points, indices, positive, joined);
     if side < indices.len() / 3 * 3 {
@@ -42,7 +43,7 @@ fn outline_fault(
 // shows up to where no fault occurs, and each search starts there.
 fn side_fault(outline: &[u32], points: &[u32], indices: &[u16], positive: bool) -> Verdict
     requires { ⌜ AllNumbered (length (readPoints (now points))) (now indices) ⌝ ∗ ⌜ AllSmall (readPoints (now points)) ⌝ }
-    ensures { λ r. ⌜ r ≡ sideFault positive (readPoints (now (outline .entry))) (readPoints (now (points .entry))) (readTriangles (now (indices .entry))) ⌝ }
+    ensures { λ r. ⌜ r ≡ sideFault (judged positive (readPoints (now (outline .entry))) (now (points .entry)) (now (indices .entry))) ⌝ }
 {
     let count = indices.len() / 3;
     let triangle = check_faults::area::first_turned(points, indices, positive);
@@ -77,7 +78,7 @@ fn point_fault(
     positive: bool,
 ) -> Verdict
     requires { ⌜ AllNumbered (length (readPoints (now points))) (now indices) ⌝ }
-    ensures { λ r. ⌜ r ≡ pointFault triangles positive (readPoints (now (outline .entry))) (readPoints (now (points .entry))) (readTriangles (now (indices .entry))) ⌝ }
+    ensures { λ r. ⌜ r ≡ pointFault triangles (judged positive (readPoints (now (outline .entry))) (now (points .entry)) (now (indices .entry))) ⌝ }
 {
     let count = points.len() / 3;
     let point = check_faults::inside::first_outside(points, triangles);

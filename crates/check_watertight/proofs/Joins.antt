@@ -17,7 +17,8 @@ use Rattle.check_searches.specs.Points.{samePoint}
 use Rattle.check_searches.specs.Triangles.{triangleAt, hasSide, someSide}
 use Rattle.check_searches.proofs.First.{some-here, some-which}
 use Rattle.check_searches.proofs.Equal.{same-is, is-same}
-use Rattle.check_faults.specs.Outline.{sameEnds, sideBetween, startCorner, endOf, closes, bounds, isDrawn, ClosedTo, DrawnTo}
+use Rattle.check_faults.specs.JudgedMesh.{JudgedMesh}
+use Rattle.check_faults.specs.Outline.{sameEnds, sideBetween, startCorner, endOf, closes, bounds, pieceDrawn, ClosedTo, DrawnTo}
 use Rattle.half_edge_chains.specs.Sides.{sideStart, sideEnd, isSide, Once}
 use Rattle.check_watertight.specs.Closing.{IsPiece, Blank, MarksDrawn, AllMarked, OpensClosed, Shown}
 use Rattle.half_edge_chains.proofs.Table.{zero-at}
@@ -68,9 +69,18 @@ all-marked-more marks n a h = record {
   each = λ k l. elim (decLe n k) [ yes p ↦ (let d : k ≡ n = omega arith in rw d h) | no p ↦ a .each k (omega arith) ];
 }
 
-module _ (positive : Bool) (outline ps : List Point) (ts : List Triangle) where
+module _ (mesh : JudgedMesh) where
+  abbrev outline : List Point
+  outline = mesh .outline
+
+  abbrev ps : List Point
+  ps = mesh .points
+
+  abbrev ts : List Triangle
+  ts = mesh .triangles
+
   -- a side whose reverse is in the table
-  reverse-closes : (m n : ℕ) → n ≤ length ts * 3 → someBelow (isSide ts (sideEnd ts m) (sideStart ts m)) n ≡ true → closes positive outline ps ts m ≡ true
+  reverse-closes : (m n : ℕ) → n ≤ length ts * 3 → someBelow (isSide ts (sideEnd ts m) (sideStart ts m)) n ≡ true → closes mesh m ≡ true
   unfolding sideStart sideEnd
   reverse-closes m n l h =
       let w = some-which (isSide ts (sideEnd ts m) (sideStart ts m)) n h in
@@ -83,55 +93,55 @@ module _ (positive : Bool) (outline ps : List Point) (ts : List Triangle) where
 
   -- a side that was found to be a piece
   pub piece-met : {p q : Point} {x y k : ℕ} (m : ℕ) → x ≡ sideStart ts m → y ≡ sideEnd ts m → p ≡ at ps x → q ≡ at ps y → k < length outline
-      → sameEnds (piece positive outline k) (record { start = p; end = q }) ≡ true → IsPiece positive outline ps ts m k
+      → sameEnds (piece (mesh .positive) outline k) (record { start = p; end = q }) ≡ true → IsPiece mesh m k
   piece-met m s e hp hq l h = record { within = l; same = rw (← s, ← e, ← hp, ← hq) h }
 
   -- a side that is a piece of the outline
-  pub piece-closes : (m k : ℕ) → IsPiece positive outline ps ts m k → closes positive outline ps ts m ≡ true
+  pub piece-closes : (m k : ℕ) → IsPiece mesh m k → closes mesh m ≡ true
   unfolding sideStart sideEnd
   piece-closes m k h =
       or-right (someSide ts (sideEnd ts m) (sideStart ts m)) _
-      (some-here (λ i. sameEnds (piece positive outline i) (sideBetween ps (sideStart ts m) (sideEnd ts m))) (length outline) k (h .within) (h .same))
+      (some-here (λ i. sameEnds (piece (mesh .positive) outline i) (sideBetween ps (sideStart ts m) (sideEnd ts m))) (length outline) k (h .within) (h .same))
 
-  piece-drawn : (m k : ℕ) → m < length ts * 3 → IsPiece positive outline ps ts m k → isDrawn ps ts (piece positive outline k) ≡ true
+  piece-drawn : (m k : ℕ) → m < length ts * 3 → IsPiece mesh m k → pieceDrawn mesh k ≡ true
   unfolding sideStart sideEnd
   piece-drawn m k l h =
       let s = sideBetween ps (sideStart ts m) (sideEnd ts m) in
-      rw (ends-are (piece positive outline k) s (h .same))
+      rw (ends-are (piece (mesh .positive) outline k) s (h .same))
       (some-here (λ i. bounds (faceOf (at ps) (triangleAt ts i)) s) (length ts) (m / 3) (omega arith) (bounds-own (at ps) (triangleAt ts (m / 3)) (m % 3)))
 
   -- the first sides in the list
-  pub joins-none : (opens : List ℕ) → OpensClosed positive outline ps ts opens 0
+  pub joins-none : (opens : List ℕ) → OpensClosed mesh opens 0
   joins-none opens = record { each = λ i l. absurd (omega arith) }
 
-  pub joins-more : (opens : List ℕ) (n : ℕ) → OpensClosed positive outline ps ts opens n → closes positive outline ps ts (getD opens n 0) ≡ true
-      → OpensClosed positive outline ps ts opens (n + 1)
+  pub joins-more : (opens : List ℕ) (n : ℕ) → OpensClosed mesh opens n → closes mesh (getD opens n 0) ≡ true
+      → OpensClosed mesh opens (n + 1)
   joins-more opens n j h = record {
     each = λ i l. elim (decLe n i) [ yes p ↦ (let d : i ≡ n = omega arith in rw d h) | no p ↦ j .each i (omega arith) ];
   }
 
   -- a side that has its reverse or is in the list
-  pick : (opens : List ℕ) (n m : ℕ) → OpensClosed positive outline ps ts opens n → (meets ts m ≡ true) ⊎ Among opens n m → closes positive outline ps ts m ≡ true
+  pick : (opens : List ℕ) (n m : ℕ) → OpensClosed mesh opens n → (meets ts m ≡ true) ⊎ Among opens n m → closes mesh m ≡ true
   pick opens n m j (inl h) = reverse-closes m (length ts * 3) (omega arith) h
   pick opens n m j (inr a) = rw (a .is) at (j .each (a .place) (a .within))
 
   -- all sides, if the list has all sides without a reverse
-  pub joined-all : (opens : List ℕ) (n m : ℕ) → m ≤ length ts * 3 → OpensListed ts (length ts * 3) opens n → OpensClosed positive outline ps ts opens n → ClosedTo positive outline ps ts m
+  pub joined-all : (opens : List ℕ) (n m : ℕ) → m ≤ length ts * 3 → OpensListed ts (length ts * 3) opens n → OpensClosed mesh opens n → ClosedTo mesh m
   joined-all opens n m b l j = record { each = λ i c. pick opens n i j (l .each i (omega arith)) }
 
   -- the sides before entry k of the list
-  pub joined-before : (opens : List ℕ) (n k : ℕ) → k < n → OpensListed ts (length ts * 3) opens n → OpensClosed positive outline ps ts opens k → ClosedTo positive outline ps ts (getD opens k 0)
+  pub joined-before : (opens : List ℕ) (n k : ℕ) → k < n → OpensListed ts (length ts * 3) opens n → OpensClosed mesh opens k → ClosedTo mesh (getD opens k 0)
   joined-before opens n k b l j = record { each = λ i c. pick opens k i j (l .before k b i c) }
 
-  pub closed-none : ClosedTo positive outline ps ts 0
+  pub closed-none : ClosedTo mesh 0
   closed-none = record { each = λ m l. absurd (omega arith) }
 
   -- the marks, and how they are set
-  pub marked-none : (marks : List ℕ) → Blank marks → MarksDrawn positive outline ps ts marks
+  pub marked-none : (marks : List ℕ) → Blank marks → MarksDrawn mesh marks
   marked-none marks z = record { drawn = λ k l h. absurd (omega (arith, z .at k)) }
 
-  pub marked-more : (m k : ℕ) (marks : List ℕ) → m < length ts * 3 → IsPiece positive outline ps ts m k → MarksDrawn positive outline ps ts marks
-      → MarksDrawn positive outline ps ts (set marks k 1)
+  pub marked-more : (m k : ℕ) (marks : List ℕ) → m < length ts * 3 → IsPiece mesh m k → MarksDrawn mesh marks
+      → MarksDrawn mesh (set marks k 1)
   marked-more m k marks l h t = record {
     drawn = λ i b p. elim (decLe i k) [
       | yes u ↦ elim (decLe k i) [
@@ -142,18 +152,18 @@ module _ (positive : Bool) (outline ps : List Point) (ts : List Triangle) where
     ];
   }
     where
-      other : (i : ℕ) → i < length outline → 0 < getD (set marks k 1) i 0 → (i ≡ k → ⊥) → isDrawn ps ts (piece positive outline i) ≡ true
+      other : (i : ℕ) → i < length outline → 0 < getD (set marks k 1) i 0 → (i ≡ k → ⊥) → pieceDrawn mesh i ≡ true
       other i b p d = t .drawn i b (rw (getD-set-other marks k i 1 0 d) at p)
 
   -- the marked pieces are sides
-  pub drawn-none : DrawnTo positive outline ps ts 0
+  pub drawn-none : DrawnTo mesh 0
   drawn-none = record { each = λ k l. absurd (omega arith) }
 
-  pub marked-drawn : (marks : List ℕ) (n : ℕ) → n ≤ length outline → MarksDrawn positive outline ps ts marks → AllMarked marks n → DrawnTo positive outline ps ts n
+  pub marked-drawn : (marks : List ℕ) (n : ℕ) → n ≤ length outline → MarksDrawn mesh marks → AllMarked marks n → DrawnTo mesh n
   marked-drawn marks n l t a = record { each = λ k b. t .drawn k (omega arith) (a .each k b) }
 
   -- nothing is shown yet
-  pub shown-none : Shown positive outline ps ts (record { once = 0; joined = 0; drawn = 0 })
+  pub shown-none : Shown mesh (record { once = 0; joined = 0; drawn = 0 })
   shown-none = record {
     once-most = omega arith;
     once = record { each = λ j l. absurd (omega arith) };
@@ -164,11 +174,11 @@ module _ (positive : Bool) (outline ps : List Point) (ts : List Triangle) where
   }
 
   -- a side is repeated
-  pub shown-once : (n : ℕ) → n ≤ length ts → Once ts (n * 3) → Shown positive outline ps ts (record { once = n; joined = 0; drawn = 0 })
+  pub shown-once : (n : ℕ) → n ≤ length ts → Once ts (n * 3) → Shown mesh (record { once = n; joined = 0; drawn = 0 })
   shown-once n l o = record { once-most = l; once = once-new ts n o; joined-most = omega arith; joined = closed-none; drawn-most = omega arith; drawn = drawn-none }
 
   -- no side is repeated
-  pub shown-all : (n m k : ℕ) (marks : List ℕ) → n ≤ length ts → Once ts (n * 3) → m ≤ length ts * 3 → ClosedTo positive outline ps ts m → k ≤ length outline
-      → MarksDrawn positive outline ps ts marks → AllMarked marks k → Shown positive outline ps ts (record { once = n; joined = m; drawn = k })
+  pub shown-all : (n m k : ℕ) (marks : List ℕ) → n ≤ length ts → Once ts (n * 3) → m ≤ length ts * 3 → ClosedTo mesh m → k ≤ length outline
+      → MarksDrawn mesh marks → AllMarked marks k → Shown mesh (record { once = n; joined = m; drawn = k })
   shown-all n m k marks l o b c d t a =
       record { once-most = l; once = once-new ts n o; joined-most = b; joined = c; drawn-most = d; drawn = marked-drawn marks k d t a }

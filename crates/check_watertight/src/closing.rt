@@ -2,8 +2,9 @@
 // needs; a mesh that is too large for it is not examined.
 ghost use Prim.Native.Nat.{_≤_, _<_};
 ghost use lib.ListN.{length};
-ghost use Rattle.mesh_geometry.specs.Words.{readPoints, readTriangles};
+ghost use Rattle.mesh_geometry.specs.Words.{readPoints};
 ghost use Rattle.check_searches.specs.Indices.{AllNumbered};
+ghost use Rattle.check_faults.specs.JudgedMesh.{judged};
 ghost use Rattle.half_edges.specs.Tables.{vertices, Room, EmptyTable};
 ghost use Rattle.check_watertight.specs.Closing.{Blank, Shown};
 
@@ -31,7 +32,7 @@ fn reach_by(
     requires { ⌜ EmptyTable small (now rows) (now heads) ⌝ ∗ ⌜ Room small (length (now indices)) (now links) ⌝ ∗
         ⌜ AllNumbered (length (readPoints (now points))) (now indices) ⌝ ∗ ⌜ length (readPoints (now points)) ≤ vertices small (now heads) ⌝ ∗
         ⌜ (length (now indices) < 65536) × Blank (now marks) ⌝ }
-    ensures { λ r. ⌜ Shown positive (readPoints (now (outline .entry))) (readPoints (now (points .entry))) (readTriangles (now (indices .entry))) r ⌝ }
+    ensures { λ r. ⌜ Shown (judged positive (readPoints (now (outline .entry))) (now (points .entry)) (now (indices .entry))) r ⌝ }
 {
     let once = half_edges::filling::fill(indices, small, rows, heads, links);
     if once < indices.len() / 3 {
@@ -61,7 +62,7 @@ fn reach_by(
 // The same with rows of bits, for up to 64 points and so up to 64 pieces of the outline.
 fn reach_small(outline: &[u32], points: &[u32], indices: &[u16], positive: bool) -> Reached
     requires { ⌜ AllNumbered (length (readPoints (now points))) (now indices) ⌝ ∗ ⌜ length (now points) ≤ 192 ⌝ ∗ ⌜ length (now indices) ≤ 25344 ⌝ }
-    ensures { λ r. ⌜ Shown positive (readPoints (now (outline .entry))) (readPoints (now (points .entry))) (readTriangles (now (indices .entry))) r ⌝ }
+    ensures { λ r. ⌜ Shown (judged positive (readPoints (now (outline .entry))) (now (points .entry)) (now (indices .entry))) r ⌝ }
 {
     let mut rows = [0u64; 64];
     let mut heads = [0u16; 1];
@@ -86,7 +87,7 @@ fn reach_small(outline: &[u32], points: &[u32], indices: &[u16], positive: bool)
 // pieces of the outline.
 fn reach_large(outline: &[u32], points: &[u32], indices: &[u16], positive: bool) -> Reached
     requires { ⌜ AllNumbered (length (readPoints (now points))) (now indices) ⌝ ∗ ⌜ length (now points) ≤ 24576 ⌝ ∗ ⌜ length (now indices) ≤ 25344 ⌝ }
-    ensures { λ r. ⌜ Shown positive (readPoints (now (outline .entry))) (readPoints (now (points .entry))) (readTriangles (now (indices .entry))) r ⌝ }
+    ensures { λ r. ⌜ Shown (judged positive (readPoints (now (outline .entry))) (now (points .entry)) (now (indices .entry))) r ⌝ }
 {
     let mut rows = [0u64; 1];
     let mut heads = [0u16; 8192];
@@ -110,7 +111,7 @@ fn reach_large(outline: &[u32], points: &[u32], indices: &[u16], positive: bool)
 // Returns how far no fault of sides or outline occurs. A search that starts there finds the first fault of each kind.
 pub fn reach(outline: &[u32], points: &[u32], indices: &[u16], positive: bool) -> Reached
     requires { ⌜ AllNumbered (length (readPoints (now points))) (now indices) ⌝ }
-    ensures { λ r. ⌜ Shown positive (readPoints (now (outline .entry))) (readPoints (now (points .entry))) (readTriangles (now (indices .entry))) r ⌝ }
+    ensures { λ r. ⌜ Shown (judged positive (readPoints (now (outline .entry))) (now (points .entry)) (now (indices .entry))) r ⌝ }
 {
     if 24576 < points.len() {
         return Reached {

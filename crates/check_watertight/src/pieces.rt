@@ -6,6 +6,7 @@ ghost use lib.ListN.{length, set};
 ghost use Rattle.mesh_geometry.specs.Cover.{piece};
 ghost use Rattle.mesh_geometry.specs.Words.{readPoints, readTriangles};
 ghost use Rattle.check_searches.specs.Indices.{AllNumbered};
+ghost use Rattle.check_faults.specs.JudgedMesh.{judged};
 ghost use Rattle.check_faults.specs.Outline.{sameEnds, closes, ClosedTo};
 ghost use Rattle.half_edges.specs.Opens.{OpensListed};
 ghost use Rattle.check_watertight.specs.Closing.{MarksDrawn, AllMarked};
@@ -54,10 +55,10 @@ fn mark_piece(
     m: usize,
 ) -> usize
     requires { ⌜ AllNumbered (length (readPoints (now points))) (now indices) ⌝ ∗ ⌜ m < length (now indices) / 3 * 3 ⌝ ∗
-        ⌜ MarksDrawn positive (readPoints (now outline)) (readPoints (now points)) (readTriangles (now indices)) (now marks) ⌝ }
-    ensures { λ r. ⌜ (r < length (readPoints (now (outline .entry))) → closes positive (readPoints (now (outline .entry))) (readPoints (now (points .entry)))
-        (readTriangles (now (indices .entry))) m ≡ true) ⌝ ∗ ⌜ MarksDrawn positive (readPoints (now (outline .entry))) (readPoints (now (points .entry)))
-        (readTriangles (now (indices .entry))) (now (marks .exit)) ⌝ }
+        ⌜ MarksDrawn (judged positive (readPoints (now outline)) (now points) (now indices)) (now marks) ⌝ }
+    ensures { λ r. ⌜ (r < length (readPoints (now (outline .entry)))
+        → closes (judged positive (readPoints (now (outline .entry))) (now (points .entry)) (now (indices .entry))) m ≡ true) ⌝ ∗
+        ⌜ MarksDrawn (judged positive (readPoints (now (outline .entry))) (now (points .entry)) (now (indices .entry))) (now (marks .exit)) ⌝ }
 {
     let p = point_at(points, indices[m] as usize);
     let q = point_at(points, end_at(indices, m) as usize);
@@ -81,11 +82,10 @@ pub(crate) fn all_pieces(
 ) -> usize
     requires { ⌜ AllNumbered (length (readPoints (now points))) (now indices) ⌝ ∗ ⌜ count ≤ length (now opens) ⌝ ∗
         ⌜ OpensListed (readTriangles (now indices)) (length (readTriangles (now indices)) * 3) (now opens) count ⌝ ∗
-        ⌜ MarksDrawn positive (readPoints (now outline)) (readPoints (now points)) (readTriangles (now indices)) (now marks) ⌝ }
-    ensures { λ r. ⌜ (r ≤ length (readTriangles (now (indices .entry))) * 3) × ClosedTo positive (readPoints (now (outline .entry)))
-        (readPoints (now (points .entry))) (readTriangles (now (indices .entry))) r ⌝ ∗
-        ⌜ MarksDrawn positive (readPoints (now (outline .entry))) (readPoints (now (points .entry))) (readTriangles (now (indices .entry))) (now (marks .exit))
-        ⌝ }
+        ⌜ MarksDrawn (judged positive (readPoints (now outline)) (now points) (now indices)) (now marks) ⌝ }
+    ensures { λ r. ⌜ (r ≤ length (readTriangles (now (indices .entry))) * 3)
+        × ClosedTo (judged positive (readPoints (now (outline .entry))) (now (points .entry)) (now (indices .entry))) r ⌝ ∗
+        ⌜ MarksDrawn (judged positive (readPoints (now (outline .entry))) (now (points .entry)) (now (indices .entry))) (now (marks .exit)) ⌝ }
 {
     let pieces = outline.len() / 3;
     let mut near = 0;

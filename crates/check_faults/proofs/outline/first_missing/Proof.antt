@@ -4,9 +4,9 @@ use native.Mathlib.Omega.{arith}
 use Prim.Native.Nat.{_-_}
 use mathlib.Core.Path.{ap}
 use mathlib.Core.Bool.{not}
-use Rattle.mesh_geometry.specs.Cover.{piece}
-use Rattle.mesh_geometry.specs.Words.{readPoints, readTriangles}
-use Rattle.check_faults.specs.Outline.{isDrawn, firstMissing}
+use Rattle.mesh_geometry.specs.Words.{readPoints}
+use Rattle.check_faults.specs.JudgedMesh.{judged}
+use Rattle.check_faults.specs.Outline.{pieceDrawn, firstMissing}
 use Rattle.check_searches.proofs.Read.{points-count}
 use Rattle.check_searches.proofs.First.{Passed, passed-none, passed-more, search-found, search-none}
 use Rattle.check_faults.proofs.outline.first_missing.Statement.{statement}
@@ -14,7 +14,7 @@ use Rattle.check_faults.proofs.outline.first_missing.Tie as tie
 
 abbrev Inv-loop : tie.InvT-loop
 Inv-loop outline points indices positive from count k₀ k =
-    Passed (λ i. not (isDrawn (readPoints points) (readTriangles indices) (piece positive (readPoints outline) i))) count k
+    Passed (λ i. not (pieceDrawn (judged positive (readPoints outline) points indices) i)) count k
 
 abbrev μ-loop : tie.MeasureT-loop
 μ-loop outline points indices positive from count k₀ k = count - k

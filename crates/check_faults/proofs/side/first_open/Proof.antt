@@ -3,16 +3,17 @@ use native.Mathlib.Omega.{arith}
 use Prim.Native.Nat.{_-_, _*_}
 use mathlib.Core.Path.{ap}
 use mathlib.Core.Bool.{not}
-use Rattle.mesh_geometry.specs.Words.{readPoints, readTriangles}
+use Rattle.mesh_geometry.specs.Words.{readPoints}
 use Rattle.check_searches.proofs.Read.{triangles-count}
 use Rattle.check_searches.proofs.First.{Passed, passed-none, passed-more, search-found, search-none}
+use Rattle.check_faults.specs.JudgedMesh.{judged}
 use Rattle.check_faults.specs.Outline.{closes, firstOpen}
 use borrow.Author.Needs.{needs}
 use Rattle.check_faults.proofs.side.first_open.Statement.{statement}
 use Rattle.check_faults.proofs.side.first_open.Tie as tie
 
 abbrev Inv-loop : tie.InvT-loop
-Inv-loop outline points indices positive from count m₀ m = Passed (λ i. not (closes positive (readPoints outline) (readPoints points) (readTriangles indices) i)) count m
+Inv-loop outline points indices positive from count m₀ m = Passed (λ i. not (closes (judged positive (readPoints outline) points indices) i)) count m
 
 abbrev μ-loop : tie.MeasureT-loop
 μ-loop outline points indices positive from count m₀ m = count - m

@@ -10,10 +10,10 @@ use Rattle.check_watertight.proofs.closing.reach_large.Reads as reach-l
 use Rattle.check_watertight.proofs.closing.reach_small.Reads as reach-small-reads
 
 returns : tie.Need-returns
-returns c = shown-none _ _ _ _
+returns c = shown-none _
 
 returns-2 : tie.Need-returns-2
-returns-2 c = shown-none _ _ _ _
+returns-2 c = shown-none _
 
 reach-large-requires : tie.Need-reach-large-requires
 reach-large-requires c κs = search needs

@@ -23,7 +23,7 @@ fill-requires c κs =
     (p .0, (numbered-wider (p .1 .1 .0) (p .1 .1 .1 .0), (p .1 .0, p .1 .1 .1 .1 .0)))
 
 returns : tie.Need-returns
-returns c = shown-once _ _ _ _ _ (c .before .before .before .before .before .before .before .fill .ensures .most) (c .before .before .before .before .before .before .before .fill .ensures .once)
+returns c = shown-once _ _ (c .before .before .before .before .before .before .before .fill .ensures .most) (c .before .before .before .before .before .before .before .fill .ensures .once)
 
 open-sides-requires : tie.Need-open-sides-requires
 open-sides-requires c κs =
@@ -36,7 +36,7 @@ open-sides-requires c κs =
     (f .all e .table, (numbered-as _ _ _ _ (c .before .before .before .before .before .before .before .before .heads .given) (numbered-wider (p .1 .1 .0) (p .1 .1 .1 .0)), p .1 .1 .1 .1 .0))
 
 returns-2 : tie.Need-returns-2
-returns-2 c = shown-once _ _ _ _ _
+returns-2 c = shown-once _ _
     (c .before .before .before .before .before .before .before .before .before .before .before .before .before .before .before .fill .ensures .most)
     (c .before .before .before .before .before .before .before .before .before .before .before .before .before .before .before .fill .ensures .once)
 
@@ -44,7 +44,7 @@ all-pieces-requires : tie.Need-all-pieces-requires
 all-pieces-requires c κs =
     let p = c .before .before .before .before .before .before .before .before .before .before .before .before .before .before .before .before .before .before
     .before .before .before .before .before .before .before .before .before .before .before .pre in
-    (p .1 .1 .0, (c .before .before .if2 .left, (c .before .before .before .before .before .open-sides .ensures .listed (c .before .before .if2 .left), marked-none _ _ _ _ _ (p .1 .1 .1 .1 .1))))
+    (p .1 .1 .0, (c .before .before .if2 .left, (c .before .before .before .before .before .open-sides .ensures .listed (c .before .before .if2 .left), marked-none _ _ (p .1 .1 .1 .1 .1))))
 
 returns-3 : tie.Need-returns-3
 returns-3 c =
@@ -54,7 +54,7 @@ returns-3 c =
     .before .before .before .before .fill .ensures in
     let g = c .before .before .before .before .all-pieces .ensures in
     let u = c .first-unmarked .ensures in
-    shown-all _ _ _ _ _ _ _ _ (f .most) (f .once) (g .0 .0) (g .0 .1) (omega (arith, u .0, points-count (s .args .outline .now))) (g .1) (u .1)
+    shown-all _ _ _ _ _ (f .most) (f .once) (g .0 .0) (g .0 .1) (omega (arith, u .0, points-count (s .args .outline .now))) (g .1) (u .1)
 
 pub reach-by-spec : {M : Type 1} → statement M
 reach-by-spec =

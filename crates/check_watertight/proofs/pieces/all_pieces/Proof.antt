@@ -3,9 +3,10 @@ use native.Mathlib.Omega.{arith}
 use Prim.Native.Nat.{_-_, _≤_}
 use mathlib.Core.Path.{_≡_, refl, _∙_}
 use lib.ListN.{length}
-use Rattle.mesh_geometry.specs.Words.{readPoints, readTriangles}
+use Rattle.mesh_geometry.specs.Words.{readPoints}
 use Rattle.check_searches.proofs.Read.{points-count, triangles-count}
 use Rattle.check_watertight.specs.Closing.{OpensClosed, MarksDrawn}
+use Rattle.check_faults.specs.JudgedMesh.{judged}
 use Rattle.check_watertight.proofs.Joins.{joins-none, joins-more, joined-all, joined-before}
 use borrow.Author.Needs.{needs}
 use Rattle.check_watertight.proofs.pieces.all_pieces.Statement.{statement}
@@ -13,14 +14,14 @@ use Rattle.check_watertight.proofs.pieces.all_pieces.Tie as tie
 
 abbrev Inv-loop : tie.InvT-loop
 Inv-loop outline points indices opens count marks₀ positive pieces near₀ k₀ marks near k =
-    (k ≤ count) × OpensClosed positive (readPoints outline) (readPoints points) (readTriangles indices) opens k × MarksDrawn positive (readPoints outline)
-    (readPoints points) (readTriangles indices) marks × (length marks ≡ length marks₀)
+    (k ≤ count) × OpensClosed (judged positive (readPoints outline) points indices) opens k
+    × MarksDrawn (judged positive (readPoints outline) points indices) marks × (length marks ≡ length marks₀)
 
 abbrev μ-loop : tie.MeasureT-loop
 μ-loop outline points indices opens count marks₀ positive pieces near₀ k₀ marks near k = count - k
 
 loop-holds : tie.Need-loop-holds Inv-loop μ-loop
-loop-holds c = (omega arith, joins-none _ _ _ _ _, c .before .before .before .before .before .pre .1 .1 .1, refl)
+loop-holds c = (omega arith, joins-none _ _, c .before .before .before .before .before .pre .1 .1 .1, refl)
 
 mul-m : tie.Need-mul-m Inv-loop μ-loop
 mul-m c = search needs
@@ -46,7 +47,7 @@ returns c =
     let w = c .before .before .before .before .before .before .before in
     let l = w .loop in
     let s = w .before .before .before .before .before .before in (
-      (omega (arith, s .pre .1 .1 .0 .sides (l .k) (omega arith)), joined-before _ _ _ _ _ (s .args .count) (l .k) (omega arith) (s .pre .1 .1 .0) (l .inv .1)),
+      (omega (arith, s .pre .1 .1 .0 .sides (l .k) (omega arith)), joined-before _ _ (s .args .count) (l .k) (omega arith) (s .pre .1 .1 .0) (l .inv .1)),
       c .before .before .before .mark-piece .ensures .1,
     )
 
@@ -66,7 +67,7 @@ loop-again c =
     let l = w .loop in
     let s = w .before .before .before .before .before .before in (
       omega arith,
-      joins-more _ _ _ _ _ (l .k) (l .inv .1) (a .mark-piece .ensures .0 (omega (arith, points-count (s .args .outline .now)))),
+      joins-more _ _ (l .k) (l .inv .1) (a .mark-piece .ensures .0 (omega (arith, points-count (s .args .outline .now)))),
       a .mark-piece .ensures .1,
       c .before .before .marks .given ∙ l .inv .3,
     )
@@ -83,7 +84,7 @@ returns-2 c =
     let s = c .before .before .before .before .before .before .before in
     let e : l .k ≡ s .args .count = omega arith in
     let n = triangles-count (s .args .indices .now) in
-    ((omega arith, joined-all _ _ _ _ _ (s .args .count) _ (omega arith) (s .pre .1 .1 .0) (rw e at (l .inv .1))), l .inv .2)
+    ((omega arith, joined-all _ _ (s .args .count) _ (omega arith) (s .pre .1 .1 .0) (rw e at (l .inv .1))), l .inv .2)
 
 pub all-pieces-spec : {M : Type 1} → statement M
 all-pieces-spec =

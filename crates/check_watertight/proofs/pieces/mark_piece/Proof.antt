@@ -2,9 +2,10 @@
 use native.Mathlib.Omega.{arith}
 use Prim.Native.Nat.{_<_}
 use lib.ListN.{length}
-use Rattle.mesh_geometry.specs.Words.{readPoints, readTriangles}
+use Rattle.mesh_geometry.specs.Words.{readPoints}
 use Rattle.check_searches.proofs.Read.{points-count, triangles-count}
 use Rattle.half_edge_chains.proofs.Numbers.{start-word, end-known}
+use Rattle.check_faults.specs.JudgedMesh.{judged}
 use Rattle.check_watertight.proofs.Joins.{piece-met, piece-closes, marked-more}
 use borrow.Author.Needs.{needs}
 use Rattle.check_watertight.proofs.pieces.mark_piece.Statement.{statement}
@@ -32,14 +33,13 @@ returns c =
     let s = f .before .before .before .before .before .before .before .before .before in
     let a = s .args in
     let o = readPoints (a .outline .now) in
-    let ps = readPoints (a .points .now) in
-    let ts = readTriangles (a .indices .now) in
+    let mesh = judged (a .positive) o (a .points .now) (a .indices .now) in
     let l : f .find-piece .result < length o = omega (arith, c .before .before .before .before .if1 .taken, points-count (a .outline .now)) in
-    let p = piece-met (a .positive) o ps ts (a .m) (start-word (a .indices .now) (a .m) (s .pre .1 .0)) (f .before .before .end-at .ensures)
+    let p = piece-met mesh (a .m) (start-word (a .indices .now) (a .m) (s .pre .1 .0)) (f .before .before .end-at .ensures)
     (f .before .before .before .point-at .ensures) (f .before .point-at2 .ensures) l (f .find-piece .ensures l) in (
-      λ h. piece-closes (a .positive) o ps ts (a .m) _ p,
+      λ h. piece-closes mesh (a .m) _ p,
       rw (c .before .before .set-mark .ensures)
-          (marked-more (a .positive) o ps ts (a .m) _ _ (omega (arith, s .pre .1 .0, triangles-count (a .indices .now))) p (s .pre .1 .1)),
+          (marked-more mesh (a .m) _ _ (omega (arith, s .pre .1 .0, triangles-count (a .indices .now))) p (s .pre .1 .1)),
     )
 
 returns-2 : tie.Need-returns-2
