@@ -5,9 +5,9 @@ use mathlib.Core.List.{List, _∷_}
 use Rattle.level_clamps.specs.declared.Clamps.{Clamps}
 use Rattle.level_clamps.specs.declared.Clamps.the-variants.{Triangles, Quads, Isolines}
 use Rattle.level_clamps.specs.Numbers.{clampNumbers}
-use Rattle.tessellate.specs.declared.answer.Size.{Size}
-use Rattle.tessellate.specs.declared.answer.Size.the-variants.{Counts}
-use Rattle.tessellate.specs.Answers.{sizeCode}
+use Rattle.measure.specs.declared.size.Size.{Size}
+use Rattle.measure.specs.declared.size.Size.the-variants.{Counts}
+use Rattle.measure.specs.Sizes.{sizeCode}
 use Rattle.call_answers.specs.Clamps.{clampBytes}
 
 -- there are six bytes

@@ -2,11 +2,11 @@
 ghost use mathlib.Core.Path.{_≡_};
 ghost use Rattle.level_clamps.specs.declared.Clamps.the-variants.{Triangles, Quads, Isolines};
 ghost use Rattle.level_clamps.specs.Numbers.{clampNumber, clampNumbers};
-ghost use Rattle.tessellate.specs.Answers.{sizeCode};
+ghost use Rattle.measure.specs.Sizes.{sizeCode};
 ghost use Rattle.call_answers.specs.Clamps.{clampBytes, noClamps};
 use level::Clamp;
 use level_clamps::Clamps;
-use tessellate::answer::Size;
+use measure::size::Size;
 
 fn byte_of(clamp: Clamp) -> u8
     ensures { λ r. ⌜ r ≡ clampNumber clamp ⌝ }

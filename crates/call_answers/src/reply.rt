@@ -2,12 +2,13 @@
 ghost use mathlib.Core.Path.{_≡_};
 ghost use mathlib.Core.List.{[], _∷_};
 ghost use Prim.Native.Nat.{_<_};
-ghost use Rattle.tessellate.specs.Answers.{pointsCode, indicesCode, sizeCode};
+ghost use Rattle.measure.specs.Sizes.{sizeCode};
+ghost use Rattle.tessellate.specs.Answers.{pointsCode, indicesCode};
 ghost use Rattle.answer_codes.specs.AnswerCode.{refused, drewBoth};
 ghost use Rattle.call_answers.specs.Replies.{IsReply, unknownSetting, badTop};
+use measure::size::Size;
 use tessellate::answer::IndicesAnswer;
 use tessellate::answer::PointsAnswer;
-use tessellate::answer::Size;
 
 // A value that the answer lacks is 0.
 pub struct Reply {

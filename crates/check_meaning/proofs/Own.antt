@@ -15,7 +15,8 @@ use Rattle.patch.specs.Subdivide.{discards}
 use Rattle.patch_mesh.specs.Demand.{Surface}
 use Rattle.tessellate.specs.declared.answer.PointsAnswer.{PointsAnswer}
 use Rattle.tessellate.specs.declared.answer.IndicesAnswer.{IndicesAnswer}
-use Rattle.tessellate.specs.Answers.{pointsCode, indicesCode, pointsOf, listVerdict}
+use Rattle.measure.specs.Sizes.{pointsOf}
+use Rattle.tessellate.specs.Answers.{pointsCode, indicesCode, listVerdict}
 use Rattle.answer_codes.specs.AnswerCode.{AnswerCode, refused, drew}
 use Rattle.tessellate.specs.Draws.{DrewPoints, DrewIndices}
 use Rattle.level.proofs.Top.{top-as}

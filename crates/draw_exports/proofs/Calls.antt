@@ -6,7 +6,8 @@ use lib.ListN.{length}
 use lib.Ieee.{Float}
 use Rattle.patch.specs.declared.kinds.Patch.{Patch}
 use Rattle.patch.specs.declared.settings.Settings.{Settings}
-use Rattle.tessellate.specs.Answers.{measureVerdict, pointsVerdict, indicesVerdict}
+use Rattle.measure.specs.Sizes.{measureVerdict}
+use Rattle.tessellate.specs.Answers.{pointsVerdict, indicesVerdict}
 use Rattle.answer_codes.specs.AnswerCode.{AnswerCode}
 use Rattle.tessellate.specs.Draws.{pointWords, connectionWords}
 use Rattle.answer_codes.specs.Drew.{Drew}

@@ -15,15 +15,16 @@ use Rattle.patch.specs.declared.settings.Settings.{Settings}
 use Rattle.patch.specs.Subdivide.{discards}
 use Rattle.level_clamps.specs.Clamps.{clampsOf}
 use Rattle.level_clamps.proofs.Numbers.{clampsIn}
-use Rattle.tessellate.specs.declared.answer.Size.{Size}
-use Rattle.tessellate.specs.declared.answer.Size.the-variants as size
+use Rattle.measure.specs.declared.size.Size.{Size}
+use Rattle.measure.specs.declared.size.Size.the-variants as size
 use Rattle.tessellate.specs.declared.answer.PointsAnswer.{PointsAnswer}
 use Rattle.tessellate.specs.declared.answer.PointsAnswer.the-variants as points
 use Rattle.tessellate.specs.declared.answer.IndicesAnswer.{IndicesAnswer}
 use Rattle.tessellate.specs.declared.answer.IndicesAnswer.the-variants as indices
-use Rattle.tessellate.specs.Answers.{sizeCode, pointsCode, indicesCode, pointsOf, indicesOf, listVerdict, pointsVerdict, indicesVerdict}
+use Rattle.measure.specs.Sizes.{sizeCode, pointsOf, indicesOf}
+use Rattle.tessellate.specs.Answers.{pointsCode, indicesCode, listVerdict, pointsVerdict, indicesVerdict}
 use Rattle.level.proofs.Top.{top-as, is-top, no-top, top-no}
-use Rattle.tessellate.proofs.Measured.{measured, measured-told, sizeIn, size-back}
+use Rattle.measure.proofs.Measured.{measured, measured-told, sizeIn, size-back}
 use Rattle.answer_codes.specs.AnswerCode.{AnswerCode}
 use Rattle.call_answers.specs.Replies.{unknownSetting, badTop, oneWord, Says}
 use Rattle.call_answers.proofs.Replies.{says-as}

@@ -9,7 +9,8 @@ use lib.Ieee.{Float}
 use Rattle.level.specs.Top.{isTop}
 use Rattle.patch.specs.Subdivide.{discards}
 use Rattle.job_fields.specs.Settings.{firstUnknownSetting}
-use Rattle.tessellate.specs.Answers.{pointsOf, indicesOf, listVerdict, measureVerdict}
+use Rattle.measure.specs.Sizes.{pointsOf, indicesOf, measureVerdict}
+use Rattle.tessellate.specs.Answers.{listVerdict}
 use Rattle.answer_codes.specs.AnswerCode.{AnswerCode}
 use Rattle.call_answers.specs.Replies.{unknownSetting, badTop, OneOf}
 use Rattle.call_inputs.specs.Inputs.{topIn, patchIn, settingsIn}

@@ -18,7 +18,8 @@ use Rattle.patch_mesh.specs.Inside.{SpotsOnce}
 use Rattle.patch_mesh.specs.Kept.{Alike}
 use Rattle.tessellate.specs.declared.answer.PointsAnswer.the-variants as points
 use Rattle.tessellate.specs.declared.answer.IndicesAnswer.the-variants as indices
-use Rattle.tessellate.specs.Answers.{pointsOf, indicesOf, listVerdict, pointsVerdict, indicesVerdict}
+use Rattle.measure.specs.Sizes.{pointsOf, indicesOf}
+use Rattle.tessellate.specs.Answers.{listVerdict, pointsVerdict, indicesVerdict}
 use Rattle.answer_codes.specs.AnswerCode.{AnswerCode, refused, drew}
 use Rattle.tessellate.specs.Draws.{DrewPoints, DrewIndices, pointWords, connectionWords}
 use Rattle.answer_codes.specs.Drew.{Drew}

@@ -5,7 +5,8 @@ use mathlib.Core.Path.{_≡_}
 use mathlib.Core.List.{List}
 use lib.Ieee.{Float}
 use lib.ListN.{length}
-use Rattle.tessellate.specs.Answers.{pointsVerdict, indicesVerdict, measureVerdict}
+use Rattle.measure.specs.Sizes.{measureVerdict}
+use Rattle.tessellate.specs.Answers.{pointsVerdict, indicesVerdict}
 use Rattle.answer_codes.specs.AnswerCode.{AnswerCode}
 use Rattle.tessellate.specs.Draws.{pointWords, connectionWords}
 use Rattle.answer_codes.specs.Drew.{listAfter}

@@ -9,13 +9,14 @@ use Rattle.patch.specs.declared.kinds.Patch.{Patch}
 use Rattle.patch.specs.declared.settings.Settings.{Settings}
 use Rattle.patch.specs.Subdivide.{discards}
 use Rattle.level_clamps.specs.Clamps.{clampsOf}
-use Rattle.tessellate.specs.declared.answer.Size.{Size}
-use Rattle.tessellate.specs.declared.answer.Size.the-variants as size
+use Rattle.measure.specs.declared.size.Size.{Size}
+use Rattle.measure.specs.declared.size.Size.the-variants as size
 use Rattle.tessellate.specs.declared.answer.PointsAnswer.{PointsAnswer}
 use Rattle.tessellate.specs.declared.answer.PointsAnswer.the-variants as points
 use Rattle.tessellate.specs.declared.answer.IndicesAnswer.{IndicesAnswer}
 use Rattle.tessellate.specs.declared.answer.IndicesAnswer.the-variants as indices
-use Rattle.tessellate.specs.Answers.{sizeCode, pointsCode, indicesCode, pointsOf, indicesOf}
+use Rattle.measure.specs.Sizes.{sizeCode, pointsOf, indicesOf}
+use Rattle.tessellate.specs.Answers.{pointsCode, indicesCode}
 use Rattle.call_answers.specs.Clamps.{clampBytes}
 use Rattle.call_answers.specs.Replies.{twoWords, oneWord}
 use Rattle.call_inputs.specs.Inputs.{patchIn, settingsIn}

@@ -25,7 +25,7 @@ pub extern "C" fn yoktvarim_measure(
             settings: set,
             patch,
         } => {
-            let size = tessellate::measure::measure(patch, set);
+            let size = measure::measure(patch, set);
             say_clamps(size, clamps);
             say_two(of_size(size), counts)
         }

@@ -19,7 +19,8 @@ use Rattle.patch_mesh.specs.Coordinates.{one}
 use Rattle.patch_mesh.proofs.InPatch.{words-up-to}
 use Rattle.tessellate.specs.declared.answer.PointsAnswer.{PointsAnswer}
 use Rattle.tessellate.specs.declared.answer.IndicesAnswer.{IndicesAnswer}
-use Rattle.tessellate.specs.Answers.{pointsCode, indicesCode, pointsOf, indicesOf}
+use Rattle.measure.specs.Sizes.{pointsOf, indicesOf}
+use Rattle.tessellate.specs.Answers.{pointsCode, indicesCode}
 use Rattle.answer_codes.specs.AnswerCode.{drew}
 use Rattle.tessellate.specs.Draws.{pointWords, connectionWords, DrewPoints, DrewIndices}
 use Rattle.level.proofs.Top.{top-as}

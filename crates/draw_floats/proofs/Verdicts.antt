@@ -12,11 +12,11 @@ use Rattle.level.specs.Top.{isTop}
 use Rattle.patch.specs.declared.kinds.Patch.{Patch}
 use Rattle.patch.specs.declared.settings.Settings.{Settings}
 use Rattle.patch.specs.Subdivide.{discards}
-use Rattle.tessellate.specs.declared.answer.Size.{Size}
-use Rattle.tessellate.specs.declared.answer.Size.the-variants.{Counts, Discarded, BadTop}
-use Rattle.tessellate.specs.Answers.{pointsOf, indicesOf, sizeCode, measureVerdict}
+use Rattle.measure.specs.declared.size.Size.{Size}
+use Rattle.measure.specs.declared.size.Size.the-variants.{Counts, Discarded, BadTop}
+use Rattle.measure.specs.Sizes.{pointsOf, indicesOf, sizeCode, measureVerdict}
 use Rattle.answer_codes.specs.AnswerCode.{AnswerCode, refused, drewBoth}
-use Rattle.tessellate.proofs.Measured.{measured, is-measured}
+use Rattle.measure.proofs.Measured.{measured, is-measured}
 use Rattle.draw_floats.specs.declared.answer.FloatsAnswer.{FloatsAnswer}
 use Rattle.draw_floats.specs.declared.answer.FloatsAnswer.the-variants.{Drawn}
 use Rattle.draw_floats.specs.Answers.{floatsCode, floatsRoomVerdict, floatsVerdict}

@@ -2,9 +2,9 @@
 ghost use mathlib.Core.Path.{_≡_};
 ghost use Rattle.draw_floats.specs.Answers.{floatsCode, floatsRoomVerdict, floatsVerdict};
 use crate::answer::FloatsAnswer;
+use measure::size::Size;
 use patch::kinds::Patch;
 use patch::settings::Settings;
-use tessellate::answer::Size;
 
 // The answer for this many points and indices, with lists of these lengths.
 fn find_room(
@@ -38,7 +38,7 @@ pub(crate) fn judge(
 ) -> FloatsAnswer
     ensures { λ r. ⌜ floatsCode r ≡ floatsVerdict settings patch «vertex_words» «index_words» «float_words» ⌝ }
 {
-    let size = tessellate::measure::measure(patch, settings);
+    let size = measure::measure(patch, settings);
     match size {
         Size::Counts {
             points,

@@ -4,13 +4,13 @@ ghost use Prim.Native.Nat.{_≤_};
 use level::Clamp;
 use level::Spacing;
 use level_clamps::Clamps;
+use measure::size::Size;
 use patch::kinds::Patch;
 use patch::settings::DomainOrigin;
 use patch::settings::Settings;
 use patch::settings::VertexOrder;
 use tessellate::answer::IndicesAnswer;
 use tessellate::answer::PointsAnswer;
-use tessellate::answer::Size;
 
 fn main() {
     each_room(triangles(2.0), 12, 9);
@@ -45,20 +45,20 @@ fn each_clamp() {
         inner0: 0.0 / 0.0,
         inner1: 63.5,
     };
-    write_size(tessellate::measure::measure(quads, odd));
+    write_size(measure::measure(quads, odd));
     let isolines = Patch::Isolines {
         outer0: 64.0,
         outer1: 64.0,
     };
-    write_size(tessellate::measure::measure(isolines, odd));
+    write_size(measure::measure(isolines, odd));
 }
 
 // Smaller top levels, and numbers that are not top levels: a bad top level comes before every other answer, and every list stays unchanged.
 fn each_top() {
-    write_size(tessellate::measure::measure(triangles(3.0), odd_up_to(2)));
+    write_size(measure::measure(triangles(3.0), odd_up_to(2)));
     draw_into(triangles(3.0), odd_up_to(2), 9, 3);
-    write_size(tessellate::measure::measure(triangles(9.0), odd_up_to(4)));
-    write_size(tessellate::measure::measure(isolines(0.0), odd_up_to(3)));
+    write_size(measure::measure(triangles(9.0), odd_up_to(4)));
+    write_size(measure::measure(isolines(0.0), odd_up_to(3)));
     draw_into(isolines(0.0), odd_up_to(0), 0, 0);
     draw_into(triangles(2.0), odd_up_to(66), 12, 9);
 }
@@ -115,7 +115,7 @@ fn each_room(patch: Patch, v: usize, i: usize)
     requires { ⌜ (1 ≤ v) × (v ≤ 30) × (1 ≤ i) × (i ≤ 30) ⌝ }
 {
     let usual = settings(VertexOrder::CounterClockwise, false);
-    write_size(tessellate::measure::measure(patch, usual));
+    write_size(measure::measure(patch, usual));
     draw_into(patch, usual, v, i);
     draw_into(patch, usual, v - 1, i);
     draw_into(patch, usual, v, i - 1);

@@ -14,7 +14,8 @@ use Rattle.patch.specs.declared.settings.Settings.{Settings}
 use Rattle.patch.specs.Subdivide.{discards}
 use Rattle.mesh_geometry.specs.Words.{readPoints}
 use Rattle.job_fields.specs.Settings.{choices, AllBelow}
-use Rattle.tessellate.specs.Answers.{pointsOf, indicesOf, listVerdict}
+use Rattle.measure.specs.Sizes.{pointsOf, indicesOf}
+use Rattle.tessellate.specs.Answers.{listVerdict}
 use Rattle.answer_codes.specs.AnswerCode.{AnswerCode, refused, drew}
 use Rattle.level.proofs.Top.{top-as, is-top}
 use Rattle.call_answers.specs.Replies.{unknownSetting, badTop}

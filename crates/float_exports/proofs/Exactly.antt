@@ -12,7 +12,7 @@ use Rattle.level.specs.Top.{isTop}
 use Rattle.patch.specs.declared.kinds.Patch.{Patch}
 use Rattle.patch.specs.declared.settings.Settings.{Settings}
 use Rattle.patch.specs.Subdivide.{discards}
-use Rattle.tessellate.specs.Answers.{pointsOf, indicesOf}
+use Rattle.measure.specs.Sizes.{pointsOf, indicesOf}
 use Rattle.answer_codes.specs.AnswerCode.{refused, drewBoth}
 use Rattle.level.proofs.Top.{top-as, is-top, no-top, top-no}
 use Rattle.draw_floats.specs.declared.answer.FloatsAnswer.{FloatsAnswer}

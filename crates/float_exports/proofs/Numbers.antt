@@ -9,7 +9,7 @@ use lib.Ieee.{Float}
 use Rattle.level.specs.Top.{isTop}
 use Rattle.patch.specs.Subdivide.{discards}
 use Rattle.job_fields.specs.Settings.{firstUnknownSetting}
-use Rattle.tessellate.specs.Answers.{pointsOf, indicesOf}
+use Rattle.measure.specs.Sizes.{pointsOf, indicesOf}
 use Rattle.answer_codes.specs.AnswerCode.{refused, drewBoth}
 use Rattle.call_answers.specs.Replies.{unknownSetting, badTop, OneOf}
 use Rattle.call_inputs.specs.Inputs.{topIn, patchIn, settingsIn}

@@ -11,7 +11,7 @@ use Rattle.level.specs.Top.{isTop}
 use Rattle.patch.specs.Subdivide.{discards}
 use Rattle.mesh_geometry.specs.Words.{readPoints}
 use Rattle.patch_mesh.specs.Demand.{Demand}
-use Rattle.tessellate.specs.Answers.{pointsOf, indicesOf}
+use Rattle.measure.specs.Sizes.{pointsOf, indicesOf}
 use Rattle.answer_codes.specs.AnswerCode.{AnswerCode, refused, drewBoth}
 use Rattle.call_answers.specs.Replies.{twoWords}
 use Rattle.call_inputs.specs.Inputs.{patchIn, settingsIn}

@@ -6,7 +6,7 @@ use lib.Ieee.{Float}
 use Rattle.level.specs.Top.{Top}
 use Rattle.patch.specs.declared.kinds.Patch.{Patch}
 use Rattle.patch.specs.declared.settings.Settings.{Settings}
-use Rattle.tessellate.specs.Answers.{pointsOf, indicesOf}
+use Rattle.measure.specs.Sizes.{pointsOf, indicesOf}
 use Rattle.draw_floats.specs.declared.answer.FloatsAnswer.{FloatsAnswer}
 use Rattle.draw_floats.specs.declared.answer.FloatsAnswer.the-variants as floats
 use Rattle.draw_floats.specs.Answers.{floatsCode}

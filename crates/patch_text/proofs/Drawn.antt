@@ -18,7 +18,8 @@ use Rattle.tessellate.specs.declared.answer.PointsAnswer.{PointsAnswer}
 use Rattle.tessellate.specs.declared.answer.PointsAnswer.the-variants as points
 use Rattle.tessellate.specs.declared.answer.IndicesAnswer.{IndicesAnswer}
 use Rattle.tessellate.specs.declared.answer.IndicesAnswer.the-variants as indices
-use Rattle.tessellate.specs.Answers.{pointsCode, indicesCode, pointsOf, indicesOf, listVerdict}
+use Rattle.measure.specs.Sizes.{pointsOf, indicesOf}
+use Rattle.tessellate.specs.Answers.{pointsCode, indicesCode, listVerdict}
 use Rattle.answer_codes.specs.AnswerCode.{AnswerCode, refused, drew}
 use Rattle.tessellate.specs.Draws.{DrewPoints, DrewIndices, pointWords, connectionWords}
 use Rattle.tessellate.proofs.Together.{drawn-means}

@@ -14,7 +14,7 @@ use Rattle.patch_mesh.proofs.Cases.{Cases, all-cases}
 use Rattle.patch_mesh.proofs.Counts.{point-count, index-count}
 use Rattle.patch_mesh.proofs.Sizes.{sizes-at-most, points-at-most, indices-at-most}
 use Rattle.patch_mesh.proofs.Valid.{cut-valid}
-use Rattle.tessellate.specs.Answers.{pointsOf, indicesOf}
+use Rattle.measure.specs.Sizes.{pointsOf, indicesOf}
 use Rattle.mesh_text.specs.Widths.{widthOf}
 use Rattle.patch_text.specs.Room.{room}
 

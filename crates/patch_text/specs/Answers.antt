@@ -4,8 +4,8 @@ use mathlib.Core.Path.{_≡_}
 use mathlib.Core.List.{List}
 use Rattle.patch.specs.declared.kinds.Patch.{Patch}
 use Rattle.patch.specs.declared.settings.Settings.{Settings}
-use Rattle.tessellate.specs.IfDrawn.{ifDrawn}
-use Rattle.tessellate.specs.Answers.{pointsOf, indicesOf}
+use Rattle.measure.specs.IfDrawn.{ifDrawn}
+use Rattle.measure.specs.Sizes.{pointsOf, indicesOf}
 use Rattle.tessellate.specs.Draws.{pointWords, connectionWords}
 use Rattle.decimal_text.specs.Heads.{discardedLine, refusedLine}
 use Rattle.decimal_text.specs.Lines.{rows}

@@ -10,7 +10,7 @@ use Rattle.level.specs.Top.{Top, isTop}
 use Rattle.patch.specs.declared.kinds.Patch.{Patch}
 use Rattle.patch.specs.declared.settings.Settings.{Settings}
 use Rattle.patch.specs.Subdivide.{discards}
-use Rattle.tessellate.specs.Answers.{pointsOf, indicesOf}
+use Rattle.measure.specs.Sizes.{pointsOf, indicesOf}
 use Rattle.level.proofs.Top.{top-as}
 use Rattle.patch_text.proofs.Sizes.{points-fit, indices-fit}
 use Rattle.job_fields.specs.declared.version.Version.the-variants.{One}

@@ -9,11 +9,11 @@ use Rattle.patch.specs.declared.settings.Settings.{Settings}
 use Rattle.level_clamps.specs.declared.Clamps.{Clamps}
 use Rattle.patch.specs.Subdivide.{discards}
 use Rattle.level_clamps.specs.Clamps.{clampsOf}
-use Rattle.tessellate.specs.declared.answer.Size.{Size}
-use Rattle.tessellate.specs.declared.answer.Size.the-variants.{Counts, Discarded, BadTop}
-use Rattle.tessellate.specs.Answers.{pointsOf, indicesOf}
+use Rattle.measure.specs.declared.size.Size.{Size}
+use Rattle.measure.specs.declared.size.Size.the-variants.{Counts, Discarded, BadTop}
+use Rattle.measure.specs.Sizes.{pointsOf, indicesOf}
 use Rattle.answer_codes.specs.AnswerCode.{AnswerCode}
-use Rattle.tessellate.proofs.Measured.{measured}
+use Rattle.measure.proofs.Measured.{measured}
 use Rattle.share_state.specs.declared.state.Share.{Share}
 use Rattle.share_answers.specs.Answers.{roomVerdict, partVerdict}
 

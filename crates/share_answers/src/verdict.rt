@@ -7,6 +7,7 @@ ghost use Rattle.share_state.specs.SharedList.{left};
 ghost use Rattle.share_state.specs.Answers.{soundState};
 ghost use Rattle.share_answers.specs.Answers.{drawCode, pointsHeld, roomVerdict, partVerdict, drawVerdict};
 use crate::answer::DrawAnswer;
+use measure::size::Size;
 use patch::kinds::Patch;
 use patch::settings::Settings;
 use share_state::shared_list::accepts;
@@ -14,7 +15,6 @@ use share_state::shared_list::share_of;
 use share_state::state::Designer;
 use share_state::state::Share;
 use share_state::state::State;
-use tessellate::answer::Size;
 
 // The answer for this many further points and indices, by the room in a part.
 fn room(vertices: Share, indices: Share, points: u32, words: u32) -> DrawAnswer
@@ -43,7 +43,7 @@ fn part_verdict(state: State, designer: Designer, patch: Patch, settings: Settin
 {
     let vertex_list = state.vertices;
     let index_list = state.indices;
-    match tessellate::measure::measure(patch, settings) {
+    match measure::measure(patch, settings) {
         Size::BadTop => DrawAnswer::BadTop,
         Size::Discarded => DrawAnswer::Discarded,
         Size::Counts {

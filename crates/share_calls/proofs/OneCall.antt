@@ -20,7 +20,7 @@ use Rattle.mesh_geometry.specs.Words.{readPoints}
 use Rattle.patch_mesh.specs.Demand.{Demand}
 use Rattle.patch_mesh.specs.Inside.{SpotsOnce}
 use Rattle.mesh_geometry.proofs.ReadBack.{read-points}
-use Rattle.tessellate.specs.Answers.{pointsOf, indicesOf}
+use Rattle.measure.specs.Sizes.{pointsOf, indicesOf}
 use Rattle.answer_codes.specs.AnswerCode.{AnswerCode, refused, drewBoth, done}
 use Rattle.tessellate.specs.Draws.{pointWords, connectionWords}
 use Rattle.level.proofs.Top.{top-as}

@@ -7,7 +7,7 @@ use Rattle.patch.specs.declared.settings.Settings.{Settings}
 use Rattle.patch.specs.Subdivide.{subdivisionOf}
 use Rattle.mesh_geometry.proofs.Words.{words-length}
 use Rattle.patch_mesh.specs.Points.{points}
-use Rattle.tessellate.specs.Answers.{pointsOf, indicesOf}
+use Rattle.measure.specs.Sizes.{pointsOf, indicesOf}
 use Rattle.tessellate.specs.Draws.{pointWords, connectionWords}
 use Rattle.share_draw.specs.Operations.{shiftedIndices}
 

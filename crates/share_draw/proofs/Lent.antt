@@ -13,7 +13,8 @@ use Rattle.patch.specs.declared.kinds.Patch.{Patch}
 use Rattle.patch.specs.declared.settings.Settings.{Settings}
 use Rattle.patch.specs.Subdivide.{discards}
 use Rattle.patch_mesh.proofs.Demand.{demand}
-use Rattle.tessellate.specs.Answers.{listVerdict, pointsOf}
+use Rattle.measure.specs.Sizes.{pointsOf}
+use Rattle.tessellate.specs.Answers.{listVerdict}
 use Rattle.answer_codes.specs.AnswerCode.{AnswerCode, drew}
 use Rattle.tessellate.specs.Draws.{connectionWords}
 use Rattle.answer_codes.specs.Drew.{Drew, listAfter}

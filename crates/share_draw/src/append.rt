@@ -4,7 +4,7 @@ ghost use mathlib.Core.List.{map};
 ghost use Prim.Native.Nat.{ℕ, _+_, _*_, _≤_, _<_};
 ghost use lib.ListN.{length, getD};
 ghost use Rattle.buffer.specs.Over.{over};
-ghost use Rattle.tessellate.specs.Answers.{pointsOf, indicesOf};
+ghost use Rattle.measure.specs.Sizes.{pointsOf, indicesOf};
 ghost use Rattle.tessellate.specs.Draws.{pointWords};
 ghost use Rattle.share_draw.specs.Operations.{shiftedIndices};
 ghost use Rattle.share_draw.specs.Room.{FitsBetween, RoomFor, Appended};

@@ -15,7 +15,7 @@ use Rattle.patch.specs.declared.settings.Settings.{Settings}
 use Rattle.patch.specs.Subdivide.{discards}
 use Rattle.job_fields.specs.Settings.{choices, firstUnknownSetting, AllBelow}
 use Rattle.job_fields.proofs.Limits.{first-is, first-none, first-all}
-use Rattle.tessellate.specs.Answers.{pointsOf, indicesOf}
+use Rattle.measure.specs.Sizes.{pointsOf, indicesOf}
 use Rattle.answer_codes.specs.AnswerCode.{AnswerCode, refused, drewBoth, done}
 use Rattle.level.proofs.Top.{top-as, is-top, no-top, top-no}
 use Rattle.call_answers.specs.Replies.{unknownSetting, badTop, twoWords}

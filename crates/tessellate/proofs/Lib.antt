@@ -1,6 +1,4 @@
 -- The laws of `tessellate`.
-mod Counted
-mod Cutting
 pub mod Draws
-pub mod Measured
+mod Drawing
 pub mod Together

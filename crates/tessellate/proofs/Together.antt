@@ -25,7 +25,8 @@ use Rattle.patch_mesh.proofs.Once.{demand-once}
 use Rattle.patch_mesh.proofs.Kept.{kept-connections}
 use Rattle.tessellate.specs.declared.answer.PointsAnswer.{PointsAnswer}
 use Rattle.tessellate.specs.declared.answer.IndicesAnswer.{IndicesAnswer}
-use Rattle.tessellate.specs.Answers.{pointsCode, indicesCode, pointsOf, indicesOf, listVerdict}
+use Rattle.measure.specs.Sizes.{pointsOf, indicesOf}
+use Rattle.tessellate.specs.Answers.{pointsCode, indicesCode, listVerdict}
 use Rattle.answer_codes.specs.AnswerCode.{AnswerCode, refused, drew}
 use Rattle.level.proofs.Top.{top-as}
 use Rattle.tessellate.specs.Draws.{pointWords, connectionWords, DrewPoints, DrewIndices}

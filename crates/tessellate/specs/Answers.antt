@@ -7,18 +7,15 @@ use lib.ListN.{length}
 use Rattle.patch.specs.declared.kinds.Patch.{Patch}
 use Rattle.patch.specs.declared.settings.Settings.{Settings}
 use Rattle.patch.specs.Subdivide.{subdivisionOf}
-use Rattle.level_clamps.specs.Clamps.{clampsOf}
-use Rattle.level_clamps.specs.Numbers.{clampNumbers}
 use Rattle.patch_mesh.specs.Points.{points}
 use Rattle.patch_mesh.specs.Primitives.{indexWords}
 use Rattle.answer_codes.specs.AnswerCode.{AnswerCode, refused, drew}
+use Rattle.measure.specs.IfDrawn.{ifDrawn}
+use Rattle.measure.specs.Sizes.{pointsOf, indicesOf}
 use Rattle.tessellate.specs.declared.answer.PointsAnswer.{PointsAnswer}
 use Rattle.tessellate.specs.declared.answer.PointsAnswer.the-variants as points
 use Rattle.tessellate.specs.declared.answer.IndicesAnswer.{IndicesAnswer}
 use Rattle.tessellate.specs.declared.answer.IndicesAnswer.the-variants as indices
-use Rattle.tessellate.specs.declared.answer.Size.{Size}
-use Rattle.tessellate.specs.declared.answer.Size.the-variants.{Counts, Discarded as NoCounts, BadTop as NoTop}
-use Rattle.tessellate.specs.IfDrawn.{ifDrawn}
 
 -- the number and values of each answer; 2 once meant more points than an index can number, and is not used again
 abbrev pub pointsCode : PointsAnswer → AnswerCode
@@ -33,19 +30,6 @@ indicesCode indices.Discarded = refused 1
 indicesCode indices.NoRoomForIndices = refused 4
 indicesCode indices.BadTop = refused 11
 
--- measuring answers both counts and where each level lies, "discarded" or "bad top"
-abbrev pub sizeCode : Size → AnswerCode
-sizeCode (Counts p i c) = record { number = 0; values = p ∷ i ∷ clampNumbers c }
-sizeCode NoCounts = refused 1
-sizeCode NoTop = refused 11
-
--- how many points and indices a patch has with these settings
-abbrev pub pointsOf : Settings → Patch → ℕ
-pointsOf set p = length (points (subdivisionOf set p))
-
-abbrev pub indicesOf : Settings → Patch → ℕ
-indicesOf set p = length (indexWords set (subdivisionOf set p))
-
 -- the answer of an operation that writes `count` points or indices as `need` words into a list of `have` words: a bad top first, then the
 -- lowest number that applies; `short` is the number for a list that is too short
 unfoldable pub listVerdict : Settings → Patch → ℕ → ℕ → ℕ → ℕ → AnswerCode
@@ -58,9 +42,3 @@ pointsVerdict set p v = listVerdict set p 3 (3 * pointsOf set p) v (pointsOf set
 -- the answer to drawing indices into an index list of i words
 abbrev pub indicesVerdict : Settings → Patch → ℕ → AnswerCode
 indicesVerdict set p i = listVerdict set p 4 (indicesOf set p) i (indicesOf set p)
-
--- the answer to measuring: a bad top first; a discarded patch has neither counts nor clamps
-unfoldable pub measureVerdict : Settings → Patch → AnswerCode
-measureVerdict set p =
-    ifDrawn set p (refused 11) (refused 1)
-    (record { number = 0; values = pointsOf set p ∷ indicesOf set p ∷ clampNumbers (clampsOf (set .spacing) (set .top) p) })

@@ -3,8 +3,8 @@
 ghost use Rattle.tessellate.specs.Draws.{DrewPoints, DrewIndices};
 use crate::answer::IndicesAnswer;
 use crate::answer::PointsAnswer;
-use crate::cut::Cut;
-use crate::cut::cut_with;
+use measure::cut::Cut;
+use measure::cut::cut_with;
 use patch::kinds::Patch;
 use patch::settings::Settings;
 

@@ -1,5 +1,3 @@
-// The operations: measuring a patch, drawing its points and drawing its indices.
+// The operations that draw: one writes the points of a patch, one its indices.
 pub mod answer;
-mod cut;
 pub mod draw;
-pub mod measure;

@@ -14,7 +14,8 @@ use Rattle.patch.specs.Subdivide.{discards}
 use Rattle.mesh_geometry.specs.Words.{readPoints}
 use Rattle.tessellate.specs.declared.answer.PointsAnswer.{PointsAnswer}
 use Rattle.tessellate.specs.declared.answer.IndicesAnswer.{IndicesAnswer}
-use Rattle.tessellate.specs.Answers.{pointsCode, indicesCode, pointsOf, indicesOf, listVerdict}
+use Rattle.measure.specs.Sizes.{pointsOf, indicesOf}
+use Rattle.tessellate.specs.Answers.{pointsCode, indicesCode, listVerdict}
 use Rattle.answer_codes.specs.AnswerCode.{AnswerCode, refused, drew}
 use Rattle.tessellate.specs.Draws.{DrewPoints, DrewIndices}
 use Rattle.answer_codes.specs.Drew.{Drew}

@@ -1,7 +1,7 @@
 -- Meets its contract. Assumes nothing.
 use borrow.Author.Needs.{needs}
 use mathlib.Core.Path.{ap}
-use Rattle.tessellate.specs.Answers.{sizeCode}
+use Rattle.measure.specs.Sizes.{sizeCode}
 use Rattle.call_answers.proofs.Replies.{reply-as, reply-more}
 use Rattle.call_answers.proofs.reply.of_size.Statement.{statement}
 use Rattle.call_answers.proofs.reply.of_size.Tie as tie

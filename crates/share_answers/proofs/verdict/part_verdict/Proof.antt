@@ -2,7 +2,7 @@
 use mathlib.Core.Path.{sym, _∙_}
 use borrow.Author.Needs.{needs}
 use Rattle.share_answers.specs.Answers.{partVerdict}
-use Rattle.tessellate.proofs.Measured.{is-measured}
+use Rattle.measure.proofs.Measured.{is-measured}
 use Rattle.share_state.proofs.Sound.{state-facts, lies}
 use Rattle.share_answers.proofs.Measured.{not-bad, is-discarded, is-counted, part-says}
 use Rattle.share_answers.proofs.verdict.part_verdict.Statement.{statement}

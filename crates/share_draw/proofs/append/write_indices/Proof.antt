@@ -5,7 +5,7 @@ use mathlib.Core.List.{List, map}
 use borrow.Author.Needs.{needs}
 use borrow.Rule.Slice.PartMut.{putMid}
 use lib.ListN.{length, length-map, getD}
-use Rattle.tessellate.specs.Answers.{indicesOf}
+use Rattle.measure.specs.Sizes.{indicesOf}
 use Rattle.tessellate.specs.Draws.{connectionWords}
 use Rattle.share_draw.proofs.Lent.{lent-on, lent-again, put-again, raised-fits}
 use Rattle.share_draw.proofs.append.write_indices.Statement.{statement}

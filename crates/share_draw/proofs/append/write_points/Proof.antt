@@ -1,6 +1,6 @@
 -- Meets its contract. Assumes nothing.
 use borrow.Author.Needs.{needs}
-use Rattle.tessellate.specs.Answers.{pointsOf}
+use Rattle.measure.specs.Sizes.{pointsOf}
 use Rattle.tessellate.specs.Draws.{pointWords}
 use Rattle.share_draw.proofs.Lent.{lent-on}
 use Rattle.share_draw.proofs.Counts.{point-words}

@@ -7,7 +7,8 @@ use Rattle.buffer.specs.Over.{over}
 use Rattle.patch.specs.declared.subdivision.Subdivision.{Subdivision}
 use Rattle.patch_mesh.specs.Primitives.{inMode, indexWords}
 use Rattle.patch_writer.proofs.Modes.{mode-count}
-use Rattle.tessellate.proofs.Cutting.{is-cut, cut-valid, cut-few, cut-indices, draw-bad, draw-discarded, draw-short, draw-done}
+use Rattle.measure.proofs.Cutting.{is-cut, cut-valid, cut-few, cut-indices}
+use Rattle.tessellate.proofs.Drawing.{draw-bad, draw-discarded, draw-short, draw-done}
 use Rattle.tessellate.proofs.draw.draw_indices.Statement.{statement}
 use Rattle.tessellate.proofs.draw.draw_indices.Tie as tie
 

@@ -7,7 +7,8 @@ use Rattle.patch.specs.declared.subdivision.Subdivision.{Subdivision}
 use Rattle.mesh_geometry.specs.Words.{vertexWords}
 use Rattle.patch_mesh.specs.Points.{points}
 use Rattle.patch_mesh.proofs.Counts.{point-count}
-use Rattle.tessellate.proofs.Cutting.{is-cut, cut-valid, cut-points, draw-bad, draw-discarded, draw-short, draw-done}
+use Rattle.measure.proofs.Cutting.{is-cut, cut-valid, cut-points}
+use Rattle.tessellate.proofs.Drawing.{draw-bad, draw-discarded, draw-short, draw-done}
 use Rattle.tessellate.proofs.draw.draw_points.Statement.{statement}
 use Rattle.tessellate.proofs.draw.draw_points.Tie as tie
 

@@ -1,10 +1,10 @@
 -- Meets its contract: a return for a bad top, one for a discarded patch and one for a cut. Assumes nothing.
 use borrow.Author.Needs.{needs}
-use Rattle.tessellate.proofs.Counted.{flag}
-use Rattle.tessellate.proofs.Cutting.{cut-bad, cut-discarded, cut-ready}
+use Rattle.measure.proofs.Counted.{flag}
+use Rattle.measure.proofs.Cutting.{cut-bad, cut-discarded, cut-ready}
 use Rattle.level.proofs.Top.{good, bad, top-as}
-use Rattle.tessellate.proofs.cut.cut_with.Statement.{statement}
-use Rattle.tessellate.proofs.cut.cut_with.Tie as tie
+use Rattle.measure.proofs.cut.cut_with.Statement.{statement}
+use Rattle.measure.proofs.cut.cut_with.Tie as tie
 
 is-top-requires : tie.Need-is-top-requires
 is-top-requires c κs = search needs

@@ -1,11 +1,14 @@
 // Measuring: how many points and indices drawing would write, and which levels are clamped. It needs no lists.
 ghost use mathlib.Core.Path.{_≡_};
-ghost use Rattle.tessellate.specs.Answers.{sizeCode, measureVerdict};
-use crate::answer::Size;
+ghost use Rattle.measure.specs.Sizes.{sizeCode, measureVerdict};
 use crate::cut::Cut;
 use crate::cut::cut_with;
+use crate::size::Size;
 use patch::kinds::Patch;
 use patch::settings::Settings;
+
+pub mod cut;
+pub mod size;
 
 pub fn measure(patch: Patch, settings: Settings) -> Size
     ensures { λ r. ⌜ sizeCode r ≡ measureVerdict settings patch ⌝ }

@@ -1,12 +1,10 @@
--- What a patch's cut says about the patch, and what an operation that draws does with it.
+-- What a patch's cut says about the patch.
 -- Assumes nothing.
-use Prim.Native.Nat.{ℕ, suc, _≤_, _<_}
+use Prim.Native.Nat.{ℕ, _≤_}
 use mathlib.Core.Path.{_≡_, refl, sym, ap, _∙_}
 use mathlib.Core.Bool.{Bool, true, false, cond}
-use mathlib.Core.List.{List}
 use native.Mathlib.Omega.{arith}
 use lib.ListN.{length}
-use Rattle.buffer.specs.Over.{over}
 use Rattle.level.specs.Top.{isTop}
 use Rattle.patch.specs.declared.kinds.Patch.{Patch}
 use Rattle.patch.specs.declared.settings.Settings.{Settings}
@@ -15,15 +13,11 @@ use Rattle.patch.specs.Subdivide.{discards, subdivisionOf}
 use Rattle.patch_mesh.specs.Points.{points}
 use Rattle.patch_mesh.specs.Counts.{pointCount, countIn}
 use Rattle.patch_mesh.specs.Valid.{ValidCut}
-use Rattle.tessellate.specs.declared.cut.Cut.{Cut}
-use Rattle.tessellate.specs.declared.cut.Cut.the-variants.{BadTop, Discarded, Ready}
-use Rattle.tessellate.specs.Answers.{pointsOf, indicesOf, listVerdict}
-use Rattle.answer_codes.specs.AnswerCode.{AnswerCode, refused, drew}
-use Rattle.tessellate.specs.Cuts.{cutOf}
-use Rattle.answer_codes.specs.Drew.{Drew}
-use Rattle.tessellate.proofs.Counted.{valid, few, many-points, many-indices}
-use Rattle.tessellate.proofs.Draws.{told-bad, told-discarded, told-short, told-drawn}
-use Rattle.answer_codes.proofs.Drew.{untouched, written}
+use Rattle.measure.specs.declared.cut.Cut.{Cut}
+use Rattle.measure.specs.declared.cut.Cut.the-variants.{BadTop, Discarded, Ready}
+use Rattle.measure.specs.Sizes.{pointsOf, indicesOf}
+use Rattle.measure.specs.Cuts.{cutOf}
+use Rattle.measure.proofs.Counted.{valid, few, many-points, many-indices}
 use Rattle.level.proofs.Top.{top-as}
 
 -- a patch that is cut
@@ -90,23 +84,3 @@ module _ (set : Settings) (p : Patch) where
 
       pub cut-indices : {n : ℕ} → n ≡ countIn (set .«point_mode») c → n ≡ indicesOf set p
       cut-indices h = let i = is-cut e in many-indices set (top-as (set .top) (i .top)) p c (i .cut) h
-
-    -- ---- drawing: a refusal leaves the list as it was
-    module _ (short need have count : ℕ) {t : AnswerCode} {words xs : List ℕ} where
-      pub draw-bad : a ≡ BadTop → t ≡ refused 11 → Drew t (listVerdict set p short need have count) words xs xs
-      draw-bad e h = untouched 10 h (told-bad set p short need have count (bad-top e))
-
-      pub draw-discarded : a ≡ Discarded → t ≡ refused 1 → Drew t (listVerdict set p short need have count) words xs xs
-      draw-discarded e h = let d = is-discarded e in untouched 0 h (told-discarded set p short need have count (d .0) (d .1))
-
-      pub draw-short : {c : Subdivision} (k : ℕ) → a ≡ Ready c → short ≡ suc k → have < need → t ≡ refused short → Drew t (listVerdict set p short need have count) words xs xs
-      draw-short k e s h f =
-          let i = is-cut e in
-          untouched k (f ∙ ap refused s) (told-short set p short need have count (i .top) (i .drawn) h ∙ ap refused s)
-
-      -- otherwise the list begins with the words
-      pub draw-done : {c : Subdivision} {n : ℕ} {xs′ : List ℕ} → a ≡ Ready c → need ≤ have → n ≡ count → t ≡ drew n → xs′ ≡ over xs 0 words
-          → Drew t (listVerdict set p short need have count) words xs xs′
-      draw-done {n = n} e h m f l =
-          let i = is-cut e in
-          written n f (told-drawn set p short need have count (i .top) (i .drawn) h ∙ ap drew (sym m)) l

@@ -1,7 +1,7 @@
 // What the operations draw or measure: the segments into which a patch is cut, or why it is not cut. A bad top comes before
 // a discarded patch.
 ghost use mathlib.Core.Path.{_≡_};
-ghost use Rattle.tessellate.specs.Cuts.{cutOf};
+ghost use Rattle.measure.specs.Cuts.{cutOf};
 use patch::kinds::Patch;
 use patch::settings::Settings;
 use patch::subdivision::Subdivision;
@@ -12,7 +12,7 @@ pub enum Cut {
     Ready { cut: Subdivision },
 }
 
-pub(crate) fn cut_with(patch: Patch, settings: Settings) -> Cut
+pub fn cut_with(patch: Patch, settings: Settings) -> Cut
     ensures { λ r. ⌜ r ≡ cutOf settings patch ⌝ }
 {
     let spacing = settings.spacing;

@@ -11,9 +11,9 @@ use Rattle.patch.specs.declared.settings.Settings.{Settings}
 use Rattle.patch.specs.Subdivide.{discards}
 use Rattle.level_clamps.specs.Clamps.{clampsOf}
 use Rattle.level_clamps.proofs.Numbers.{clampsIn, clamps-back}
-use Rattle.tessellate.specs.declared.answer.Size.{Size}
-use Rattle.tessellate.specs.declared.answer.Size.the-variants.{Counts, Discarded, BadTop}
-use Rattle.tessellate.specs.Answers.{sizeCode, pointsOf, indicesOf, measureVerdict}
+use Rattle.measure.specs.declared.size.Size.{Size}
+use Rattle.measure.specs.declared.size.Size.the-variants.{Counts, Discarded, BadTop}
+use Rattle.measure.specs.Sizes.{sizeCode, pointsOf, indicesOf, measureVerdict}
 use Rattle.answer_codes.specs.AnswerCode.{AnswerCode, refused}
 
 -- ---- no two answers have the same number and values

@@ -17,7 +17,7 @@ use Rattle.patch_mesh.specs.Valid.{ValidCut}
 use Rattle.patch_mesh.proofs.Counts.{point-count, index-count}
 use Rattle.patch_mesh.proofs.Sizes.{points-at-most}
 use Rattle.patch_mesh.proofs.Valid.{cut-valid}
-use Rattle.tessellate.specs.Answers.{pointsOf, indicesOf}
+use Rattle.measure.specs.Sizes.{pointsOf, indicesOf}
 use Rattle.patch_writer.proofs.Cuts.{valid-as}
 
 module _ (set : Settings) (top : Top (set .top)) (p : Patch) (c : Subdivision) (is : c ≡ subdivisionOf set p) where

@@ -1,0 +1,4 @@
+-- The laws of `measure`.
+mod Counted
+pub mod Cutting
+pub mod Measured
