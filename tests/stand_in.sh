@@ -3,6 +3,7 @@
 #     $repository   the checkout, with two crates to export; the name of its folder has a space
 #     $MODULES      the folder of the modules in place of the crates
 #     modules [SED] writes the modules of both crates, the second one changed by a script of sed
+#     tuning COPIED CALLED OWN   writes what tools/merge_modules copies into callers, as lines of tools/tuning.toml; nothing at first
 # shellcheck shell=bash disable=SC2034 # the scripts that source this file use its variables
 . "$(dirname "${BASH_SOURCE[0]}")/common.sh" || exit 2
 . tools/kit
@@ -60,6 +61,11 @@ attributes #0 = { noinline nounwind "probe-stack"="inline-asm" "target-cpu"="x86
 !1 = !{i8 0, i8 2}
 TEXT
 }
+
+tuning() {
+    printf 'copied = [%s]\ncalled = [%s]\n[own]\n%s\n' "$@" >"$repository/tools/tuning.toml"
+}
+tuning '' '' ''
 
 modules() {
     rm -f "$MODULES"/*
