@@ -3,7 +3,7 @@
 #     $repository   the checkout, with two crates to export; the name of its folder has a space
 #     $MODULES      the folder of the modules in place of the crates
 #     modules [SED] writes the modules of both crates, the second one changed by a script of sed
-#     tuning COPIED CALLED OWN   writes what tools/merge_modules copies into callers, as lines of tools/tuning.toml; nothing at first
+#     tuning COPIED CALLED ALIGNED OWN   writes tools/tuning.toml of these lists; they are empty at first
 # shellcheck shell=bash disable=SC2034 # the scripts that source this file use its variables
 . "$(dirname "${BASH_SOURCE[0]}")/common.sh" || exit 2
 . tools/kit
@@ -63,9 +63,9 @@ TEXT
 }
 
 tuning() {
-    printf 'copied = [%s]\ncalled = [%s]\n[own]\n%s\n' "$@" >"$repository/tools/tuning.toml"
+    printf 'copied = [%s]\ncalled = [%s]\naligned = [%s]\n[own]\n%s\n' "$@" >"$repository/tools/tuning.toml"
 }
-tuning '' '' ''
+tuning '' '' '' ''
 
 modules() {
     rm -f "$MODULES"/*
