@@ -1,2 +1,0 @@
--- The text for the customer's sample, computed.
-pub mod Sample

@@ -1,2 +1,0 @@
--- The answer for the customer's sample in a recording, computed.
-pub mod Sample
