@@ -7,8 +7,8 @@ use Rattle.patch.specs.declared.kinds.Patch.{Patch}
 use Rattle.patch.specs.declared.settings.Settings.{Settings}
 use Rattle.answer_codes.specs.AnswerCode.{AnswerCode}
 use Rattle.check_verdict.specs.declared.Verdict.{Verdict}
-use Rattle.check_meaning.specs.Means.{CheckedExactly}
-use Rattle.check_meaning.specs.Numbers.{verdictCode}
+use Rattle.check_soundness.specs.Means.{CheckedExactly}
+use Rattle.check_soundness.specs.Numbers.{verdictCode}
 use Rattle.call_answers.specs.declared.reply.Reply.{Reply}
 use Rattle.call_answers.specs.Replies.{unknownSetting, badTop, twoWords, Says}
 use Rattle.call_answers.proofs.Replies.{says-as}

@@ -23,13 +23,13 @@ use Rattle.check_verdict.specs.declared.Verdict.the-variants.{
   MissingPiece,
   Accepted,
 }
-use Rattle.check_meaning.specs.Answers.{checkVerdict}
-use Rattle.check_meaning.specs.Numbers.{verdictCode}
-use Rattle.check_meaning.specs.Covered.{Covered}
-use Rattle.check_meaning.proofs.Named.{verdict}
-use Rattle.check_meaning.proofs.Numbers.{verdict-told}
-use Rattle.check_meaning.proofs.Verdicts.{checked}
-use Rattle.check_meaning.proofs.Accepted.{accepted-covered}
+use Rattle.check_soundness.specs.Answers.{checkVerdict}
+use Rattle.check_soundness.specs.Numbers.{verdictCode}
+use Rattle.check_soundness.specs.Covered.{Covered}
+use Rattle.check_soundness.proofs.Named.{verdict}
+use Rattle.check_soundness.proofs.Numbers.{verdict-told}
+use Rattle.check_soundness.proofs.Verdicts.{checked}
+use Rattle.check_soundness.proofs.Accepted.{accepted-covered}
 use Rattle.call_answers.specs.Replies.{twoWords, Says}
 use Rattle.call_inputs.specs.Inputs.{patchIn, settingsIn}
 use Rattle.call_inputs.proofs.Known.{known-zero}

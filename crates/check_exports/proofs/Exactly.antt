@@ -13,11 +13,11 @@ use Rattle.patch.specs.declared.kinds.Patch.{Patch}
 use Rattle.patch.specs.declared.settings.Settings.{Settings}
 use Rattle.check_verdict.specs.declared.Verdict.{Verdict}
 use Rattle.check_verdict.specs.declared.Verdict.the-variants.{BadTop}
-use Rattle.check_meaning.specs.Means.{Accepts, Means}
-use Rattle.check_meaning.specs.Numbers.{verdictCode}
-use Rattle.check_meaning.proofs.Named.{verdict}
-use Rattle.check_meaning.proofs.Numbers.{verdictIn, verdict-back, verdict-told}
-use Rattle.check_meaning.proofs.Verdicts.{exactly, answers}
+use Rattle.check_soundness.specs.Means.{Accepts, Means}
+use Rattle.check_soundness.specs.Numbers.{verdictCode}
+use Rattle.check_soundness.proofs.Named.{verdict}
+use Rattle.check_soundness.proofs.Numbers.{verdictIn, verdict-back, verdict-told}
+use Rattle.check_soundness.proofs.Verdicts.{exactly, answers}
 use Rattle.call_answers.specs.Replies.{unknownSetting, badTop, twoWords, Says}
 use Rattle.call_answers.proofs.Replies.{says-as}
 use Rattle.call_inputs.specs.Inputs.{patchIn, settingsIn}

@@ -8,8 +8,8 @@ use lib.ListN.{getD}
 use Rattle.job_fields.specs.Settings.{choices, AllBelow}
 use Rattle.check_verdict.specs.declared.Verdict.{Verdict}
 use Rattle.check_verdict.specs.declared.Verdict.the-variants.{BadTop, Isolines, Dots, ShouldBeDiscarded, NotThrees, UnknownIndex, Outside, EqualPoints, Turned, SideTwice, OpenSide, MissingPiece}
-use Rattle.check_meaning.specs.Means.{Accepts, Means}
-use Rattle.check_meaning.specs.Numbers.{verdictCode}
+use Rattle.check_soundness.specs.Means.{Accepts, Means}
+use Rattle.check_soundness.specs.Numbers.{verdictCode}
 use Rattle.call_answers.specs.Replies.{twoWords}
 use Rattle.call_inputs.specs.Inputs.{patchIn, settingsIn}
 use Rattle.call_inputs.specs.Exactly.{CallAnswer, unknown, found, CallMeans, CalledExactly}

@@ -3,7 +3,7 @@ use Prim.Native.Nat.{ℕ}
 use mathlib.Core.List.{List}
 use lib.Ieee.{Float}
 use Rattle.answer_codes.specs.AnswerCode.{AnswerCode}
-use Rattle.check_meaning.specs.Answers.{checkVerdict}
+use Rattle.check_soundness.specs.Answers.{checkVerdict}
 use Rattle.call_answers.specs.Replies.{unknownSetting, badTop}
 use Rattle.call_inputs.specs.Inputs.{patchIn, settingsIn}
 use Rattle.call_inputs.specs.Asked.{known}

@@ -1,7 +1,7 @@
 // Answers as numbers with two places, and how they are written to the caller's memory.
 ghost use mathlib.Core.Path.{_≡_};
 ghost use mathlib.Core.List.{[], _∷_};
-ghost use Rattle.check_meaning.specs.Numbers.{verdictCode};
+ghost use Rattle.check_soundness.specs.Numbers.{verdictCode};
 ghost use Rattle.check_words.specs.Founds.{Finds};
 use call_answers::reply::Reply;
 use check_verdict::Verdict;

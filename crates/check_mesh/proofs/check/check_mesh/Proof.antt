@@ -1,7 +1,7 @@
 -- Meets its contract. Assumes nothing.
 use mathlib.Core.Path.{_≡_, sym, ap, _∙_}
-use Rattle.check_meaning.proofs.Named.{patchFault, verdict}
-use Rattle.check_meaning.proofs.Verdicts.{checked}
+use Rattle.check_soundness.proofs.Named.{patchFault, verdict}
+use Rattle.check_soundness.proofs.Verdicts.{checked}
 use Rattle.level.proofs.Top.{bad, good, top-as}
 use Rattle.check_mesh.proofs.Arms.{flag}
 use borrow.Author.Needs.{needs}

@@ -7,12 +7,12 @@ use mathlib.Core.List.{List}
 use Rattle.patch.specs.declared.kinds.Patch.{Patch}
 use Rattle.patch.specs.declared.settings.Settings.{Settings}
 use Rattle.patch.specs.Subdivide.{discards}
 use Rattle.check_soundness.specs.Sound.{SoundWords}
 use Rattle.check_soundness.proofs.Patches.{patch-sound-covers, patch-sound-once}
 use Rattle.check_verdict.specs.declared.Verdict.the-variants.{Accepted}
-use Rattle.check_meaning.specs.Means.{Kept, Accepts, CheckedExactly}
-use Rattle.check_meaning.specs.Covered.{Covered}
-use Rattle.check_meaning.proofs.Verdicts.{answers, checked}
+use Rattle.check_soundness.specs.Means.{Kept, Accepts, CheckedExactly}
+use Rattle.check_soundness.specs.Covered.{Covered}
+use Rattle.check_soundness.proofs.Verdicts.{answers, checked}
 
 module _ (set : Settings) (p : Patch) (pw iw : List ℕ) where
   -- a mesh is accepted exactly if it has no fault

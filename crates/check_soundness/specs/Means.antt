@@ -17,12 +17,12 @@ use Rattle.patch_mesh.specs.Demand.{Surface, outline, outlineOf}
 use Rattle.mesh_geometry.specs.Faces.{facesIn}
 use Rattle.mesh_geometry.specs.Held.{face}
 use Rattle.patch_mesh.specs.InPatch.{InPatch, domainOf}
 use Rattle.check_soundness.specs.Sound.{sidesIn, SoundWords}
 use Rattle.check_verdict.specs.declared.Verdict.{Verdict}
 use Rattle.check_verdict.specs.declared.Verdict.the-variants as said
-use Rattle.check_meaning.specs.Answers.{checkVerdict}
-use Rattle.check_meaning.specs.Firsts.{Every, FirstNot, NoPair, FirstPair}
-use Rattle.check_meaning.specs.Numbers.{verdictCode}
+use Rattle.check_soundness.specs.Answers.{checkVerdict}
+use Rattle.check_soundness.specs.Firsts.{Every, FirstNot, NoPair, FirstPair}
+use Rattle.check_soundness.specs.Numbers.{verdictCode}
 
 -- triangles can be asked for: a good top level, a triangle or quad patch, and no point mode
 pub record TrianglesAsked (set : Settings) (p : Patch) : Type 0 where

@@ -21,12 +21,12 @@ use Rattle.answer_codes.specs.AnswerCode.{AnswerCode, refused, drew}
 use Rattle.tessellate.specs.Draws.{DrewPoints, DrewIndices}
 use Rattle.level.proofs.Top.{top-as}
 use Rattle.tessellate.proofs.Together.{points-drawn, point-words-drawn, indices-drawn}
 use Rattle.check_soundness.proofs.Patches.{drawn-words-sound}
 use Rattle.check_verdict.specs.declared.Verdict.{Verdict}
 use Rattle.check_verdict.specs.declared.Verdict.the-variants.{Accepted}
-use Rattle.check_meaning.specs.Means.{CheckedExactly}
-use Rattle.check_meaning.proofs.Numbers.{is-verdict}
-use Rattle.check_meaning.proofs.Verdicts.{answers}
+use Rattle.check_soundness.specs.Means.{CheckedExactly}
+use Rattle.check_soundness.proofs.Numbers.{is-verdict}
+use Rattle.check_soundness.proofs.Verdicts.{answers}
 
 -- what "discarded" means
 discarded-means : (set : Settings) (p : Patch) (short need have count : ℕ) → refused 1 ≡ listVerdict set p (short + 2) need have count

@@ -22,11 +22,11 @@ use Rattle.check_faults.specs.Inside.{firstOutside}
 use Rattle.check_faults.specs.Turns.{firstTurned}
 use Rattle.check_faults.specs.Outline.{firstOpen, firstMissing}
 use Rattle.check_verdict.specs.Faults.{orElse, openSide, sideTwice, equalPoints, outlineFault, sideFault, pointFault, meshFault}
 use Rattle.check_soundness.specs.Sound.{SoundWords}
-use Rattle.check_meaning.specs.Answers.{judgedFor}
-use Rattle.check_meaning.specs.Checks.{isTriangles}
-use Rattle.check_meaning.specs.Firsts.{FirstNot, FirstPair}
-use Rattle.check_meaning.specs.Means.{
+use Rattle.check_soundness.specs.Answers.{judgedFor}
+use Rattle.check_soundness.specs.Checks.{isTriangles}
+use Rattle.check_soundness.specs.Firsts.{FirstNot, FirstPair}
+use Rattle.check_soundness.specs.Means.{
   NumberedAt,
   InsideAt,
   EqualAt,
@@ -46,10 +46,10 @@ use Rattle.check_meaning.specs.Means.{
 }
 use Rattle.patch.specs.Turn.{turnAsked}
 use Rattle.patch_mesh.specs.Demand.{outlineOf}
-use Rattle.check_meaning.proofs.Decides.{all-none, first-is, none-pair, later-is, earlier-is}
-use Rattle.check_meaning.proofs.PointTests.{numbered-decides, inside-decides, equal-decides}
-use Rattle.check_meaning.proofs.SideTests.{turn-decides, share-decides, closed-decides, drawn-decides}
-use Rattle.check_meaning.proofs.Stages.{distinct-of, numbers-of, sound-passed}
+use Rattle.check_soundness.proofs.Decides.{all-none, first-is, none-pair, later-is, earlier-is}
+use Rattle.check_soundness.proofs.PointTests.{numbered-decides, inside-decides, equal-decides}
+use Rattle.check_soundness.proofs.SideTests.{turn-decides, share-decides, closed-decides, drawn-decides}
+use Rattle.check_soundness.proofs.Stages.{distinct-of, numbers-of, sound-passed}
 
 -- a search that found nothing, and one that found a fault
 pass : (fault rest : Verdict) (x n : ℕ) → x ≡ n → orElse x n fault rest ≡ rest

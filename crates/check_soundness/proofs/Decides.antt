@@ -7,7 +7,7 @@ use lib.Dec.{ltb}
 use borrow.Author.Tests.{ltb-true}
 use Rattle.check_searches.specs.First.{first, someBelow}
 use Rattle.check_searches.proofs.First.{Below, first-at, first-none, first-before, first-holds, some-at, some-none, some-all}
-use Rattle.check_meaning.specs.Firsts.{Every, FirstNot, NoPair, FirstPair}
+use Rattle.check_soundness.specs.Firsts.{Every, FirstNot, NoPair, FirstPair}
 
 -- below n the test fails exactly if P holds
 pub record Decides (t : ℕ → Bool) (P : ℕ → Type 0) (n : ℕ) : Type 0 where

@@ -23,15 +23,15 @@ use Rattle.check_faults.specs.Inside.{firstOutside}
 use Rattle.check_faults.specs.Turns.{firstTurned}
 use Rattle.check_faults.specs.Outline.{firstOpen, firstMissing}
 use Rattle.check_verdict.specs.Faults.{orElse, outlineFault, sideFault, pointFault, meshFault}
-use Rattle.check_meaning.specs.Answers.{judgedFor}
-use Rattle.check_meaning.specs.Checks.{isTriangles}
-use Rattle.check_meaning.specs.Means.{Kept, PassedThrees, PassedNumbered, PassedInside, PassedDistinct, PassedTurned, PassedSingle, PassedClosed, Means}
+use Rattle.check_soundness.specs.Answers.{judgedFor}
+use Rattle.check_soundness.specs.Checks.{isTriangles}
+use Rattle.check_soundness.specs.Means.{Kept, PassedThrees, PassedNumbered, PassedInside, PassedDistinct, PassedTurned, PassedSingle, PassedClosed, Means}
 use Rattle.patch.specs.Turn.{turnAsked}
 use Rattle.patch_mesh.specs.Demand.{outlineOf}
-use Rattle.check_meaning.proofs.Decides.{decides-all, decides-first, pair-none, pair-first}
-use Rattle.check_meaning.proofs.PointTests.{numbered-decides, inside-decides, equal-decides}
-use Rattle.check_meaning.proofs.SideTests.{turn-decides, share-decides, closed-decides, drawn-decides}
-use Rattle.check_meaning.proofs.Stages.{distinct-of, numbers-of, passed-sound}
+use Rattle.check_soundness.proofs.Decides.{decides-all, decides-first, pair-none, pair-first}
+use Rattle.check_soundness.proofs.PointTests.{numbered-decides, inside-decides, equal-decides}
+use Rattle.check_soundness.proofs.SideTests.{turn-decides, share-decides, closed-decides, drawn-decides}
+use Rattle.check_soundness.proofs.Stages.{distinct-of, numbers-of, passed-sound}
 
 -- the fault if it is found, else the rest
 stage : (P : Verdict → Type 0) (x n : ℕ) (fault rest : Verdict) → (x < n → P fault) → (n ≤ x → P rest) → P (orElse x n fault rest)

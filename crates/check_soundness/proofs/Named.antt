@@ -11,7 +11,7 @@ use Rattle.patch_mesh.specs.Demand.{outlineOf}
 use Rattle.check_verdict.specs.declared.Verdict.{Verdict}
 use Rattle.check_verdict.specs.declared.Verdict.the-variants.{BadTop, Isolines, Dots, ShouldBeDiscarded, Accepted}
 use Rattle.check_verdict.specs.Faults.{meshFault}
-use Rattle.check_meaning.specs.Checks.{isIsolines, isTriangles, isEmpty}
+use Rattle.check_soundness.specs.Checks.{isIsolines, isTriangles, isEmpty}
 
 -- the fault of a mesh for a patch that is not discarded
 unfoldable pub patchFault : Settings → Patch → List ℕ → List ℕ → Verdict

@@ -35,10 +35,10 @@ use Rattle.check_verdict.specs.declared.Verdict.the-variants.{
   Accepted,
 }
 use Rattle.check_verdict.specs.Faults.{openSide, sideTwice, equalPoints, outlineFault, sideFault, pointFault, meshFault}
-use Rattle.check_meaning.specs.Checks.{isIsolines, isEmpty}
-use Rattle.check_meaning.proofs.Named.{patchFault, verdict}
-use Rattle.check_meaning.specs.Answers.{faultVerdict, meshVerdict, checkVerdict}
-use Rattle.check_meaning.specs.Numbers.{verdictCode}
+use Rattle.check_soundness.specs.Checks.{isIsolines, isEmpty}
+use Rattle.check_soundness.proofs.Named.{patchFault, verdict}
+use Rattle.check_soundness.specs.Answers.{faultVerdict, meshVerdict, checkVerdict}
+use Rattle.check_soundness.specs.Numbers.{verdictCode}
 
 -- ---- different verdicts have different numbers or values
 abbrev pub verdictIn : ℕ → List ℕ → Verdict

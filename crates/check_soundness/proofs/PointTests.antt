@@ -14,10 +14,10 @@ use Rattle.mesh_geometry.specs.Faces.{at}
 use Rattle.patch_mesh.specs.InPatch.{InPatch, domainOf}
 use Rattle.check_searches.specs.Points.{samePoint}
 use Rattle.check_faults.specs.Inside.{inside}
-use Rattle.check_meaning.specs.Checks.{isTriangles}
-use Rattle.check_meaning.specs.Means.{NumberedAt, InsideAt, EqualAt}
-use Rattle.check_meaning.proofs.Sides.{both-which}
-use Rattle.check_meaning.proofs.Decides.{Decides, DecidesPair}
+use Rattle.check_soundness.specs.Checks.{isTriangles}
+use Rattle.check_soundness.specs.Means.{NumberedAt, InsideAt, EqualAt}
+use Rattle.check_soundness.proofs.Sides.{both-which}
+use Rattle.check_soundness.proofs.Decides.{Decides, DecidesPair}
 
 pub numbered-decides : (ps : List Point) (iw : List ℕ) → Decides (λ k. leb (length ps) (getD iw k 0)) (NumberedAt ps iw) (length iw)
 numbered-decides ps iw = record {

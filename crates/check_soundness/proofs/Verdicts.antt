@@ -15,15 +15,15 @@ use Rattle.patch.specs.Subdivide.{discards}
 use Rattle.patch_mesh.specs.Demand.{Surface}
 use Rattle.check_verdict.specs.declared.Verdict.{Verdict}
 use Rattle.check_verdict.specs.declared.Verdict.the-variants as said
-use Rattle.check_meaning.specs.Checks.{isIsolines, isEmpty}
-use Rattle.check_meaning.proofs.Named.{patchFault, verdict}
-use Rattle.check_meaning.specs.Means.{TrianglesAsked, Kept, Empty, Means, CheckedExactly}
-use Rattle.check_meaning.specs.Numbers.{verdictCode}
+use Rattle.check_soundness.specs.Checks.{isIsolines, isEmpty}
+use Rattle.check_soundness.proofs.Named.{patchFault, verdict}
+use Rattle.check_soundness.specs.Means.{TrianglesAsked, Kept, Empty, Means, CheckedExactly}
+use Rattle.check_soundness.specs.Numbers.{verdictCode}
 use Rattle.level.proofs.Top.{top-as, is-top, no-top, top-no}
-use Rattle.check_meaning.proofs.Sides.{both-which}
-use Rattle.check_meaning.proofs.Forward.{mesh-means}
-use Rattle.check_meaning.proofs.Numbers.{same-verdict, verdict-told}
-use Rattle.check_meaning.proofs.Back.{not-threes, unknown-index, outside, equal-points, turned, side-twice, open-side, missing-piece, accepted}
+use Rattle.check_soundness.proofs.Sides.{both-which}
+use Rattle.check_soundness.proofs.Forward.{mesh-means}
+use Rattle.check_soundness.proofs.Numbers.{same-verdict, verdict-told}
+use Rattle.check_soundness.proofs.Back.{not-threes, unknown-index, outside, equal-points, turned, side-twice, open-side, missing-piece, accepted}
 
 surface-is : (p : Patch) → isIsolines p ≡ false → Surface p
 surface-is (Triangles a b c i) e = tt

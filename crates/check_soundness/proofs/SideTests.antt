@@ -24,11 +24,11 @@ use Rattle.check_faults.specs.Turns.{hasSign, Numbered, turnsWrong}
 use Rattle.check_faults.specs.Outline.{sameEnds, onOutline, sideBetween, startCorner, endOf, closes, bounds, pieceDrawn}
 use Rattle.check_faults.proofs.Turns.{sign-holds, sign-tests}
 use Rattle.check_faults.proofs.Corners.{start-known, end-known}
-use Rattle.check_meaning.specs.Means.{TurnsAt, SharedAt, ClosedAt, DrawnAt}
-use Rattle.check_meaning.proofs.Sides.{sideNo, by-numbers, drawn-count, side-split, side-of, face-at, any-which, both-which, SideNo, side-which, side-has, share-which, share-has}
-use Rattle.check_meaning.proofs.PointTests.{clash, same-is, is-same}
+use Rattle.check_soundness.specs.Means.{TurnsAt, SharedAt, ClosedAt, DrawnAt}
+use Rattle.check_soundness.proofs.Sides.{sideNo, by-numbers, drawn-count, side-split, side-of, face-at, any-which, both-which, SideNo, side-which, side-has, share-which, share-has}
+use Rattle.check_soundness.proofs.PointTests.{clash, same-is, is-same}
 use Rattle.patch.specs.Turn.{turnAsked}
-use Rattle.check_meaning.proofs.Decides.{Decides, DecidesPair}
+use Rattle.check_soundness.proofs.Decides.{Decides, DecidesPair}
 
 -- sides by coordinates
 ends-is : (s r : Side) → sameEnds s r ≡ true → s ≡ r

@@ -16,16 +16,16 @@ use Rattle.mesh_geometry.specs.Faces.{at, faceOf}
 use Rattle.mesh_geometry.proofs.Lists.{neither}
 use Rattle.mesh_geometry.specs.Words.{readPoints, readTriangles}
 use Rattle.patch_mesh.specs.Demand.{outlineOf}
 use Rattle.check_soundness.specs.Sound.{sidesIn, SoundWords}
 use Rattle.check_searches.specs.Triangles.{triangleAt}
 use Rattle.check_searches.proofs.Read.{triangles-count}
 use Rattle.check_faults.specs.Turns.{Numbered}
 use Rattle.check_faults.specs.Outline.{startCorner, endOf}
 use Rattle.check_faults.proofs.Turns.{numbered, Apart, area-apart}
-use Rattle.check_meaning.specs.Firsts.{Every, NoPair}
-use Rattle.check_meaning.specs.Means.{NumberedAt, EqualAt, TurnsAt, SharedAt, DrawnAt, Kept, PassedNumbered, PassedDistinct, PassedTurned, PassedSingle, PassedClosed}
-use Rattle.check_meaning.proofs.Sides.{by-numbers, drawn-count, side-split, face-at}
-use Rattle.check_meaning.proofs.SideTests.{same-numbers}
+use Rattle.check_soundness.specs.Firsts.{Every, NoPair}
+use Rattle.check_soundness.specs.Means.{NumberedAt, EqualAt, TurnsAt, SharedAt, DrawnAt, Kept, PassedNumbered, PassedDistinct, PassedTurned, PassedSingle, PassedClosed}
+use Rattle.check_soundness.proofs.Sides.{by-numbers, drawn-count, side-split, face-at}
+use Rattle.check_soundness.proofs.SideTests.{same-numbers}
 
 -- no two points are equal
 pub distinct-of : (ps : List Point) → NoPair (EqualAt ps) (length ps) → AllDistinct ps

@@ -20,7 +20,7 @@ use Rattle.check_faults.specs.Inside.{firstOutside}
 use Rattle.check_faults.specs.Turns.{firstTurned}
 use Rattle.check_faults.specs.Outline.{firstOpen, firstMissing}
 use Rattle.answer_codes.specs.AnswerCode.{AnswerCode, refused, done}
-use Rattle.check_meaning.specs.Checks.{isIsolines, isTriangles, isEmpty}
+use Rattle.check_soundness.specs.Checks.{isIsolines, isTriangles, isEmpty}
 
 -- the fault with its values if x is below n, so that a search among n places found one; otherwise the rest
 abbrev pub faultAt : ℕ → ℕ → ℕ → (ℕ → List ℕ) → AnswerCode → AnswerCode
