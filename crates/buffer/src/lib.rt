@@ -1,4 +1,4 @@
-// Writes a few words into a slice: the only stores that the writers of indices, vertices and differences use.
+// Writes a few words, or all of a list, into a slice: the only stores that the writers of indices, vertices and differences use.
 ghost use mathlib.Core.List.{[], _∷_};
 ghost use Prim.Native.Nat.{_+_, _≤_};
 ghost use lib.ListN.{length};
@@ -49,4 +49,32 @@ pub fn put3_u64(out: &mut [u64], at: usize, a: u64, b: u64, c: u64) -> usize
     out[at + 1] = b;
     out[at + 2] = c;
     at + 3
+}
+
+// Writes all of `bytes`.
+pub fn put_bytes(out: &mut [u8], at: usize, bytes: &[u8]) -> usize
+    requires { ⌜ at + length (now bytes) ≤ length (now out) ⌝ }
+    ensures { λ r. ⌜ Wrote (now (out .entry)) at (now (bytes .entry)) (now (out .exit)) r ⌝ }
+{
+    let mut to = at;
+    let mut i = 0usize;
+    while i < bytes.len() {
+        out[to] = bytes[i];
+        to += 1;
+        i += 1;
+    }
+    to
+}
+
+// Writes all of `words`.
+pub fn put_words(out: &mut [u32], at: usize, words: &[u32]) -> usize
+    requires { ⌜ at + length (now words) ≤ length (now out) ⌝ }
+    ensures { λ r. ⌜ Wrote (now (out .entry)) at (now (words .entry)) (now (out .exit)) r ⌝ }
+{
+    let mut i = 0usize;
+    while i < words.len() {
+        out[at + i] = words[i];
+        i += 1;
+    }
+    at + words.len()
 }

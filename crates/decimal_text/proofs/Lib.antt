@@ -1,6 +1,5 @@
 -- The laws of `decimal_text`.
 pub mod Digits
-pub mod Writes
 pub mod Lines
 pub mod Rows
 pub mod Examples

@@ -5,7 +5,6 @@ ghost use lib.ListN.{length};
 ghost use Rattle.buffer.specs.Over.{Wrote};
 ghost use Rattle.decimal_text.specs.Heads.{titleLine, drawnLine, discardedLine, refusedLine};
 ghost use Rattle.decimal_text.specs.Lines.{line};
-use crate::bytes::put_bytes;
 use crate::line::put_line1;
 use crate::line::put_line2;
 
@@ -15,7 +14,7 @@ fn put_worded(out: &mut [u8], at: usize, word: &[u8], n: u32) -> usize
     ensures { λ r. ⌜ Wrote (now (out .entry)) at (now (word .entry) ++ line (n ∷ [])) (now (out .exit)) r ⌝ }
     ensures { λ r. ⌜ r ≤ at + length (now (word .entry)) + 11 ⌝ }
 {
-    let w = put_bytes(out, at, word);
+    let w = buffer::put_bytes(out, at, word);
     put_line1(out, w, n)
 }
 
@@ -34,7 +33,7 @@ pub fn put_drawn(out: &mut [u8], at: usize, points: u32, indices: u32) -> usize
     ensures { λ r. ⌜ Wrote (now (out .entry)) at (drawnLine points indices) (now (out .exit)) r ⌝ }
     ensures { λ r. ⌜ r ≤ at + 28 ⌝ }
 {
-    let w = put_bytes(out, at, b"drawn ");
+    let w = buffer::put_bytes(out, at, b"drawn ");
     put_line2(out, w, points, indices)
 }
 
@@ -43,7 +42,7 @@ pub fn put_discarded(out: &mut [u8], at: usize) -> usize
     requires { ⌜ at + 10 ≤ length (now out) ⌝ }
     ensures { λ r. ⌜ Wrote (now (out .entry)) at discardedLine (now (out .exit)) r ⌝ }
 {
-    put_bytes(out, at, b"discarded\n")
+    buffer::put_bytes(out, at, b"discarded\n")
 }
 
 // Writes the line of a refused record, with the number of the refusal.

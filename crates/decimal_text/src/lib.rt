@@ -1,10 +1,8 @@
 // The text of answers as bytes: decimal numbers, lines of numbers, and the lines that contain words.
-mod bytes;
 mod head;
 mod line;
 mod number;
 
-pub use bytes::put_bytes;
 pub use head::put_discarded;
 pub use head::put_drawn;
 pub use head::put_refused;

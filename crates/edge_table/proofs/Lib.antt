@@ -1,4 +1,3 @@
--- The laws of `edge_table`; `Copied` and `Same` are used in this crate only.
+-- The laws of `edge_table`; `Same` is used in this crate only.
 pub mod StoredRows
-mod Copied
 mod Same

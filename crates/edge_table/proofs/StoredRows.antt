@@ -6,6 +6,7 @@ use native.Mathlib.Nat.{zero-add, add-zero}
 use native.Mathlib.Omega.{arith}
 use lib.ListN.{length, getD, take, drop, replicate, length-append, length-replicate, drop-of-length-le, List·getD-append}
 use lib.Seq.{getD-append-add, take-at}
+use Rattle.buffer.specs.Over.{over, Wrote}
 use Rattle.edge.specs.Positions.{position, entry}
 use Rattle.edge.specs.Rows.{edgeRow, RowAt}
 use Rattle.edge_table.specs.Stored.{rowStart, rowsFrom, rowsTo}
@@ -35,19 +36,16 @@ before-length k =
     let e : suc k - 1 ≡ k = omega arith in
     rw e (omega (arith, rows-length 1 k))
 
--- the first w words of the table, copied over w zeros, if they are m rows
-rows-first : (m k w : ℕ) (xs : List ℕ) → 2 * w ≡ m * (m + 3) → xs ≡ rowsTo (m + k)
-    → take w xs ++ drop (length (take w xs)) (replicate w 0) ≡ rowsTo m
-rows-first m k w xs h e =
+-- the first w words of the table, written over w zeros, if they are m rows
+pub rows-cut : (m w : ℕ) (xs ys : List ℕ) (r : ℕ) → Wrote (replicate w 0) 0 (take w xs) ys r → xs ≡ rowsTo 64 → 2 * w ≡ m * (m + 3) → m ≤ 64 → ys ≡ rowsTo m
+unfolding over
+rows-cut m w xs ys r c e h k =
+    let whole : m + (64 - m) ≡ 64 = omega arith in
     let l : length (rowsTo m) ≡ w = omega (arith, rows-length 1 m) in
-    let cut : take w xs ≡ rowsTo m = ap (take w) (e ∙ rows-split 1 m k) ∙ take-at (rowsTo m) (rowsFrom (1 + m) k) w l in
-    let none : drop (length (rowsTo m)) (replicate {A = ℕ} w 0) ≡ [] = drop-of-length-le (replicate {A = ℕ} w 0) {i = length (rowsTo m)} (omega (arith, length-replicate {A = ℕ} w 0)) in
-    rw (cut, none) (append-nil (rowsTo m))
-
-pub rows-cut : (m w : ℕ) (xs ys : List ℕ) → ys ≡ take w xs ++ drop (length (take w xs)) (replicate w 0) → xs ≡ rowsTo 64 → 2 * w ≡ m * (m + 3) → m ≤ 64 → ys ≡ rowsTo m
-rows-cut m w xs ys c e h l =
-    let k : m + (64 - m) ≡ 64 = omega arith in
-    c ∙ rows-first m (64 - m) w xs h (rw k e)
+    let cut : take w xs ≡ rowsTo m = ap (take w) (e ∙ ap rowsTo (sym whole) ∙ rows-split 1 m (64 - m)) ∙ take-at (rowsTo m) (rowsFrom (1 + m) (64 - m)) w l in
+    let zeros = replicate {A = ℕ} w 0 in
+    let none : drop (0 + length (rowsTo m)) zeros ≡ [] = drop-of-length-le zeros {i = 0 + length (rowsTo m)} (omega (arith, length-replicate {A = ℕ} w 0)) in
+    c .is ∙ rw (cut, none) (append-nil (rowsTo m))
 
 -- a row, between those before it and those after it
 row-split : (k j : ℕ) → rowsTo (k + suc j) ≡ rowsTo k ++ (edgeRow (suc k) (65536 * suc k) ++ rowsFrom (suc (suc k)) j)

@@ -1,9 +1,7 @@
 // The places of the points of every edge of equal spacing: the row of n segments begins at word (n - 1)(n + 2) / 2. A constant
 // is copied to the stack where it is used, so callers take no more rows than they need.
 ghost use mathlib.Core.Path.{_≡_};
-ghost use mathlib.Core.List.{_++_};
 ghost use Prim.Native.Nat.{_≤_};
-ghost use lib.ListN.{length, drop};
 ghost use Rattle.edge.specs.Rows.{edgeRow, RowAt};
 ghost use Rattle.edge_table.specs.Stored.{rowStart, rowsTo, Widest};
 use level::Segments;
@@ -147,25 +145,13 @@ pub fn rows_to_64() -> [u32; 2144]
     STORED
 }
 
-// Copies `from` to the front of `to`.
-fn copy(to: &mut [u32], from: &[u32])
-    requires { ⌜ length (now from) ≤ length (now to) ⌝ }
-    ensures { λ r. ⌜ now (to .exit) ≡ now (from .entry) ++ drop (length (now (from .entry))) (now (to .entry)) ⌝ }
-{
-    let mut i = 0usize;
-    while i < from.len() {
-        to[i] = from[i];
-        i += 1;
-    }
-}
-
 // Returns the rows of 1 to 8 segments.
 pub fn rows_to_8() -> [u32; 44]
     ensures { λ r. ⌜ r ≡ rowsTo 8 ⌝ }
 {
     let all = rows_to_64();
     let mut rows = [0u32; 44];
-    copy(&mut rows, &all[0..44]);
+    buffer::put_words(&mut rows, 0, &all[0..44]);
     rows
 }
 
@@ -175,7 +161,7 @@ pub fn rows_to_16() -> [u32; 152]
 {
     let all = rows_to_64();
     let mut rows = [0u32; 152];
-    copy(&mut rows, &all[0..152]);
+    buffer::put_words(&mut rows, 0, &all[0..152]);
     rows
 }
 
@@ -185,7 +171,7 @@ pub fn rows_to_32() -> [u32; 560]
 {
     let all = rows_to_64();
     let mut rows = [0u32; 560];
-    copy(&mut rows, &all[0..560]);
+    buffer::put_words(&mut rows, 0, &all[0..560]);
     rows
 }
 

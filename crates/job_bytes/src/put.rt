@@ -3,7 +3,7 @@ ghost use Prim.Native.Nat.{_+_, _≤_};
 ghost use lib.ListN.{length};
 ghost use Rattle.buffer.specs.Over.{Wrote};
 ghost use Rattle.job_fields.specs.Bytes.{lowBytes};
-use decimal_text::put_bytes;
+use buffer::put_bytes;
 
 pub fn put_u16(out: &mut [u8], at: usize, x: u16) -> usize
     requires { ⌜ at + 2 ≤ length (now out) ⌝ }

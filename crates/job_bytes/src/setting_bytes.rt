@@ -4,7 +4,7 @@ ghost use Prim.Native.Nat.{_+_, _≤_};
 ghost use lib.ListN.{length};
 ghost use Rattle.buffer.specs.Over.{Wrote};
 ghost use Rattle.job_bytes.specs.Written.{kindByte, spacingByte, orderByte, originByte, fiveBytes};
-use decimal_text::put_bytes;
+use buffer::put_bytes;
 use job_fields::setting::Kind;
 use level::Spacing;
 use patch::settings::DomainOrigin;

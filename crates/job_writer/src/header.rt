@@ -1,7 +1,7 @@
 // Writes the header of a job file.
 ghost use Rattle.job_writer.specs.Answers.{WroteHeader};
 use crate::answer::HeaderWritten;
-use decimal_text::put_bytes;
+use buffer::put_bytes;
 use job::header::MARK;
 use job_bytes::put::put_u16;
 use job_fields::version::Version;

@@ -12,7 +12,6 @@ ghost use Rattle.vertices.specs.Rows.{placeIn, listed, wholeEdge, ClearOfEnds, 
 ghost use Rattle.vertices.specs.Edges.{edgePoints};
 ghost use Rattle.triangle_point_rows.specs.Rings.{ringPoints, ringsOf, Inward, sums, Laid};
 ghost use Rattle.triangle_point_rows.specs.Parts.{triangleOutline, triangleInside};
-use vertices::grid::copy_row;
 use vertices::place::triangle_place;
 
 // Writes edge k of the ring `depth` units inside, a point for each place; `high` is 196608 - depth.
@@ -117,7 +116,7 @@ fn write_eight(
     ensures { λ w. ⌜ Wrote (now (out .entry)) at (flat (sums (now (base .entry)) from p q r) 0 8) (now (out .exit)) w ⌝ }
 {
     let words = eight(base, from, p, q, r);
-    copy_row(out, at, &words)
+    buffer::put_words(out, at, &words)
 }
 
 fn write_eights(

@@ -1,12 +1,10 @@
 -- Points as words, of which only the heights change. Assumes nothing.
-use Prim.Native.Nat.{ℕ, zero, suc, _+_, _*_, _≤_, _<_}
+use Prim.Native.Nat.{ℕ, zero, suc, _+_, _*_, _≤_}
 use mathlib.Core.Path.{_≡_, refl, sym, ap, _∙_}
 use mathlib.Core.List.{List, [], _∷_, _++_, append-assoc}
-use native.Mathlib.Numerals.{add-one}
 use native.Mathlib.Omega.{arith}
 use lib.ListN.{length, take, drop, getD, set, length-append, length-take, length-drop}
-use lib.Seq.{drop-cons, take-add, take-at, take-length, set-at, paste, paste-zero, paste-suc}
-use Rattle.buffer.specs.Over.{over, Wrote}
+use lib.Seq.{drop-cons, take-add, take-at, set-at}
 use Rattle.edge.specs.Table.{table}
 use Rattle.mesh_geometry.specs.declared.Point.{Point}
 use Rattle.mesh_geometry.specs.Words.{coordinateWords, vertexWords}
@@ -64,22 +62,6 @@ points-raised u x v (suc n) = ap (λ (l : List ℕ). u 0 ∷ v ∷ 0 ∷ l) (poi
 
 pub row-raised : (columns : List ℕ) (x v : ℕ) → withSecond v (vertexWords (rowPoints columns x)) ≡ vertexWords (rowPoints columns v)
 row-raised columns x v = points-raised (placeIn columns) x v (length columns)
-
--- ---- a row copied into a list
-pub copy-start : (xs : List ℕ) (at : ℕ) (row : List ℕ) → xs ≡ paste xs at row 0
-copy-start xs at row = paste-zero xs at row
-
-pub copy-more : (xs : List ℕ) (at : ℕ) (row : List ℕ) (i : ℕ) → at + length row ≤ length xs → i < length row → set (paste xs at row i) (at + i) (getD row i 0) ≡ paste xs at row (i + 1)
-copy-more xs at row i h l = paste-suc xs at row i 0 (omega arith) l ∙ ap (paste xs at row) (sym (add-one i))
-
-pub copy-done : {xs out row : List ℕ} {at i : ℕ} → length row ≤ i → i ≤ length row → out ≡ paste xs at row i → Wrote xs at row out (at + length row)
-unfolding over
-copy-done {xs} {out} {row} {at} {i} h l e =
-    let n : i ≡ length row = omega arith in
-    record {
-      is = e ∙ ap (paste xs at row) n ∙ ap (λ (m : List ℕ). take at xs ++ m ++ drop (at + length row) xs) (take-length row) ∙ append-assoc (take at xs) row (drop (at + length row) xs);
-      next = refl;
-    }
 
 -- ---- the front of a row whose heights were changed
 pub raised-front : (v n : ℕ) (row : List ℕ) {row′ : List ℕ} → n ≤ length row → row′ ≡ withSecond v (take n row) ++ drop n row → take n row′ ≡ withSecond v (take n row)

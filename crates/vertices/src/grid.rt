@@ -33,19 +33,6 @@ fn raise(row: &mut [u32], n: usize, v: u32)
     }
 }
 
-// Writes a given row.
-pub fn copy_row(out: &mut [u32], at: usize, row: &[u32]) -> usize
-    requires { ⌜ at + length (now row) ≤ length (now out) ⌝ }
-    ensures { λ w. ⌜ Wrote (now (out .entry)) at (now (row .entry)) (now (out .exit)) w ⌝ }
-{
-    let mut i = 0usize;
-    while i < row.len() {
-        out[at + i] = row[i];
-        i += 1;
-    }
-    at + row.len()
-}
-
 // Writes a row for each place along v, point by point.
 pub fn write_each(out: &mut [u32], at: usize, rows: &[u32], columns: &[u32]) -> usize
     requires { ⌜ at + 3 * (length (now rows) * length (now columns)) ≤ length (now out) ⌝ }
@@ -73,7 +60,7 @@ fn write_raised(out: &mut [u32], at: usize, rows: &[u32], columns: &[u32]) -> us
     let mut r = 0usize;
     while r < rows.len() {
         raise(&mut row, n, rows[r]);
-        to = copy_row(out, to, &row[0..words]);
+        to = buffer::put_words(out, to, &row[0..words]);
         r += 1;
     }
     to

@@ -5,9 +5,8 @@ use borrow.Author.Needs.{needs}
 use borrow.Fn.Kinds.{In}
 use borrow.Fn.PlainCycle.{Measures, is, falls, and}
 use native.Mathlib.Omega.{arith}
-use Rattle.buffer.proofs.Laws.{wrote-then}
+use Rattle.buffer.proofs.Laws.{wrote-one, wrote-then}
 use Rattle.decimal_text.proofs.Digits.{digits-more, digits-more-length}
-use Rattle.decimal_text.proofs.Writes.{wrote-one}
 use Rattle.decimal_text.proofs.number.put_long.Reads as reads
 use Rattle.decimal_text.proofs.number.put_long.Kinds as kinds
 use Rattle.decimal_text.proofs.number.+put_long.Lts-put_long as lts
@@ -67,7 +66,7 @@ module _ (t : ℕ) where
   returns-2 c =
       let m = c .before .before in
       let a = m .before .before .before .before .args in
-      rw (digits-more (a .x) (omega arith)) (wrote-then (omega arith) (m .put-long .ensures) (wrote-one _ _ _ (omega (arith, digits-more-length (a .x) (omega arith)))))
+      rw (digits-more (a .x) (omega arith)) (wrote-then (omega arith) (m .put-long .ensures) (wrote-one (omega (arith, digits-more-length (a .x) (omega arith)))))
 
 pub +put-long-spec : {M : Type 1} → statement M
 +put-long-spec =

@@ -7,9 +7,8 @@ use borrow.Fn.PlainCycle.{Measures, is, falls, and}
 use native.Mathlib.Omega.{arith}
 use mathlib.Core.Path.{ap}
 use lib.ListN.{length}
-use Rattle.buffer.proofs.Laws.{wrote-then}
+use Rattle.buffer.proofs.Laws.{wrote-one, wrote-then}
 use Rattle.decimal_text.proofs.Digits.{digits-one, digits-two, digits-pair, digits-pair-length}
-use Rattle.decimal_text.proofs.Writes.{wrote-one}
 use Rattle.decimal_text.proofs.number.put_number.Reads as reads
 use Rattle.decimal_text.proofs.number.put_number.Kinds as kinds
 use Rattle.decimal_text.proofs.number.+put_number.Lts-put_number as lts
@@ -47,7 +46,7 @@ module _ (t : ℕ) where
   returns : lts.Need-returns calls given reads.Post
   returns c =
       let d = digits-one (c .before .before .args .x) (c .if1 .taken) in
-      rw d (wrote-one _ _ _ (omega (arith, ap length d)))
+      rw d (wrote-one (omega (arith, ap length d)))
 
   put-pair-requires : lts.Need-put-pair-requires calls given reads.Post
   put-pair-requires c κs =

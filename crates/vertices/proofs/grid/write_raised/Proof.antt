@@ -57,17 +57,17 @@ shared-slice-read-raise c = search needs
 raise-requires : tie.Need-raise-requires Inv-loop μ-loop
 raise-requires c κs = search needs
 
-sub-copy-row : tie.Need-sub-copy-row Inv-loop μ-loop
-sub-copy-row c = search needs
+sub-put-words : tie.Need-sub-put-words Inv-loop μ-loop
+sub-put-words c = search needs
 
-part-copy-row-start : tie.Need-part-copy-row-start Inv-loop μ-loop
-part-copy-row-start c = search needs
+part-put-words-start : tie.Need-part-put-words-start Inv-loop μ-loop
+part-put-words-start c = search needs
 
-part-copy-row-end : tie.Need-part-copy-row-end Inv-loop μ-loop
-part-copy-row-end c = search needs
+part-put-words-end : tie.Need-part-put-words-end Inv-loop μ-loop
+part-put-words-end c = search needs
 
-copy-row-requires : tie.Need-copy-row-requires Inv-loop μ-loop
-copy-row-requires c κs =
+put-words-requires : tie.Need-put-words-requires Inv-loop μ-loop
+put-words-requires c κs =
     let a = c .before .before .before .before .before .before .before .before .before .before .before .before .before .before .before .args in
     let l = c .before .before .before .before .before .before .before .before .loop in
     omega (
@@ -93,7 +93,7 @@ loop-again c =
     let v = placeIn (a .rows .now) (l .r) in
     let room : n ≤ length (l .row) = omega arith in
     let front : take n (up .last .0) ≡ vertexWords (rowPoints columns v) = raised-front v n (l .row) room (up .ensures) ∙ l .inv .2 v in (
-      count-step (omega arith) (wrote-as (λ (zs : List ℕ). zs) (sym front ∙ ap (λ (k : ℕ). take k (up .last .0)) (sym (sub-zero n))) (c .before .before .copy-row .ensures)) (l .inv .0),
+      count-step (omega arith) (wrote-as (λ (zs : List ℕ). zs) (sym front ∙ ap (λ (k : ℕ). take k (up .last .0)) (sym (sub-zero n))) (c .before .before .put-words .ensures)) (l .inv .0),
       raised-size v n (l .row) room (up .ensures) ∙ l .inv .1,
       λ h. ap (withSecond h) front ∙ row-raised columns v h,
     )
@@ -120,10 +120,10 @@ write-raised-spec =
     mul-raise
     shared-slice-read-raise
     raise-requires
-    sub-copy-row
-    part-copy-row-start
-    part-copy-row-end
-    copy-row-requires
+    sub-put-words
+    part-put-words-start
+    part-put-words-end
+    put-words-requires
     add-r
     loop-less
     loop-again
