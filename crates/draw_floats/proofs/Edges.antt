@@ -109,13 +109,15 @@ quad-along a b c d i j (suc (suc (suc k))) qs m = mirrored qs m
 by-places : (p p′ : Patch) → SameKind p p′ → (k k′ : ℕ) (qs qs′ : List ℕ) → Mirrors qs → qs ≡ qs′
     → inRisingOrder p k (map (edgeFloat p k) qs) ≡ inRisingOrder p′ k′ (map (edgeFloat p′ k′) qs′)
 by-places (Triangles a b c i) (Triangles a′ b′ c′ i′) s k k′ qs qs′ m e = ap (map (λ x. coordinate 196608 (3 * x))) e
-by-places (Triangles a b c i) (Quads a′ b′ c′ d′ i′ j′) s k k′ qs qs′ m e = absurd s
-by-places (Triangles a b c i) (Isolines a′ b′) s k k′ qs qs′ m e = absurd s
-by-places (Quads a b c d i j) (Triangles a′ b′ c′ i′) s k k′ qs qs′ m e = absurd s
 by-places (Quads a b c d i j) (Quads a′ b′ c′ d′ i′ j′) s k k′ qs qs′ m e =
     quad-along a b c d i j k qs m ∙ ap (map (coordinate 65536)) e ∙ sym (quad-along a′ b′ c′ d′ i′ j′ k′ qs′ (subst Mirrors e m))
-by-places (Quads a b c d i j) (Isolines a′ b′) s k k′ qs qs′ m e = absurd s
-by-places (Isolines a b) q s k k′ qs qs′ m e = absurd s
+by-places (Isolines a b) (Isolines a′ b′) s k k′ qs qs′ m e = ap (map (coordinate 65536)) e
+by-places (Triangles a b c i) (Quads a′ b′ c′ d′ i′ j′) s k k′ qs qs′ m e = absurd (omega arith)
+by-places (Triangles a b c i) (Isolines a′ b′) s k k′ qs qs′ m e = absurd (omega arith)
+by-places (Quads a b c d i j) (Triangles a′ b′ c′ i′) s k k′ qs qs′ m e = absurd (omega arith)
+by-places (Quads a b c d i j) (Isolines a′ b′) s k k′ qs qs′ m e = absurd (omega arith)
+by-places (Isolines a b) (Triangles a′ b′ c′ i′) s k k′ qs qs′ m e = absurd (omega arith)
+by-places (Isolines a b) (Quads a′ b′ c′ d′ i′ j′) s k k′ qs qs′ m e = absurd (omega arith)
 
 -- two outer edges with the same places, of two patches of one kind or of one patch, have the same floats along them
 pub same-floats : {set : Settings} {p : Patch} {ps : List Point} {ws : List ℕ} → Top (set .top) → Demand set p ps ws → Surface p

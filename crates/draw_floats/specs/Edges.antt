@@ -1,5 +1,6 @@
 -- The floats along an outer edge of a patch. Assumes nothing.
 use Prim.Native.Nat.{ℕ, zero, suc, _-_, _*_}
+use mathlib.Core.Path.{_≡_}
 use mathlib.Core.List.{List, map, reverse}
 use lib.Ieee.{Float}
 use Rattle.patch.specs.declared.kinds.Patch.{Patch}
@@ -8,6 +9,7 @@ use Rattle.mesh_geometry.specs.declared.Point.{Point}
 use Rattle.mesh_geometry.specs.Seam.{places}
 use Rattle.patch_mesh.specs.Demand.{edges}
 use Rattle.patch_mesh.specs.Coordinates.{one}
+use Rattle.patch_mesh.specs.Kept.{kindNumber}
 use Rattle.coordinate.specs.Coordinate.{coordinate}
 
 -- which coordinate changes along outer edge k: 0 for u, 1 for v, 2 for w; for triangles it is the end coordinate
@@ -49,10 +51,4 @@ floatsAlong p k ps = inRisingOrder p k (map (edgeFloat p k) (places (edges p k) 
 
 -- two patches of one kind
 abbrev pub SameKind : Patch → Patch → Type 0
-SameKind (Triangles a b c i) (Triangles a′ b′ c′ i′) = Unit {0}
-SameKind (Triangles a b c i) (Quads a′ b′ c′ d′ i′ j′) = ⊥
-SameKind (Triangles a b c i) (Isolines a′ b′) = ⊥
-SameKind (Quads a b c d i j) (Triangles a′ b′ c′ i′) = ⊥
-SameKind (Quads a b c d i j) (Quads a′ b′ c′ d′ i′ j′) = Unit {0}
-SameKind (Quads a b c d i j) (Isolines a′ b′) = ⊥
-SameKind (Isolines a b) q = ⊥
+SameKind p p′ = kindNumber p ≡ kindNumber p′
