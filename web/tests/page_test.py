@@ -159,12 +159,12 @@ class Failures(PageTest):
 
     def test_worker_that_is_slow(self):
         """The new mesh is shown without an answer until its own answer is there."""
-        slow = "await new Promise((done) => setTimeout(done, 2500)); postMessage({ answer: (await"
+        slow = "await new Promise((done) => setTimeout(done, 4000)); postMessage({ answer: (await"
         self.broken(lambda text: text.replace("postMessage({ answer: (await", slow))
         self.assertEqual(self.said("#verdict"), "accepted")
         before = self.find(".surface").get_attribute("aria-label")
         self.type("outer u = 0", "9")
-        self.wait(lambda: self.said("#verdict") == "checking …", 2.4)
+        self.wait(lambda: self.said("#verdict") == "checking …", 3.9)
         self.assertNotEqual(self.find(".surface").get_attribute("aria-label"), before)
         self.button("Flip a triangle").send_keys(Keys.ENTER)
         self.wait(lambda: self.said("#verdict") != "checking …")
