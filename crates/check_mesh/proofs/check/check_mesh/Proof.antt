@@ -1,9 +1,8 @@
 -- Meets its contract. Assumes nothing.
-use mathlib.Core.Path.{_≡_, sym, ap, _∙_}
-use Rattle.check_soundness.proofs.Named.{patchFault, verdict}
+use Rattle.check_soundness.proofs.Named.{verdict}
 use Rattle.check_soundness.proofs.Verdicts.{checked}
 use Rattle.level.proofs.Top.{bad, good, top-as}
-use Rattle.check_mesh.proofs.Arms.{flag}
+use Rattle.check_mesh.proofs.Arms.{flag, dots, discarded, kept}
 use borrow.Author.Needs.{needs}
 use Rattle.check_mesh.proofs.check.check_mesh.Statement.{statement}
 use Rattle.check_mesh.proofs.check.check_mesh.Tie as tie
@@ -30,31 +29,31 @@ returns-2 c =
     checked (a .settings) (a .patch) _ _ (rw (good _ (c .before .before .before .is-top .ensures) (c .before .before .if1 .left), ← c .before .is-isolines .ensures, c .if2 .taken))
 
 returns-3 : tie.Need-returns-3
-unfolding verdict
 returns-3 c =
     let a = c .before .before .before .before .before .before .before .args in
-    checked (a .settings) (a .patch) _ _ (rw (good _ (c .before .before .before .before .is-top .ensures) (c .before .before .before .if1 .left), ← c .before .before .is-isolines .ensures, c .before .if2 .left, c .if3 .taken))
+    dots (a .settings) (a .patch) (good _ (c .before .before .before .before .is-top .ensures) (c .before .before .before .if1 .left))
+    (c .before .before .is-isolines .ensures) (c .before .if2 .left) (c .if3 .taken)
 
 subdivide-requires : tie.Need-subdivide-requires
 subdivide-requires c κs = top-as _ (good _ (c .before .before .before .before .is-top .ensures) (c .before .before .before .if1 .left))
 
 returns-4 : tie.Need-returns-4
-unfolding verdict
 returns-4 c =
     let e = c .before .before in
     let a = e .before .before .before .before .before .before .before .before .before .before .args in
     let d = e .before .before in
     let top = good _ (d .before .before .before .before .before .is-top .ensures) (d .before .before .before .before .if1 .left) in
-    checked (a .settings) (a .patch) _ _ (rw (top, ← d .before .before .before .is-isolines .ensures, d .before .before .if2 .left, d .before .if3 .left, flag (a .settings) (a .patch) (d .subdivide .ensures) (e .before .is-discarded .ensures) (e .if4 .taken), ← c .before .is-empty .ensures, c .if5 .taken))
+    discarded (a .settings) (a .patch) top (d .before .before .before .is-isolines .ensures) (d .before .before .if2 .left)
+    (d .before .if3 .left) (flag (a .settings) (a .patch) (d .subdivide .ensures) (e .before .is-discarded .ensures) (e .if4 .taken)) (c .before .is-empty .ensures) (c .if5 .taken)
 
 returns-5 : tie.Need-returns-5
-unfolding verdict
 returns-5 c =
     let e = c .before .before in
     let a = e .before .before .before .before .before .before .before .before .before .before .args in
     let d = e .before .before in
     let top = good _ (d .before .before .before .before .before .is-top .ensures) (d .before .before .before .before .if1 .left) in
-    checked (a .settings) (a .patch) _ _ (rw (top, ← d .before .before .before .is-isolines .ensures, d .before .before .if2 .left, d .before .if3 .left, flag (a .settings) (a .patch) (d .subdivide .ensures) (e .before .is-discarded .ensures) (e .if4 .taken), ← c .before .is-empty .ensures, c .if5 .left))
+    discarded (a .settings) (a .patch) top (d .before .before .before .is-isolines .ensures) (d .before .before .if2 .left)
+    (d .before .if3 .left) (flag (a .settings) (a .patch) (d .subdivide .ensures) (e .before .is-discarded .ensures) (e .if4 .taken)) (c .before .is-empty .ensures) (c .if5 .left)
 
 patch-fault-requires : tie.Need-patch-fault-requires
 patch-fault-requires c κs =
@@ -62,13 +61,13 @@ patch-fault-requires c κs =
     top-as _ (good _ (d .before .before .before .before .before .is-top .ensures) (d .before .before .before .before .if1 .left))
 
 returns-6 : tie.Need-returns-6
-unfolding verdict patchFault
 returns-6 c =
     let e = c .before .before in
     let a = e .before .before .before .before .before .before .before .before .before .before .args in
     let d = e .before .before in
     let top = good _ (d .before .before .before .before .before .is-top .ensures) (d .before .before .before .before .if1 .left) in
-    checked (a .settings) (a .patch) _ _ (rw (top, ← d .before .before .before .is-isolines .ensures, d .before .before .if2 .left, d .before .if3 .left, flag (a .settings) (a .patch) (d .subdivide .ensures) (e .before .is-discarded .ensures) (e .if4 .left), ← c .before .turns-positive .ensures) (c .patch-fault .ensures))
+    kept (a .settings) (a .patch) top (d .before .before .before .is-isolines .ensures) (d .before .before .if2 .left)
+    (d .before .if3 .left) (flag (a .settings) (a .patch) (d .subdivide .ensures) (e .before .is-discarded .ensures) (e .if4 .left)) (c .before .turns-positive .ensures) (c .patch-fault .ensures)
 
 pub check-mesh-spec : {M : Type 1} → statement M
 check-mesh-spec =

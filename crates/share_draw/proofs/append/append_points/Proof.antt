@@ -29,7 +29,9 @@ add-with-used c =
 returns : tie.Need-returns
 returns c =
     let a = c .before .before .before .before .before .before .before .before .before .args in
-    append-done (c .before .before .before .before .before .before .before .part-start .ensures) (c .before .before .before .before .before .before .share-of .ensures) (a .words) (c .before .before .before .before .before .before .before .before .before .pre .1 ∙ sym (point-words (a .settings) (a .patch))) (c .before .before .before .write-points .ensures) (c .with-used .ensures)
+    append-done (c .before .before .before .before .before .before .before .part-start .ensures) (c .before .before .before .before .before .before .share-of .ensures)
+    (a .words) (c .before .before .before .before .before .before .before .before .before .pre .1 ∙ sym (point-words (a .settings) (a .patch)))
+    (c .before .before .before .write-points .ensures) (c .with-used .ensures)
 
 pub append-points-spec : {M : Type 1} → statement M
 append-points-spec =

@@ -19,49 +19,45 @@ returns c =
 returns-2 : tie.Need-returns-2
 returns-2 c =
     let accepts = c .before .before in
-    let left = accepts .before in
-    let test = left .before in
-    let top = test .before in
-    let a = top .before .before .args in
-    let is = test .is-top .ensures ∙ ap isTop (top .top-in .ensures) in
-    reply-as (found-state (a .settings .now) (a .designer) _ (good (test .is-top .result) is (left .if1 .left)) (bad (accepts .accepts .result) (accepts .accepts .ensures) (c .before .if2 .taken))) (c .refusal .ensures)
+    let test = accepts .before .before in
+    let a = test .before .before .before .args in
+    reply-as (found-state (a .settings .now) (a .designer) _
+    (good (test .is-top .result) (test .is-top .ensures ∙ ap isTop (test .before .top-in .ensures)) (accepts .before .if1 .left))
+    (bad (accepts .accepts .result) (accepts .accepts .ensures) (c .before .if2 .taken))) (c .refusal .ensures)
 
 returns-3 : tie.Need-returns-3
 returns-3 c =
     let fits = c .before .before in
     let accepts = fits .before in
-    let left = accepts .before in
-    let test = left .before in
-    let top = test .before in
-    let a = top .before .before .args in
-    let is = test .is-top .ensures ∙ ap isTop (top .top-in .ensures) in
-    reply-as (found-designer (a .settings .now) (a .designer) _ (good (test .is-top .result) is (left .if1 .left)) (good (accepts .accepts .result) (accepts .accepts .ensures) (fits .if2 .left)) (c .before .if3 .taken)) (c .refusal2 .ensures)
+    let test = accepts .before .before in
+    let a = test .before .before .before .args in
+    reply-as (found-designer (a .settings .now) (a .designer) _
+    (good (test .is-top .result) (test .is-top .ensures ∙ ap isTop (test .before .top-in .ensures)) (accepts .before .if1 .left))
+    (good (accepts .accepts .result) (accepts .accepts .ensures) (fits .if2 .left)) (c .before .if3 .taken)) (c .refusal2 .ensures)
 
 returns-4 : tie.Need-returns-4
 returns-4 c =
     let first = c .before .before in
-    let known = first .before .before in
-    let fits = known .before in
+    let fits = first .before .before .before in
     let accepts = fits .before in
-    let left = accepts .before in
-    let test = left .before in
-    let top = test .before in
-    let a = top .before .before .args in
-    let is = test .is-top .ensures ∙ ap isTop (top .top-in .ensures) in
-    reply-as (found-setting (a .settings .now) (a .designer) _ (good (test .is-top .result) is (left .if1 .left)) (good (accepts .accepts .result) (accepts .accepts .ensures) (fits .if2 .left)) (known .if3 .left) (first .first-unknown .ensures) (c .before .if4 .taken)) (c .unknown-setting .ensures)
+    let test = accepts .before .before in
+    let a = test .before .before .before .args in
+    reply-as (found-setting (a .settings .now) (a .designer) _
+    (good (test .is-top .result) (test .is-top .ensures ∙ ap isTop (test .before .top-in .ensures)) (accepts .before .if1 .left))
+    (good (accepts .accepts .result) (accepts .accepts .ensures) (fits .if2 .left)) (first .before .before .if3 .left) (first .first-unknown .ensures)
+    (c .before .if4 .taken)) (c .unknown-setting .ensures)
 
 returns-5 : tie.Need-returns-5
 returns-5 c =
     let first = c .before .before in
-    let known = first .before .before in
-    let fits = known .before in
+    let fits = first .before .before .before in
     let accepts = fits .before in
-    let left = accepts .before in
-    let test = left .before in
-    let top = test .before in
-    let a = top .before .before .args in
-    let is = test .is-top .ensures ∙ ap isTop (top .top-in .ensures) in
-    reply-as (found-none (a .settings .now) (a .designer) _ (good (test .is-top .result) is (left .if1 .left)) (good (accepts .accepts .result) (accepts .accepts .ensures) (fits .if2 .left)) (known .if3 .left) (first .first-unknown .ensures) (c .before .if4 .left)) (c .refusal3 .ensures)
+    let test = accepts .before .before in
+    let a = test .before .before .before .args in
+    reply-as (found-none (a .settings .now) (a .designer) _
+    (good (test .is-top .result) (test .is-top .ensures ∙ ap isTop (test .before .top-in .ensures)) (accepts .before .if1 .left))
+    (good (accepts .accepts .result) (accepts .accepts .ensures) (fits .if2 .left)) (first .before .before .if3 .left) (first .first-unknown .ensures)
+    (c .before .if4 .left)) (c .refusal3 .ensures)
 
 pub objection-spec : {M : Type 1} → statement M
 objection-spec =
