@@ -31,7 +31,7 @@ use Rattle.job_writer.proofs.RoundTrip.{record-again}
 use Rattle.job_words.specs.declared.found.Found.{Found}
 use Rattle.job_words.specs.Inputs.{isVersion, versionOfNumber, recordIn}
 use Rattle.job_words.specs.Found.{settingsOut, patternsOut, foundOf, foundAt}
-use Rattle.job_exports.specs.Calls.{RecordAsked, RecordCalled}
+use Rattle.job_exports.specs.Calls.{RecordMemory, RecordAsked, RecordCalled}
 use Rattle.job_exports.proofs.Calls.{record-known}
 use Rattle.job_words.proofs.Places.{found-end, found-other, found-here}
 
@@ -92,8 +92,8 @@ module _ (x : Record) where
       (z, rw (rw (z, same-record a) at (called .list)) (over-front k (recordBytes v x) (recordSize v) (sym (record-length v x))))
 
 -- what was read, written in its version into a list with room: the answer 0, and the bytes it was read from
-pub record-copied : (n : ℕ) (l : List ℕ) (at : ℕ) {bs ps next place k k′ c′ : List ℕ} {r : ℕ} → Bytes l → RecordAsked n l at bs ps next place 0
-    → recordSize (versionOfNumber n) ≤ length k → RecordCalled n bs ps k k′ c′ r
+pub record-copied : (n : ℕ) (l : List ℕ) (at : ℕ) {after : RecordMemory} {k k′ c′ : List ℕ} {r : ℕ} → Bytes l → RecordAsked n l at after 0
+    → recordSize (versionOfNumber n) ≤ length k → RecordCalled n (after .settings) (after .patterns) k k′ c′ r
     → (r ≡ 0) × (take (recordSize (versionOfNumber n)) k′ ≡ take (recordSize (versionOfNumber n)) (drop at l))
 record-copied n l at b asked room called =
     let w = was-read n l at (sym (asked .number)) in

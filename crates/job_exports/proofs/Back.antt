@@ -35,7 +35,7 @@ use Rattle.job_words.specs.Inputs.{isVersion, versionOfNumber, bitsIn, recordIn
 use Rattle.job_words.specs.Found.{settingsOut, patternsOut, foundOf, foundAt}
 use Rattle.job_words.proofs.Places.{found-here}
 use Rattle.job_exports.specs.Back.{SixPatterns, ReadBack}
-use Rattle.job_exports.specs.Calls.{headerSays, recordSays, HeaderCalled, RecordCalled, readCode, HeaderAsked, RecordAsked}
+use Rattle.job_exports.specs.Calls.{headerSays, recordSays, HeaderCalled, RecordCalled, readCode, HeaderAsked, RecordMemory, RecordAsked}
 use Rattle.job_exports.proofs.Calls.{header-known}
 
 -- ---- a version and its number
@@ -157,8 +157,8 @@ left-there file at size ys one n e = omega (arith, n, ap length e, length-take s
 
 -- the bytes of a written record, anywhere in a file, are read as the same record
 pub record-read-back : (n : ℕ) (bs ps : List ℕ) → length bs ≡ 6 → SixPatterns ps → {l l′ c′ : List ℕ} → RecordCalled n bs ps l l′ c′ 0
-    → (file : List ℕ) (at : ℕ) → take (getD c′ 0 0) (drop at file) ≡ take (getD c′ 0 0) l′ → {bs′ ps′ next′ place′ : List ℕ} {r : ℕ}
-    → RecordAsked n file at bs′ ps′ next′ place′ r → ReadBack n bs ps at bs′ ps′ next′ place′ r
+    → (file : List ℕ) (at : ℕ) → take (getD c′ 0 0) (drop at file) ≡ take (getD c′ 0 0) l′ → {after : RecordMemory} {r : ℕ}
+    → RecordAsked n file at after r → ReadBack n bs ps at after r
 record-read-back n bs ps n6 h {l} {l′} {c′} c file at e a =
     let v = versionOfNumber n in
     let x = recordIn bs ps in

@@ -27,7 +27,7 @@ use Rattle.job_words.specs.Found.{foundOf, foundAt}
 use Rattle.job_words.proofs.Places.{found-end, found-other, found-here}
 use Rattle.answer_codes.specs.Reports.{Reports}
 use Rattle.answer_codes.proofs.Exactly.{number-exactly, reported-exactly}
-use Rattle.job_exports.specs.Calls.{readCode, HeaderAsked, RecordAsked}
+use Rattle.job_exports.specs.Calls.{readCode, HeaderAsked, RecordMemory, RecordAsked}
 use Rattle.job_exports.specs.Exactly.{HeaderExactly, ReadThere, RecordExactly}
 use Rattle.job_exports.proofs.Back.{version-number}
 
@@ -152,7 +152,7 @@ module _ (n : ℕ) (l : List ℕ) (at : ℕ) where
           let m = record-exactly v l at (next-record.UnknownSetting place next) .0 f in
           rw (← m .2)
 
-  tells : {bs′ ps′ next′ place′ : List ℕ} {r : ℕ} (a : Stands) → Right a → RecordAsked n l at bs′ ps′ next′ place′ r → RecordExactly n l at place′ r
+  tells : {after : RecordMemory} {r : ℕ} (a : Stands) → Right a → RecordAsked n l at after r → RecordExactly n l at (after .place) r
   tells a t asked =
       let told : Reports foundFor placesFor a _ _ = record { number = asked .number ∙ t .number; words = asked .place ∙ t .place } in
       record {
@@ -165,12 +165,12 @@ module _ (n : ℕ) (l : List ℕ) (at : ℕ) where
         end = number-exactly standsIn (t .same) told (t .exactly) 255 refl;
       }
 
-  pub record-call-exactly : {bs′ ps′ next′ place′ : List ℕ} {r : ℕ} → RecordAsked n l at bs′ ps′ next′ place′ r → RecordExactly n l at place′ r
+  pub record-call-exactly : {after : RecordMemory} {r : ℕ} → RecordAsked n l at after r → RecordExactly n l at (after .place) r
   record-call-exactly asked = elim (decLe (length l) at) [
     | yes h ↦ tells ended (at-end h) asked
     | no h ↦ by-version (isVersion n) refl (omega arith) asked
   ]
     where
-      by-version : (b : Bool) → isVersion n ≡ b → at < length l → {bs′ ps′ next′ place′ : List ℕ} {r : ℕ} → RecordAsked n l at bs′ ps′ next′ place′ r → RecordExactly n l at place′ r
+      by-version : (b : Bool) → isVersion n ≡ b → at < length l → {after : RecordMemory} {r : ℕ} → RecordAsked n l at after r → RecordExactly n l at (after .place) r
       by-version true e h asked = tells (here (recordAt v l at)) (there h e) asked
       by-version false e h asked = tells other (of-other h e) asked

@@ -52,10 +52,17 @@ readCode UnknownVersion = refused 6
 abbrev pub HeaderAsked : List ℕ → List ℕ → ℕ → Type 0
 HeaderAsked l c′ r = Says oneWord (readCode (headerOf l)) c′ r
 
--- the contract of reading a record at a place of the bytes l; the call leaves bs′, ps′, next′ and place′ in memory
-pub record RecordAsked (n : ℕ) (l : List ℕ) (at : ℕ) (bs′ ps′ next′ place′ : List ℕ) (r : ℕ) : Type 0 where
+-- the caller's memory after a record is read: setting bytes and bit patterns, where reading continues, and the place of an unknown setting
+pub record RecordMemory : Type 0 where
+  pub settings : List ℕ
+  pub patterns : List ℕ
+  pub next : List ℕ
+  pub place : List ℕ
+
+-- the contract of reading a record at a place of the bytes l
+pub record RecordAsked (n : ℕ) (l : List ℕ) (at : ℕ) (after : RecordMemory) (r : ℕ) : Type 0 where
   pub number : r ≡ foundAt n l at .number
-  pub settings : bs′ ≡ foundAt n l at .settings
-  pub patterns : ps′ ≡ foundAt n l at .patterns
-  pub next : next′ ≡ foundAt n l at .next ∷ []
-  pub place : place′ ≡ foundAt n l at .place ∷ []
+  pub settings : after .settings ≡ foundAt n l at .settings
+  pub patterns : after .patterns ≡ foundAt n l at .patterns
+  pub next : after .next ≡ foundAt n l at .next ∷ []
+  pub place : after .place ≡ foundAt n l at .place ∷ []

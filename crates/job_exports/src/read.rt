@@ -22,7 +22,8 @@ pub extern "C" fn yoktvarim_read_record(
     next: &mut [usize; 1],
     place: &mut [u32; 1],
 ) -> u32
-    ensures { λ r. ⌜ RecordAsked version (now (bytes .entry)) at (now (settings .exit)) (now (patterns .exit)) (now (next .exit)) (now (place .exit)) r ⌝ }
+    ensures { λ r. ⌜ RecordAsked version (now (bytes .entry)) at
+        (record { settings = now (settings .exit); patterns = now (patterns .exit); next = now (next .exit); place = now (place .exit) }) r ⌝ }
 {
     let found = found_at(bytes, version, at);
     let six_settings = found.settings;
