@@ -9,7 +9,7 @@ use lib.ListN.{length, getD}
 use Rattle.compare_meshes.specs.declared.answer.Fault.the-variants.{NotThrees, UnknownIndex, EqualPoints}
 use Rattle.compare_meshes.specs.declared.answer.Comparison.{Comparison}
 use Rattle.compare_meshes.specs.declared.answer.Comparison.the-variants.{Differences, NoRoom, LeftRefused, RightRefused}
-use Rattle.compare_meshes.specs.Answers.{comparisonCode, compareVerdict}
+use Rattle.compare_meshes.specs.Answers.{MeshWords, comparisonCode, compareVerdict}
 use Rattle.call_answers.specs.Replies.{oneWord}
 use Rattle.compare_sameness.specs.Refusals.{AnswerMeans}
 use Rattle.compare_sameness.proofs.Exactly.{answer-means, means-answer, same-told, told-same}
@@ -43,11 +43,11 @@ same-answer (RightRefused NotThrees) = refl
 same-answer (RightRefused UnknownIndex) = refl
 same-answer (RightRefused EqualPoints) = refl
 
-module _ (lp li rp ri : List ℕ) where
-  exactly : (room : ℕ) (a : Comparison) → compareVerdict lp li rp ri room ≡ a ↔ AnswerMeans a lp li rp ri room
-  exactly room a = (λ e. rw e at (answer-means lp li rp ri room), means-answer lp li rp ri room a)
+module _ (left right : MeshWords) where
+  exactly : (room : ℕ) (a : Comparison) → compareVerdict left right room ≡ a ↔ AnswerMeans a left right room
+  exactly room a = (λ e. rw e at (answer-means left right room), means-answer left right room a)
 
-  pub compare-call-exactly : {xs xs′ c′ : List ℕ} {r : ℕ} → CompareCalled lp li rp ri xs xs′ c′ r → CompareExactly lp li rp ri (length xs) c′ r
+  pub compare-call-exactly : {xs xs′ c′ : List ℕ} {r : ℕ} → CompareCalled left right xs xs′ c′ r → CompareExactly left right (length xs) c′ r
   compare-call-exactly {xs} {c′ = c′} c =
       let room = length xs in
       let t : Reports numberOf wordsOf _ _ _ = record { number = c .says .number; words = c .says .counts } in
@@ -55,8 +55,8 @@ module _ (lp li rp ri : List ℕ) where
       record {
         answers = answered-exactly answerIn (same-answer _) t same-answer ex;
         same = (
-          λ h. told-same lp li rp ri room (told-back answerIn (same-answer _) t ∙ ap (λ (n : ℕ). answerIn n c′) (h .0) ∙ ap (λ (l : List ℕ). answerIn 0 l) (h .1)),
-          λ h. let e = same-told lp li rp ri room (h .0) (h .1) (h .2) in (c .says .number ∙ ap numberOf e, c .says .counts ∙ ap wordsOf e),
+          λ h. told-same left right room (told-back answerIn (same-answer _) t ∙ ap (λ (n : ℕ). answerIn n c′) (h .0) ∙ ap (λ (l : List ℕ). answerIn 0 l) (h .1)),
+          λ h. let e = same-told left right room (h .0) (h .1) (h .2) in (c .says .number ∙ ap numberOf e, c .says .counts ∙ ap wordsOf e),
         );
         compared = number-exactly answerIn (same-answer _) t ex 0 refl;
         no-room = number-exactly answerIn (same-answer _) t ex 40 refl;

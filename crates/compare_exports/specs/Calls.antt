@@ -1,5 +1,5 @@
--- What a call answers and leaves, for every input: lp and li are the words of the left mesh, rp and ri of the right mesh, xs
--- and xs′ the list of differences at entry and at exit, and c′ the count at exit. Assumes nothing.
+-- What a call answers and leaves, for every input: `left` and `right` are the words of the two meshes, xs and xs′ the list of
+-- differences at entry and at exit, and c′ the count at exit. Assumes nothing.
 use Prim.Native.Nat.{ℕ}
 use mathlib.Core.Path.{_≡_}
 use mathlib.Core.List.{List, [], _∷_}
@@ -9,9 +9,8 @@ use Rattle.answer_codes.specs.AnswerCode.{AnswerCode}
 use Rattle.draw_exports.specs.Calls.{ListCalled}
 use Rattle.call_answers.specs.Replies.{oneWord}
 use Rattle.answer_codes.specs.Reports.{AnsweredExactly}
-use Rattle.compare_differences.specs.Meshes.{readMesh}
 use Rattle.compare_differences.specs.Differences.{differences, words}
-use Rattle.compare_meshes.specs.Answers.{compareVerdict, comparisonCode}
+use Rattle.compare_meshes.specs.Answers.{MeshWords, meshIn, compareVerdict, comparisonCode}
 use Rattle.compare_meshes.specs.declared.answer.Fault.{Fault}
 use Rattle.compare_meshes.specs.declared.answer.Fault.the-variants.{NotThrees, UnknownIndex, EqualPoints}
 use Rattle.compare_meshes.specs.declared.answer.Comparison.{Comparison}
@@ -31,21 +30,22 @@ abbrev pub comparisonReply : AnswerCode → CountReply
 comparisonReply t = record { number = t .number; count = getD (t .values) 0 0 }
 
 -- the contract: the number and the count of the answer; for 0 the list begins with the differences, else it is unchanged
-abbrev pub CompareCalled : List ℕ → List ℕ → List ℕ → List ℕ → List ℕ → List ℕ → List ℕ → ℕ → Type 0
-CompareCalled lp li rp ri xs xs′ c′ r =
-    ListCalled (comparisonCode (compareVerdict lp li rp ri (length xs))) (words (differences (readMesh lp li) (readMesh rp ri))) xs xs′ c′ r
+abbrev pub CompareCalled : MeshWords → MeshWords → List ℕ → List ℕ → List ℕ → ℕ → Type 0
+CompareCalled left right xs xs′ c′ r =
+    ListCalled (comparisonCode (compareVerdict left right (length xs))) (words (differences (meshIn left) (meshIn right))) xs xs′ c′ r
 
 -- when the call gives each number, for a list of `room` words, and which count it leaves
-pub record CompareExactly (lp li rp ri : List ℕ) (room : ℕ) (c′ : List ℕ) (r : ℕ) : Type 0 where
+pub record CompareExactly (left right : MeshWords) (room : ℕ) (c′ : List ℕ) (r : ℕ) : Type 0 where
   -- each answer is given, by number and count, exactly if it is right
-  pub answers : AnsweredExactly (λ a. comparisonCode a .number) (λ a. oneWord (comparisonCode a .values)) (λ a. AnswerMeans a lp li rp ri room) c′ r
+  pub answers : AnsweredExactly (λ a. comparisonCode a .number) (λ a. oneWord (comparisonCode a .values)) (λ a. AnswerMeans a left right room) c′ r
   -- the same for each number; 0 with the count 0: both meshes can be compared, and have the same points and triangles
-  pub same : ((r ≡ 0) × (c′ ≡ 0 ∷ [])) ↔ (Comparable lp li × Comparable rp ri × SameMesh (readMesh lp li) (readMesh rp ri))
-  pub compared : (r ≡ 0) ↔ AnswerMeans (Differences (getD c′ 0 0)) lp li rp ri room
-  pub no-room : (r ≡ 40) ↔ AnswerMeans (NoRoom (getD c′ 0 0)) lp li rp ri room
-  pub left-not-threes : (r ≡ 41) ↔ AnswerMeans (LeftRefused NotThrees) lp li rp ri room
-  pub left-unknown-index : (r ≡ 42) ↔ AnswerMeans (LeftRefused UnknownIndex) lp li rp ri room
-  pub left-equal-points : (r ≡ 43) ↔ AnswerMeans (LeftRefused EqualPoints) lp li rp ri room
-  pub right-not-threes : (r ≡ 44) ↔ AnswerMeans (RightRefused NotThrees) lp li rp ri room
-  pub right-unknown-index : (r ≡ 45) ↔ AnswerMeans (RightRefused UnknownIndex) lp li rp ri room
-  pub right-equal-points : (r ≡ 46) ↔ AnswerMeans (RightRefused EqualPoints) lp li rp ri room
+  pub same : ((r ≡ 0) × (c′ ≡ 0 ∷ []))
+      ↔ (Comparable (left .points) (left .indices) × Comparable (right .points) (right .indices) × SameMesh (meshIn left) (meshIn right))
+  pub compared : (r ≡ 0) ↔ AnswerMeans (Differences (getD c′ 0 0)) left right room
+  pub no-room : (r ≡ 40) ↔ AnswerMeans (NoRoom (getD c′ 0 0)) left right room
+  pub left-not-threes : (r ≡ 41) ↔ AnswerMeans (LeftRefused NotThrees) left right room
+  pub left-unknown-index : (r ≡ 42) ↔ AnswerMeans (LeftRefused UnknownIndex) left right room
+  pub left-equal-points : (r ≡ 43) ↔ AnswerMeans (LeftRefused EqualPoints) left right room
+  pub right-not-threes : (r ≡ 44) ↔ AnswerMeans (RightRefused NotThrees) left right room
+  pub right-unknown-index : (r ≡ 45) ↔ AnswerMeans (RightRefused UnknownIndex) left right room
+  pub right-equal-points : (r ≡ 46) ↔ AnswerMeans (RightRefused EqualPoints) left right room

@@ -11,7 +11,8 @@ pub extern "C" fn yoktvarim_compare_meshes(
     differences: &mut [u64],
     count: &mut [u64; 1],
 ) -> u32
-    ensures { λ r. ⌜ CompareCalled (now («left_points» .entry)) (now («left_indices» .entry)) (now («right_points» .entry)) (now («right_indices» .entry))
+    ensures { λ r. ⌜ CompareCalled (record { points = now («left_points» .entry); indices = now («left_indices» .entry) })
+        (record { points = now («right_points» .entry); indices = now («right_indices» .entry) })
         (now (differences .entry)) (now (differences .exit)) (now (count .exit)) r ⌝ }
 {
     let answer = compare_meshes::tool::compare(

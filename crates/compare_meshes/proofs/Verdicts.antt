@@ -17,9 +17,9 @@ use Rattle.compare_meshes.specs.declared.answer.Fault.the-variants.{NotT
 use Rattle.compare_meshes.specs.declared.answer.Checked.the-variants.{Sound, Refused}
 use Rattle.compare_meshes.specs.declared.answer.Comparison.{Comparison}
 use Rattle.compare_meshes.specs.declared.answer.Comparison.the-variants.{Differences, NoRoom, LeftRefused, RightRefused}
-use Rattle.compare_differences.specs.Meshes.{readMesh, DistinctAndNumbered}
+use Rattle.compare_differences.specs.Meshes.{DistinctAndNumbered}
 use Rattle.compare_differences.specs.Differences.{Difference, differences, words}
-use Rattle.compare_meshes.specs.Answers.{checked, counted, compareVerdict, comparisonCode, DifferencesListed, Compared}
+use Rattle.compare_meshes.specs.Answers.{MeshWords, meshIn, checked, counted, compareVerdict, comparisonCode, DifferencesListed, Compared}
 use Rattle.answer_codes.specs.Drew.{listAfter}
 
 pub counted-short : (n k room : ℕ) → n ≡ k → room / 3 < n → NoRoom n ≡ counted k room
@@ -45,20 +45,21 @@ right-untouched NotThrees xs ws = refl
 right-untouched UnknownIndex xs ws = refl
 right-untouched EqualPoints xs ws = refl
 
-module _ (lp li rp ri xs : List ℕ) where
+module _ (left right : MeshWords) (xs : List ℕ) where
   -- the left mesh is refused
-  pub refused-left : (f : Fault) → checked lp li ≡ Refused f → Compared lp li rp ri xs xs (LeftRefused f)
+  pub refused-left : (f : Fault) → checked (left .points) (left .indices) ≡ Refused f → Compared left right xs xs (LeftRefused f)
   unfolding compareVerdict
   refused-left f e = record { answer = rw e; list = left-untouched f xs _ }
 
   -- the right mesh is refused
-  pub refused-right : (f : Fault) → checked lp li ≡ Sound → checked rp ri ≡ Refused f → Compared lp li rp ri xs xs (RightRefused f)
+  pub refused-right : (f : Fault) → checked (left .points) (left .indices) ≡ Sound → checked (right .points) (right .indices) ≡ Refused f
+      → Compared left right xs xs (RightRefused f)
   unfolding compareVerdict
   refused-right f e h = record { answer = rw (e, h); list = right-untouched f xs _ }
 
   -- the differences are listed
-  pub both-sound : (xs′ : List ℕ) (r : Comparison) → checked lp li ≡ Sound → checked rp ri ≡ Sound
-      → DifferencesListed (differences (readMesh lp li) (readMesh rp ri)) xs xs′ r → Compared lp li rp ri xs xs′ r
+  pub both-sound : (xs′ : List ℕ) (r : Comparison) → checked (left .points) (left .indices) ≡ Sound → checked (right .points) (right .indices) ≡ Sound
+      → DifferencesListed (differences (meshIn left) (meshIn right)) xs xs′ r → Compared left right xs xs′ r
   unfolding compareVerdict
   both-sound xs′ r e h w = record { answer = w .answer ∙ rw (e, h); list = w .list }
 

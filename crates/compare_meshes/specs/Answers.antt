@@ -16,8 +16,17 @@ use Rattle.compare_meshes.specs.declared.answer.Checked.{Checked}
 use Rattle.compare_meshes.specs.declared.answer.Checked.the-variants.{Sound, Refused}
 use Rattle.compare_meshes.specs.declared.answer.Comparison.{Comparison}
 use Rattle.compare_meshes.specs.declared.answer.Comparison.the-variants.{Differences, NoRoom, LeftRefused, RightRefused}
-use Rattle.compare_differences.specs.Meshes.{readMesh}
+use Rattle.compare_differences.specs.Meshes.{Mesh, readMesh}
 use Rattle.compare_differences.specs.Differences.{Difference, differences, words}
+
+-- a mesh as words: three for each point, and the indices
+pub record MeshWords : Type 0 where
+  pub points : List ℕ
+  pub indices : List ℕ
+
+-- the mesh that they hold
+abbrev pub meshIn : MeshWords → Mesh
+meshIn m = readMesh (m .points) (m .indices)
 
 -- why a mesh is refused: the number of point words or of indices is not a multiple of three, then an index is not the number of a point,
 -- then two points are equal
@@ -37,10 +46,10 @@ abbrev pub counted : ℕ → ℕ → Comparison
 counted n room = cond (ltb room (3 * n)) (NoRoom n) (Differences n)
 
 -- the answer for a left and a right mesh and a list of `room` words: the left mesh is checked first
-unfoldable pub compareVerdict : List ℕ → List ℕ → List ℕ → List ℕ → ℕ → Comparison
-compareVerdict lp li rp ri room =
-    unlessFault LeftRefused (checked lp li)
-    (unlessFault RightRefused (checked rp ri) (counted (length (differences (readMesh lp li) (readMesh rp ri))) room))
+unfoldable pub compareVerdict : MeshWords → MeshWords → ℕ → Comparison
+compareVerdict left right room =
+    unlessFault LeftRefused (checked (left .points) (left .indices))
+    (unlessFault RightRefused (checked (right .points) (right .indices)) (counted (length (differences (meshIn left) (meshIn right))) room))
 
 -- the three refusals of one side, with the numbers n, n + 1 and n + 2
 abbrev pub faultCode : ℕ → Fault → AnswerCode
@@ -66,6 +75,5 @@ abbrev pub DifferencesListed : List Difference → List ℕ → List ℕ → Com
 DifferencesListed ds xs xs′ r = ListAnswered (counted (length ds) (length xs)) r (words ds) xs xs′
 
 -- the contract of comparing a left and a right mesh, given as words
-abbrev pub Compared : List ℕ → List ℕ → List ℕ → List ℕ → List ℕ → List ℕ → Comparison → Type 0
-Compared lp li rp ri xs xs′ r =
-    ListAnswered (compareVerdict lp li rp ri (length xs)) r (words (differences (readMesh lp li) (readMesh rp ri))) xs xs′
+abbrev pub Compared : MeshWords → MeshWords → List ℕ → List ℕ → Comparison → Type 0
+Compared left right xs xs′ r = ListAnswered (compareVerdict left right (length xs)) r (words (differences (meshIn left) (meshIn right))) xs xs′

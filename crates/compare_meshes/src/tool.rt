@@ -133,7 +133,8 @@ pub fn compare(
     right_indices: &[u16],
     out: &mut [u64],
 ) -> Comparison
-    ensures { λ r. ⌜ Compared (now («left_points» .entry)) (now («left_indices» .entry)) (now («right_points» .entry)) (now («right_indices» .entry)) (now (out .entry)) (now (out .exit)) r ⌝ }
+    ensures { λ r. ⌜ Compared (record { points = now («left_points» .entry); indices = now («left_indices» .entry) })
+        (record { points = now («right_points» .entry); indices = now («right_indices» .entry) }) (now (out .entry)) (now (out .exit)) r ⌝ }
 {
     let left = check_mesh(left_points, left_indices);
     if let Checked::Refused(fault) = left {

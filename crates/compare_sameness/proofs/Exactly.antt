@@ -20,8 +20,7 @@ use Rattle.compare_meshes.specs.declared.answer.Checked.{Checked}
 use Rattle.compare_meshes.specs.declared.answer.Checked.the-variants.{Sound, Refused}
 use Rattle.compare_meshes.specs.declared.answer.Comparison.{Comparison}
 use Rattle.compare_meshes.specs.declared.answer.Comparison.the-variants.{Differences, NoRoom, LeftRefused, RightRefused}
-use Rattle.compare_meshes.specs.Answers.{checked, unlessFault, compareVerdict}
-use Rattle.compare_differences.specs.Meshes.{readMesh}
+use Rattle.compare_meshes.specs.Answers.{MeshWords, meshIn, checked, unlessFault, compareVerdict}
 use Rattle.compare_differences.specs.Differences.{differences}
 use Rattle.compare_sameness.specs.Same.{SameMesh}
 use Rattle.compare_sameness.specs.Refusals.{InThrees, Comparable, PastPoints, TwoEqual, CheckMeans, AnswerMeans}
@@ -127,33 +126,35 @@ module _ (pw iw : List ℕ) where
   means-check (Refused EqualPoints) h = rw (is-threes (h .0), is-known (h .1), is-equal (h .2))
 
 -- ---- the answer
-module _ (lp li rp ri : List ℕ) (room : ℕ) where
+module _ (left right : MeshWords) (room : ℕ) where
   abbrev total : ℕ
-  total = length (differences (readMesh lp li) (readMesh rp ri))
+  total = length (differences (meshIn left) (meshIn right))
 
-  pub answer-means : AnswerMeans (compareVerdict lp li rp ri room) lp li rp ri room
+  pub answer-means : AnswerMeans (compareVerdict left right room) left right room
   unfolding compareVerdict
-  answer-means = go (checked lp li) (checked rp ri) (ltb room (3 * total)) (check-means lp li) (check-means rp ri) refl
+  answer-means =
+      go (checked (left .points) (left .indices)) (checked (right .points) (right .indices)) (ltb room (3 * total))
+      (check-means (left .points) (left .indices)) (check-means (right .points) (right .indices)) refl
     where
-      go : (a b : Checked) (s : Bool) → CheckMeans a lp li → CheckMeans b rp ri → ltb room (3 * total) ≡ s
-          → AnswerMeans (unlessFault LeftRefused a (unlessFault RightRefused b (cond s (NoRoom total) (Differences total)))) lp li rp ri room
+      go : (a b : Checked) (s : Bool) → CheckMeans a (left .points) (left .indices) → CheckMeans b (right .points) (right .indices) → ltb room (3 * total) ≡ s
+          → AnswerMeans (unlessFault LeftRefused a (unlessFault RightRefused b (cond s (NoRoom total) (Differences total)))) left right room
       go (Refused f) b s l r e = l
       go Sound (Refused f) s l r e = (l, r)
       go Sound Sound true l r e = ((l, r, refl), ltb-true room (3 * total) e)
       go Sound Sound false l r e = ((l, r, refl), ltb-false room (3 * total) e)
 
-  pub means-answer : (a : Comparison) → AnswerMeans a lp li rp ri room → compareVerdict lp li rp ri room ≡ a
+  pub means-answer : (a : Comparison) → AnswerMeans a left right room → compareVerdict left right room ≡ a
   unfolding compareVerdict
-  means-answer (LeftRefused f) h = rw (means-check lp li (Refused f) h)
-  means-answer (RightRefused f) h = rw (means-check lp li Sound (h .0), means-check rp ri (Refused f) (h .1))
-  means-answer (NoRoom n) h = rw (means-check lp li Sound (h .0 .0), means-check rp ri Sound (h .0 .1), h .0 .2, lt-ltb room (3 * n) (h .1))
-  means-answer (Differences n) h = rw (means-check lp li Sound (h .0 .0), means-check rp ri Sound (h .0 .1), h .0 .2, le-ltb room (3 * n) (h .1))
+  means-answer (LeftRefused f) h = rw (means-check (left .points) (left .indices) (Refused f) h)
+  means-answer (RightRefused f) h = rw (means-check (left .points) (left .indices) Sound (h .0), means-check (right .points) (right .indices) (Refused f) (h .1))
+  means-answer (NoRoom n) h = rw (means-check (left .points) (left .indices) Sound (h .0 .0), means-check (right .points) (right .indices) Sound (h .0 .1), h .0 .2, lt-ltb room (3 * n) (h .1))
+  means-answer (Differences n) h = rw (means-check (left .points) (left .indices) Sound (h .0 .0), means-check (right .points) (right .indices) Sound (h .0 .1), h .0 .2, le-ltb room (3 * n) (h .1))
 
   -- "no differences" is answered exactly if both meshes can be compared and have the same points and triangles, whatever the room
-  pub same-told : Comparable lp li → Comparable rp ri → SameMesh (readMesh lp li) (readMesh rp ri) → compareVerdict lp li rp ri room ≡ Differences 0
-  same-told l r s = means-answer (Differences 0) ((l, r, ap length (same-none (readMesh lp li) (readMesh rp ri) s)), omega arith)
+  pub same-told : Comparable (left .points) (left .indices) → Comparable (right .points) (right .indices) → SameMesh (meshIn left) (meshIn right) → compareVerdict left right room ≡ Differences 0
+  same-told l r s = means-answer (Differences 0) ((l, r, ap length (same-none (meshIn left) (meshIn right) s)), omega arith)
 
-  pub told-same : compareVerdict lp li rp ri room ≡ Differences 0 → Comparable lp li × Comparable rp ri × SameMesh (readMesh lp li) (readMesh rp ri)
+  pub told-same : compareVerdict left right room ≡ Differences 0 → Comparable (left .points) (left .indices) × Comparable (right .points) (right .indices) × SameMesh (meshIn left) (meshIn right)
   told-same e =
       let w = rw e at answer-means in
-      (w .0 .0, w .0 .1, none-same (readMesh lp li) (readMesh rp ri) (empty _ (w .0 .2)))
+      (w .0 .0, w .0 .1, none-same (meshIn left) (meshIn right) (empty _ (w .0 .2)))

@@ -13,8 +13,8 @@ use Rattle.compare_meshes.specs.declared.answer.Checked.{Checked}
 use Rattle.compare_meshes.specs.declared.answer.Checked.the-variants.{Sound, Refused}
 use Rattle.compare_meshes.specs.declared.answer.Comparison.{Comparison}
 use Rattle.compare_meshes.specs.declared.answer.Comparison.the-variants.{Differences, NoRoom, LeftRefused, RightRefused}
-use Rattle.compare_differences.specs.Meshes.{readMesh}
 use Rattle.compare_differences.specs.Differences.{differences}
+use Rattle.compare_meshes.specs.Answers.{MeshWords, meshIn}
 
 -- the numbers of point words and of indices are multiples of three
 pub record InThrees (pw iw : List ℕ) : Type 0 where
@@ -53,12 +53,13 @@ CheckMeans Sound pw iw = Comparable pw iw
 CheckMeans (Refused f) pw iw = FaultMeans f pw iw
 
 -- both meshes can be compared, and have n differences
-abbrev pub HasDifferences : List ℕ → List ℕ → List ℕ → List ℕ → ℕ → Type 0
-HasDifferences lp li rp ri n = Comparable lp li × Comparable rp ri × (length (differences (readMesh lp li) (readMesh rp ri)) ≡ n)
+abbrev pub HasDifferences : MeshWords → MeshWords → ℕ → Type 0
+HasDifferences left right n =
+    Comparable (left .points) (left .indices) × Comparable (right .points) (right .indices) × (length (differences (meshIn left) (meshIn right)) ≡ n)
 
 -- what each answer means, for a list of `room` words: the left mesh is checked first, and room last
-abbrev pub AnswerMeans : Comparison → List ℕ → List ℕ → List ℕ → List ℕ → ℕ → Type 0
-AnswerMeans (LeftRefused f) lp li rp ri room = FaultMeans f lp li
-AnswerMeans (RightRefused f) lp li rp ri room = Comparable lp li × FaultMeans f rp ri
-AnswerMeans (NoRoom n) lp li rp ri room = HasDifferences lp li rp ri n × (room < 3 * n)
-AnswerMeans (Differences n) lp li rp ri room = HasDifferences lp li rp ri n × (3 * n ≤ room)
+abbrev pub AnswerMeans : Comparison → MeshWords → MeshWords → ℕ → Type 0
+AnswerMeans (LeftRefused f) left right room = FaultMeans f (left .points) (left .indices)
+AnswerMeans (RightRefused f) left right room = Comparable (left .points) (left .indices) × FaultMeans f (right .points) (right .indices)
+AnswerMeans (NoRoom n) left right room = HasDifferences left right n × (room < 3 * n)
+AnswerMeans (Differences n) left right room = HasDifferences left right n × (3 * n ≤ room)

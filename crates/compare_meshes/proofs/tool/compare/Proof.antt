@@ -6,11 +6,11 @@ use Rattle.compare_meshes.proofs.tool.compare.Statement.{statement}
 use Rattle.compare_meshes.proofs.tool.compare.Tie as tie
 
 returns : tie.Need-returns
-returns c = refused-left _ _ _ _ _ _ (sym (c .before .before .before .check-mesh .ensures) ∙ c .before .left .given .1)
+returns c = refused-left _ _ _ _ (sym (c .before .before .before .check-mesh .ensures) ∙ c .before .left .given .1)
 
 returns-2 : tie.Need-returns-2
 returns-2 c =
-    refused-right _ _ _ _ _ _ (sym (c .before .before .before .before .before .before .check-mesh .ensures) ∙
+    refused-right _ _ _ _ (sym (c .before .before .before .before .before .before .check-mesh .ensures) ∙
     c .before .before .before .before .enum-told .given .1) (sym (c .before .before .before .check-mesh2 .ensures) ∙ c .before .right .given .1)
 
 list-differences-requires : tie.Need-list-differences-requires
@@ -21,7 +21,7 @@ list-differences-requires c κs = (
 
 returns-3 : tie.Need-returns-3
 returns-3 c =
-    both-sound _ _ _ _ _ _ _ (sym (c .before .before .before .before .before .before .before .before .before .check-mesh .ensures) ∙
+    both-sound _ _ _ _ _ (sym (c .before .before .before .before .before .before .before .before .before .check-mesh .ensures) ∙
     c .before .before .before .before .before .before .before .enum-told .given .1)
     (sym (c .before .before .before .before .before .before .check-mesh2 .ensures) ∙ c .before .before .before .before .enum-told2 .given .1)
     (c .before .before .list-differences .ensures)
