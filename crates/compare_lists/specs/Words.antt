@@ -5,17 +5,17 @@ use Rattle.compare_differences.specs.Meshes.{pointRow, faceRow, readMesh}
 use Rattle.compare_differences.specs.Differences.{pointDifferences, faceDifferences, differences, words}
 
 -- of the points on one side that the other side lacks
-abbrev pub pointWords : ℕ → List ℕ → List ℕ → List ℕ
-pointWords side pw ow = words (pointDifferences side (pointRow pw) (pointRow ow))
+abbrev pub pointDifferenceWords : ℕ → List ℕ → List ℕ → List ℕ
+pointDifferenceWords side pw ow = words (pointDifferences side (pointRow pw) (pointRow ow))
 
 -- of the triangles
-abbrev pub faceWords : ℕ → List ℕ → List ℕ → List ℕ → List ℕ → List ℕ
-faceWords side pw iw ow jw = words (faceDifferences side (faceRow pw iw) (faceRow ow jw))
+abbrev pub faceDifferenceWords : ℕ → List ℕ → List ℕ → List ℕ → List ℕ → List ℕ
+faceDifferenceWords side pw iw ow jw = words (faceDifferences side (faceRow pw iw) (faceRow ow jw))
 
 -- of the points on both sides, the left side first
-abbrev pub allPointWords : List ℕ → List ℕ → List ℕ
-allPointWords lp rp = pointWords 0 lp rp ++ pointWords 1 rp lp
+abbrev pub allPointDifferenceWords : List ℕ → List ℕ → List ℕ
+allPointDifferenceWords lp rp = pointDifferenceWords 0 lp rp ++ pointDifferenceWords 1 rp lp
 
 -- of all differences
-abbrev pub allWords : List ℕ → List ℕ → List ℕ → List ℕ → List ℕ
-allWords lp li rp ri = words (differences (readMesh lp li) (readMesh rp ri))
+abbrev pub differenceWords : List ℕ → List ℕ → List ℕ → List ℕ → List ℕ
+differenceWords lp li rp ri = words (differences (readMesh lp li) (readMesh rp ri))

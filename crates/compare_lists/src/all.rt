@@ -6,7 +6,7 @@ ghost use Rattle.buffer.specs.Over.{Wrote};
 ghost use Rattle.compare_differences.specs.Meshes.{NoneRepeated, DistinctAndNumbered, readMesh};
 ghost use Rattle.compare_differences.specs.Differences.{differences};
 ghost use Rattle.compare_table_flags.specs.Flags.{PointFlags, MeshFlags};
-ghost use Rattle.compare_lists.specs.Words.{allPointWords, allWords};
+ghost use Rattle.compare_lists.specs.Words.{allPointDifferenceWords, differenceWords};
 use crate::list::count_faces;
 use crate::list::count_points;
 use crate::list::write_faces;
@@ -60,8 +60,8 @@ fn write_all_points(
     out: &mut [u64],
 ) -> usize
     requires { ⌜ NoneRepeated (now «left_points») × NoneRepeated (now «right_points») ⌝ ∗ ⌜ PointFlags known (now «left_points») (now «right_points») (now «left_flags») ⌝ ∗
-        ⌜ PointFlags known (now «right_points») (now «left_points») (now «right_flags») ⌝ ∗ ⌜ length (allPointWords (now «left_points») (now «right_points»)) ≤ length (now out) ⌝ }
-    ensures { λ r. ⌜ Wrote (now (out .entry)) 0 (allPointWords (now («left_points» .entry)) (now («right_points» .entry))) (now (out .exit)) r ⌝ }
+        ⌜ PointFlags known (now «right_points») (now «left_points») (now «right_flags») ⌝ ∗ ⌜ length (allPointDifferenceWords (now «left_points») (now «right_points»)) ≤ length (now out) ⌝ }
+    ensures { λ r. ⌜ Wrote (now (out .entry)) 0 (allPointDifferenceWords (now («left_points» .entry)) (now («right_points» .entry))) (now (out .exit)) r ⌝ }
 {
     let w = write_points(out, 0, 0, left_points, right_points, known, left_flags);
     write_points(out, w, 1, right_points, left_points, known, right_flags)
@@ -83,8 +83,8 @@ pub fn write_differences(
     requires { ⌜ DistinctAndNumbered (now «left_points») (now «left_indices») ⌝ ∗
         ⌜ DistinctAndNumbered (now «right_points») (now «right_indices») ⌝ ∗ ⌜ MeshFlags known (now «left_points») (now «left_indices») (now «right_points») (now «right_indices»)
         (now «left_point_flags») (now «left_face_flags») (now «right_point_flags») (now «right_face_flags») ⌝ ∗
-        ⌜ length (allWords (now «left_points») (now «left_indices») (now «right_points») (now «right_indices»)) ≤ length (now out) ⌝ }
-    ensures { λ r. ⌜ Wrote (now (out .entry)) 0 (allWords (now («left_points» .entry)) (now («left_indices» .entry)) (now («right_points» .entry)) (now («right_indices» .entry)))
+        ⌜ length (differenceWords (now «left_points») (now «left_indices») (now «right_points») (now «right_indices»)) ≤ length (now out) ⌝ }
+    ensures { λ r. ⌜ Wrote (now (out .entry)) 0 (differenceWords (now («left_points» .entry)) (now («left_indices» .entry)) (now («right_points» .entry)) (now («right_indices» .entry)))
         (now (out .exit)) r ⌝ }
 {
     let w = write_all_points(

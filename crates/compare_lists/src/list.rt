@@ -9,7 +9,7 @@ ghost use Rattle.compare_differences.specs.Lacking.{passing, lacking};
 ghost use Rattle.compare_differences.specs.Meshes.{NoneRepeated, DistinctAndNumbered, pointRow, faceRow, sameFace};
 ghost use Rattle.compare_table_flags.specs.Flags.{isSet, PointFlags, FaceFlags};
 ghost use Rattle.compare_differences.specs.Differences.{wordsIf};
-ghost use Rattle.compare_lists.specs.Words.{pointWords, faceWords};
+ghost use Rattle.compare_lists.specs.Words.{pointDifferenceWords, faceDifferenceWords};
 use crate::ask::lacks_face;
 use crate::ask::lacks_point;
 
@@ -105,8 +105,8 @@ pub(crate) fn write_points(
     known: bool,
     flags: &[u8],
 ) -> usize
-    requires { ⌜ NoneRepeated (now points) ⌝ ∗ ⌜ PointFlags known (now points) (now others) (now flags) ⌝ ∗ ⌜ at + length (pointWords side (now points) (now others)) ≤ length (now out) ⌝ }
-    ensures { λ r. ⌜ Wrote (now (out .entry)) at (pointWords side (now (points .entry)) (now (others .entry))) (now (out .exit)) r ⌝ }
+    requires { ⌜ NoneRepeated (now points) ⌝ ∗ ⌜ PointFlags known (now points) (now others) (now flags) ⌝ ∗ ⌜ at + length (pointDifferenceWords side (now points) (now others)) ≤ length (now out) ⌝ }
+    ensures { λ r. ⌜ Wrote (now (out .entry)) at (pointDifferenceWords side (now (points .entry)) (now (others .entry))) (now (out .exit)) r ⌝ }
 {
     let count = points.len() / 3;
     let mut to = at;
@@ -138,8 +138,10 @@ pub(crate) fn write_faces(
 ) -> usize
     requires { ⌜ DistinctAndNumbered (now points) (now indices) ⌝ ∗ ⌜ DistinctAndNumbered (now «other_points») (now «other_indices») ⌝ ∗
         ⌜ FaceFlags known (now points) (now indices) (now «other_points») (now «other_indices») (now flags) ⌝ ∗
-        ⌜ at + length (faceWords side (now points) (now indices) (now «other_points») (now «other_indices»)) ≤ length (now out) ⌝ }
-    ensures { λ r. ⌜ Wrote (now (out .entry)) at (faceWords side (now (points .entry)) (now (indices .entry)) (now («other_points» .entry)) (now («other_indices» .entry))) (now (out .exit)) r ⌝ }
+        ⌜ at + length (faceDifferenceWords side (now points) (now indices) (now «other_points») (now «other_indices»)) ≤ length (now out) ⌝ }
+    ensures { λ r. ⌜ Wrote (now (out .entry)) at
+        (faceDifferenceWords side (now (points .entry)) (now (indices .entry)) (now («other_points» .entry)) (now («other_indices» .entry)))
+        (now (out .exit)) r ⌝ }
 {
     let count = indices.len() / 3;
     let mut to = at;

@@ -9,7 +9,7 @@ use lib.Ieee.Exact.{HasValue}
 use lib.Ieee.Positive.{num, den, positive, den-pos, own-value, first-pos, value-pos, value→cross, le→cross, cross→le, through, above-of-le}
 use Rattle.level.specs.Top.{Top, mostSegments}
 use Rattle.level.specs.Clamp.{lowest, highest, clampedLevel}
-use Rattle.level.specs.Scale.{scaledLevel, ofParts, LeastParts, InRange}
+use Rattle.level.specs.Scale.{scaledLevel, ofParts, LeastParts, ScaledInRange}
 use Rattle.level.specs.declared.Spacing.{Spacing}
 use Rattle.level.specs.declared.Spacing.the-variants.{Equal, FractionalEven, FractionalOdd}
 use Rattle.level.proofs.Within.{highest-value, ends, level-within, level-positive}
@@ -51,7 +51,7 @@ whole-parts x n v = parts-least x (65536 * n) (omega (arith, value→cross x n 1
 
 -- ---- L of every level
 -- a number between L of the range's low end and of its high end is in range
-in-range : (s : Spacing) (t L : ℕ) → Top t → (scaledLevel (lowest s) ≤ L) × (L ≤ 65536 * mostSegments s t) → InRange L
+in-range : (s : Spacing) (t L : ℕ) → Top t → (scaledLevel (lowest s) ≤ L) × (L ≤ 65536 * mostSegments s t) → ScaledInRange L
 unfolding scaledLevel
 in-range Equal t L top h = omega arith
 in-range FractionalEven t L top h = omega arith
@@ -72,5 +72,5 @@ module _ (s : Spacing) (t : ℕ) (top : Top t) (x : Float) where
         le-trans (parts-rise y (highest s t) p (e .high) (w .most)) (whole-parts (highest s t) (mostSegments s t) (highest-value s t top)),
       )
 
-  pub level-in-range : InRange (scaledLevel (clampedLevel s t x))
+  pub level-in-range : ScaledInRange (scaledLevel (clampedLevel s t x))
   level-in-range = in-range s t (scaledLevel (clampedLevel s t x)) top level-parts

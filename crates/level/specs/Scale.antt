@@ -24,6 +24,6 @@ pub record LeastParts (x : Float) (L : ℕ) : Type 0 where
   pub least : (k : ℕ) → T (le x (ofParts k)) → L ≤ k
 
 -- L can come from a level from 1 to 64
-pub record InRange (L : ℕ) : Type 0 where
+pub record ScaledInRange (L : ℕ) : Type 0 where
   pub least : 65536 ≤ L
   pub most : L ≤ 4194304

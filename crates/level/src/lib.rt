@@ -4,7 +4,7 @@ ghost use lib.Ieee.{binary32, ofBits};
 ghost use Rattle.level.specs.Discard.{discarded};
 ghost use Rattle.level.specs.Top.{Top, isTop};
 ghost use Rattle.level.specs.Clamp.{lowest, highest, clamped, sideOf, clampOf, From1To64};
-ghost use Rattle.level.specs.Scale.{scaledLevel, InRange};
+ghost use Rattle.level.specs.Scale.{scaledLevel, ScaledInRange};
 ghost use Rattle.level.specs.Segments.{segmentsAt, segmentsOf, raised, asInner};
 
 pub enum Spacing {
@@ -125,7 +125,7 @@ fn parts_of(x: f32) -> u32
 
 // Returns n and L of a scaled level.
 fn segments_at(scaled: u32, spacing: Spacing) -> Segments
-    requires { ⌜ InRange scaled ⌝ }
+    requires { ⌜ ScaledInRange scaled ⌝ }
     ensures { λ r. ⌜ r ≡ segmentsAt spacing scaled ⌝ }
 {
     match spacing {
