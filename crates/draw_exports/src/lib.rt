@@ -10,4 +10,4 @@
 // The answer is a number: 0 drawn (or measured), 1 discarded, 3 no room for vertices, 4 no room for indices,
 // 8 unknown setting, 11 bad top. A bad top comes before all else. Every answer but 0 leaves the list unchanged.
 pub mod draw;
-pub mod measure;
+pub mod measuring;

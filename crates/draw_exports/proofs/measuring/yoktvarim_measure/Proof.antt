@@ -1,8 +1,8 @@
 -- Meets its contract: a return for a refused call and one for what measuring answers. Assumes nothing.
 use borrow.Author.Needs.{needs}
 use Rattle.draw_exports.proofs.Calls.{measure-refused, measure-known}
-use Rattle.draw_exports.proofs.measure.yoktvarim_measure.Statement.{statement}
-use Rattle.draw_exports.proofs.measure.yoktvarim_measure.Tie as tie
+use Rattle.draw_exports.proofs.measuring.yoktvarim_measure.Statement.{statement}
+use Rattle.draw_exports.proofs.measuring.yoktvarim_measure.Tie as tie
 
 returns : tie.Need-returns
 returns c =
