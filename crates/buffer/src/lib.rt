@@ -1,4 +1,6 @@
 // Writes a few words, or all of a list, into a slice: the only stores that the writers of indices, vertices and differences use.
+#![tactic(auto)]
+
 ghost use Rattle.std.specs.Prelude.{[], ◌∷◌, ◌+◌, ◌≤◌, length};
 ghost use Rattle.buffer.specs.Over.{Wrote};
 

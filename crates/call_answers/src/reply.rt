@@ -9,7 +9,7 @@ use measure::size::Size;
 use tessellate::answer::{IndicesAnswer, PointsAnswer};
 
 // A value that the answer lacks is 0.
-#[derive(Drop)]
+#[derive(Clone, Copy, Drop)]
 pub struct Reply {
     pub number: u32,
     pub first: u32,

@@ -7,7 +7,7 @@ use call_answers::reply::{Reply, bad_top, unknown_setting};
 use patch::kinds::Patch;
 use patch::settings::Settings;
 
-#[derive(Drop)]
+#[derive(Clone, Copy, Drop)]
 pub enum Asked {
     Refused { reply: Reply },
     Known { settings: Settings, patch: Patch },

@@ -1,4 +1,6 @@
 // The faults that a mesh of triangles can have, and the searches for the first place of each.
+#![tactic(auto)]
+
 pub mod area;
 pub mod inside;
 pub mod outline;

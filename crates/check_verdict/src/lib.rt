@@ -1,9 +1,11 @@
 // The first fault of a mesh.
+#![tactic(auto)]
+
 pub mod fault;
 
 // The verdict on a mesh: its first fault, with the kinds in this order and the first place of that kind. Points, indices,
 // triangles, a triangle's corners and the outline's pieces are numbered from 0.
-#[derive(Drop)]
+#[derive(Clone, Copy, Drop)]
 pub enum Verdict {
     // The top level is bad (number 11).
     BadTop,

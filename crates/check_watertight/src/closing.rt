@@ -9,7 +9,7 @@ ghost use Rattle.check_watertight.specs.Closing.{Blank, Shown};
 
 // How many triangles, from the first on, have no side in common with an earlier one; how many sides, from the first on, are
 // closed; and how many pieces of the outline, from the first on, are sides.
-#[derive(Drop)]
+#[derive(Clone, Copy, Drop)]
 pub struct Reached {
     pub once: usize,
     pub joined: usize,

@@ -7,7 +7,7 @@ use call_answers::reply::Reply;
 use check_verdict::Verdict;
 
 // A place that the answer lacks is 0.
-#[derive(Drop)]
+#[derive(Clone, Copy, Drop)]
 pub struct PlacedReply {
     pub number: u32,
     pub first: u64,

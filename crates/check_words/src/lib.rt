@@ -1,2 +1,4 @@
 // What checking a mesh found, as numbers in a caller's memory.
+#![tactic(auto)]
+
 pub mod found;

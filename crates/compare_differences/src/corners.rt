@@ -12,7 +12,7 @@ use check_side_searches::same::has_triangle_in;
 use strip::triangle::Triangle;
 
 // The numbers of the points equal to a triangle's corners, unless one is missing.
-#[derive(Drop)]
+#[derive(Clone, Copy, Drop)]
 pub enum Match {
     Corners(Triangle),
     Missing,

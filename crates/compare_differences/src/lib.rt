@@ -1,4 +1,6 @@
 // What one of two meshes has and the other lacks: whether a point or a triangle, by its number, is a difference.
+#![tactic(auto)]
+
 mod corners;
 mod place;
 mod point;

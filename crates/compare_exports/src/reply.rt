@@ -5,7 +5,7 @@ ghost use Rattle.compare_exports.specs.Calls.{comparison_reply, shift_of};
 
 use compare_meshes::answer::{Comparison, Fault};
 
-#[derive(Drop)]
+#[derive(Clone, Copy, Drop)]
 pub struct CountReply {
     pub number: u32,
     pub count: u64,

@@ -1,4 +1,6 @@
 // Coordinates as `f32`: the whole number, converted and divided once.
+#![tactic(auto)]
+
 ghost use Rattle.std.specs.Prelude.{◌≡◌, map, ◌≤◌, ◌<◌, length, take};
 ghost use Rattle.buffer.specs.Over.{over};
 ghost use Rattle.coordinate.specs.Coordinate.{coordinate, Castable};

@@ -1,4 +1,6 @@
 // The text of answers as bytes: decimal numbers, lines of numbers, and the lines that contain words.
+#![tactic(auto)]
+
 mod head;
 mod line;
 mod number;

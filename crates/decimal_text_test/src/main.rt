@@ -1,4 +1,6 @@
 // Prints samples of every kind of line: the whole output for one record, numbers of one to ten digits, and the other answers.
+#![tactic(auto)]
+
 ghost use Rattle.std.specs.Prelude.{◌+◌, ◌≤◌, length};
 
 use libc::STDOUT_FILENO;

@@ -9,5 +9,7 @@
 // For answer 8 the first word is the place of the setting; every other word is 0.
 // The answer is a number: 0 drawn (or measured), 1 discarded, 3 no room for vertices, 4 no room for indices,
 // 8 unknown setting, 11 bad top. A bad top comes before all else. Every answer but 0 leaves the list unchanged.
+#![tactic(auto)]
+
 pub mod draw;
 pub mod measuring;

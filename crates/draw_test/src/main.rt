@@ -1,5 +1,7 @@
 // Draws the examples of the rules into lists with enough room, with one word too few, and with sentinel words after the counts;
 // writes the answers and every word of both lists. Measures patches whose levels lie outside their range, and tries other top levels.
+#![tactic(auto)]
+
 ghost use Rattle.std.specs.Prelude.{◌≤◌};
 
 use level::{Clamp, Spacing};

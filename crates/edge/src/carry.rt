@@ -2,7 +2,7 @@
 ghost use Rattle.std.specs.Prelude.{◌+◌, ◌*◌, ◌≤◌, ◌<◌};
 ghost use Rattle.edge.specs.Carries.{Divides};
 
-#[derive(Drop)]
+#[derive(Clone, Copy, Drop)]
 pub struct Carry {
     pub quotient: u32,
     pub remainder: u32,

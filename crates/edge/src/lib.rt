@@ -1,4 +1,6 @@
 // The positions of the points of an edge, as a row of words.
+#![tactic(auto)]
+
 mod carry;
 
 ghost use Rattle.std.specs.Prelude.{◌≡◌, ◌+◌, ◌≤◌, ◌<◌, min, length};

@@ -1,5 +1,7 @@
 // The places of the points of every edge of equal spacing: the row of n segments begins at word (n - 1)(n + 2) / 2. A constant
 // is copied to the stack where it is used, so callers take no more rows than they need.
+#![tactic(auto)]
+
 ghost use Rattle.std.specs.Prelude.{◌≡◌, ◌≤◌};
 ghost use Rattle.edge.specs.Rows.{edge_row, RowAt};
 ghost use Rattle.edge_table.specs.Stored.{row_start, rows_to, Widest};

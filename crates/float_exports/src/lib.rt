@@ -2,6 +2,8 @@
 // levels and lists are passed as in `draw_exports`. Counts are two words, always written: points and indices for answer 0, the place
 // of the setting and 0 for answer 8, else 0 and 0. The answers are 0 drawn, 1 discarded, 3 no room for vertices, 4 no room for
 // indices, 8 unknown setting, 9 no room for floats, 11 bad top; every answer but 0 leaves all three lists unchanged.
+#![tactic(auto)]
+
 ghost use Rattle.draw_floats.specs.Answers.{floats_code};
 ghost use Rattle.call_answers.specs.Replies.{IsReply};
 ghost use Rattle.float_exports.specs.Calls.{FloatsCalled};

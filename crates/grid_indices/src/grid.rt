@@ -7,7 +7,7 @@ ghost use Rattle.grid_indices.specs.Grids.{GridFits};
 use strip::line::Line;
 
 // Rows 0 to a and columns 0 to b of vertices; a row has `width` vertices, and the first vertex is `start`.
-#[derive(Drop)]
+#[derive(Clone, Copy, Drop)]
 pub struct Grid {
     pub start: u32,
     pub width: u32,

@@ -1,4 +1,6 @@
 // A table of the directed sides of a mesh of up to 64 vertices: bit y of row x is set if x→y is a side. Each triangle has three sides.
+#![tactic(auto)]
+
 ghost use Rattle.std.specs.Prelude.{◌≡◌, ◌+◌, ◌^◌, ◌<◌};
 ghost use Rattle.std.specs.Int.Bits.{bit_or};
 ghost use Rattle.mesh_geometry.specs.Words.{read_triangles};

@@ -1,2 +1,4 @@
 // The points of isolines.
+#![tactic(auto)]
+
 pub mod isoline;

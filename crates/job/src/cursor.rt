@@ -1,5 +1,5 @@
 // Where reading continues.
-#[derive(Drop)]
+#[derive(Clone, Copy, Drop)]
 pub struct Cursor {
     pub at: usize,
 }

@@ -9,7 +9,7 @@ use job_fields::word::read_u16;
 // The first bytes of a job file.
 pub const MARK: [u8; 3] = *b"TSJ";
 
-#[derive(Drop)]
+#[derive(Clone, Copy, Drop)]
 pub enum Header {
     // The first record is at the cursor.
     Read { version: Version, next: Cursor },

@@ -11,7 +11,7 @@ use job_fields::top::{read_top, unknown_place};
 use job_fields::version::{Version, record_size, setting_bytes};
 
 // What is at a cursor; `next` is the cursor after the record.
-#[derive(Drop)]
+#[derive(Clone, Copy, Drop)]
 pub enum NextRecord {
     Read { record: Record, next: Cursor },
     End,

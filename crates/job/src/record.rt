@@ -7,7 +7,7 @@ use job_fields::setting::Kind;
 use patch::kinds::Patch;
 use patch::settings::Settings;
 
-#[derive(Drop)]
+#[derive(Clone, Copy, Drop)]
 pub struct Record {
     pub kind: Kind,
     pub settings: Settings,

@@ -8,6 +8,8 @@
 // (`next`); and the place of an unknown setting. A cursor at the end stays there, and every other answer moves it.
 // The answer is a number: 0 written or read, 5 not a job, 6 unknown version, 7 cut record, 8 unknown setting, 10 no room, 11
 // bad top, and 255 for the end, which is not a refusal.
+#![tactic(auto)]
+
 pub mod read;
 pub mod reply;
 pub mod write;

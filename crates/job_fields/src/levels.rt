@@ -6,7 +6,7 @@ use crate::word::read_u32;
 use level::level_of_bits;
 
 // The bit patterns; they keep the payload of a NaN.
-#[derive(Drop)]
+#[derive(Clone, Copy, Drop)]
 pub struct LevelBits {
     pub outer0: u32,
     pub outer1: u32,
@@ -16,7 +16,7 @@ pub struct LevelBits {
     pub inner1: u32,
 }
 
-#[derive(Drop)]
+#[derive(Clone, Copy, Drop)]
 pub struct Levels {
     pub outer0: f32,
     pub outer1: f32,

@@ -5,7 +5,7 @@ ghost use Rattle.job_fields.specs.Settings.{first_unknown_setting, kind_of, spac
 use level::Spacing;
 use patch::settings::{DomainOrigin, Settings, VertexOrder};
 
-#[derive(Drop)]
+#[derive(Clone, Copy, Drop)]
 pub enum Kind {
     Triangles,
     Quads,

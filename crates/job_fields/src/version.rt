@@ -3,7 +3,7 @@ ghost use Rattle.std.specs.Prelude.{◌≡◌};
 ghost use Rattle.job_fields.specs.Version.{version_number, setting_bytes, record_size};
 
 // The versions that can be read.
-#[derive(Drop)]
+#[derive(Clone, Copy, Drop)]
 pub enum Version {
     One,
     Two,

@@ -1,2 +1,4 @@
 // The text for one record of a job, or for what is in its place.
+#![tactic(auto)]
+
 pub mod reply;

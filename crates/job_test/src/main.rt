@@ -1,4 +1,6 @@
 // Reads good and damaged job files, and writes the answers.
+#![tactic(auto)]
+
 mod files;
 mod read;
 mod records;

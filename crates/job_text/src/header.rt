@@ -7,7 +7,7 @@ use job::header::Header;
 use job_fields::version::{Version, version_number};
 
 // What follows a header: records of its version, or nothing if it is refused.
-#[derive(Drop)]
+#[derive(Clone, Copy, Drop)]
 pub enum Rest {
     Records(Version),
     Nothing,

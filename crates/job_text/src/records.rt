@@ -12,7 +12,7 @@ use job_record_text::reply::{next_place, put_reply};
 const ROOM: usize = 286909;
 
 // How many bytes of text were written, and where the next record is.
-#[derive(Drop)]
+#[derive(Clone, Copy, Drop)]
 pub struct Progress {
     pub written: usize,
     pub next: usize,

@@ -10,7 +10,7 @@ use job_bytes::setting_bytes::{kind_byte, order_byte, origin_byte, spacing_byte}
 use job_fields::levels::LevelBits;
 
 // All but `number` and `next` is 0, unless a record was read or a setting is unknown.
-#[derive(Drop)]
+#[derive(Clone, Copy, Drop)]
 pub struct Found {
     pub number: u32,
     pub place: u32,

@@ -1,4 +1,6 @@
 // Tessellation levels: which level discards its patch, how many segments a level gives, and whether it is clamped.
+#![tactic(auto)]
+
 ghost use Rattle.std.specs.Prelude.{◌≡◌};
 ghost use Rattle.std.specs.Float.{binary32};
 ghost use Rattle.std.specs.Float.Ieee.{of_bits};
@@ -8,7 +10,7 @@ ghost use Rattle.level.specs.Clamp.{lowest, highest, clamped, side_of, clamp_of,
 ghost use Rattle.level.specs.Scale.{scaled_level, ScaledInRange};
 ghost use Rattle.level.specs.Segments.{segments_at, segments_of, raised, as_inner};
 
-#[derive(Drop)]
+#[derive(Clone, Copy, Drop)]
 pub enum Spacing {
     Equal,
     FractionalEven,
@@ -16,14 +18,14 @@ pub enum Spacing {
 }
 
 // An edge's number of segments, n, and its level in units of 1 / 65536, L.
-#[derive(Drop)]
+#[derive(Clone, Copy, Drop)]
 pub struct Segments {
     pub count: u32,
     pub scaled: u32,
 }
 
 // Where a level lies: below the range of its spacing, inside it (ends included) or above it. A NaN lies below.
-#[derive(Drop)]
+#[derive(Clone, Copy, Drop)]
 pub enum Clamp {
     Below,
     Inside,
@@ -31,7 +33,7 @@ pub enum Clamp {
 }
 
 // The segments of a level, and where the level lies.
-#[derive(Drop)]
+#[derive(Clone, Copy, Drop)]
 pub struct Clamped {
     pub segments: Segments,
     pub clamp: Clamp,
@@ -63,7 +65,7 @@ pub fn is_top(top: u32) -> bool
 }
 
 // The least and the greatest level of a spacing.
-#[derive(Drop)]
+#[derive(Clone, Copy, Drop)]
 pub struct Range {
     pub lowest: f32,
     pub highest: f32,
@@ -90,7 +92,7 @@ pub fn range_of(spacing: Spacing, top: u32) -> Range
 }
 
 // A level clamped to its spacing's range, and where it lies.
-#[derive(Drop)]
+#[derive(Clone, Copy, Drop)]
 struct LevelInRange {
     value: f32,
     clamp: Clamp,

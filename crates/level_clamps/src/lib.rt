@@ -1,4 +1,6 @@
 // Where the levels of a patch lie relative to the range of their spacing.
+#![tactic(auto)]
+
 ghost use Rattle.std.specs.Prelude.{◌≡◌};
 ghost use Rattle.level.specs.Top.{Top};
 ghost use Rattle.level.specs.Clamp.{clamp_of};
@@ -8,7 +10,7 @@ use level::{Clamp, Spacing};
 use patch::kinds::Patch;
 
 // Where each level that counts lies; the fields are named as in `Patch`.
-#[derive(Drop)]
+#[derive(Clone, Copy, Drop)]
 pub enum Clamps {
     Triangles {
         outer0: Clamp,

@@ -1,6 +1,8 @@
 // Writes a line for each of several levels on both sides of the limits: the level's bits, the spacing, the top level, whether
 // it discards (or is an inner level, which never does), where it lies in the spacing's range, the number of segments n and the
 // scaled level L. Then writes which numbers can be the top level.
+#![tactic(auto)]
+
 ghost use Rattle.level.specs.Top.{Top};
 
 use level::{Clamp, Segments, Spacing};

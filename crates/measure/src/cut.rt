@@ -7,7 +7,7 @@ use patch::kinds::Patch;
 use patch::settings::Settings;
 use patch::subdivision::Subdivision;
 
-#[derive(Drop)]
+#[derive(Clone, Copy, Drop)]
 pub enum Cut {
     BadTop,
     Discarded,

@@ -1,4 +1,6 @@
 // Measuring: how many points and indices drawing would write, and which levels are clamped. It needs no lists.
+#![tactic(auto)]
+
 ghost use Rattle.std.specs.Prelude.{◌≡◌};
 ghost use Rattle.measure.specs.Sizes.{size_code, measure_verdict};
 

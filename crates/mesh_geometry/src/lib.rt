@@ -1,7 +1,8 @@
 // Meshes of triangle and quad patches: where their points lie, and what is proved of their triangles.
+#![tactic(auto)]
 
 // A point of the domain, in whole units.
-#[derive(Drop)]
+#[derive(Clone, Copy, Drop)]
 pub struct Point {
     pub u: u32,
     pub v: u32,

@@ -1,4 +1,6 @@
 // Lists as text, one line per point or primitive.
+#![tactic(auto)]
+
 ghost use Rattle.std.specs.Prelude.{◌+◌, ◌*◌, ◌≤◌, length};
 ghost use Rattle.std.proofs.Math.Seq.{slice};
 ghost use Rattle.buffer.specs.Over.{Wrote};

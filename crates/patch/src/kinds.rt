@@ -1,5 +1,5 @@
 // The kinds of patches, each with the tessellation levels that count for it.
-#[derive(Drop)]
+#[derive(Clone, Copy, Drop)]
 pub enum Patch {
     // The outer levels of the edges u = 0, v = 0 and w = 0, and the inner level.
     Triangles {

@@ -4,19 +4,19 @@ ghost use Rattle.patch.specs.Turn.{positive};
 
 use level::Spacing;
 
-#[derive(Drop)]
+#[derive(Clone, Copy, Drop)]
 pub enum VertexOrder {
     Clockwise,
     CounterClockwise,
 }
 
-#[derive(Drop)]
+#[derive(Clone, Copy, Drop)]
 pub enum DomainOrigin {
     UpperLeft,
     LowerLeft,
 }
 
-#[derive(Drop)]
+#[derive(Clone, Copy, Drop)]
 pub struct Settings {
     pub spacing: Spacing,
     // The top level, an even number from 2 to 64 (`level::is_top`); levels of odd spacing go up to one less.

@@ -10,7 +10,7 @@ ghost use Rattle.patch.specs.Subdivide.{is_discarded, subdivision};
 use crate::kinds::Patch;
 use level::{Range, Segments, Spacing};
 
-#[derive(Drop)]
+#[derive(Clone, Copy, Drop)]
 pub enum Subdivision {
     Discarded,
     PlainTriangle,

@@ -7,7 +7,7 @@ ghost use Rattle.patch_outline.specs.Outlines.{edges_of, outline_by, ValidEdges}
 use level::{Segments, Spacing};
 use patch::kinds::Patch;
 
-#[derive(Drop)]
+#[derive(Clone, Copy, Drop)]
 pub enum OuterEdges {
     Triangle {
         edge0: Segments,

@@ -1,2 +1,4 @@
 // The text of the answer for one patch.
+#![tactic(auto)]
+
 pub mod answer;

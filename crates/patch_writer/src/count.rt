@@ -6,7 +6,7 @@ ghost use Rattle.patch_mesh.specs.Valid.{ValidCut};
 use patch::subdivision::Subdivision;
 
 // How many points a patch has, and how many index words its triangles or lines have.
-#[derive(Drop)]
+#[derive(Clone, Copy, Drop)]
 struct Counts {
     points: u32,
     words: u32,

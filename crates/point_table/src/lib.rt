@@ -2,6 +2,8 @@
 // one more than the number of a point. The search for a point starts at the place of its slot; where it meets another point it
 // goes to one of that point's two places, by the next bit of the coordinates. Points that differ in a bit go different ways, so
 // no search passes more than 96 points, whatever their slots.
+#![tactic(auto)]
+
 ghost use Rattle.std.specs.Prelude.{◌≡◌, ◌+◌, ◌*◌, ◌/◌, ◌%◌, ◌≤◌, ◌<◌, length};
 ghost use Rattle.mesh_geometry.specs.Words.{read_points};
 ghost use Rattle.check_searches.specs.Points.{first_repeated};

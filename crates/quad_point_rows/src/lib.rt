@@ -1,5 +1,7 @@
 // The points of a quad patch from rows of places, each with the places of an edge, its end included: the outline of four edges, and
 // the inner grid.
+#![tactic(auto)]
+
 ghost use Rattle.std.specs.Prelude.{◌+◌, ◌*◌, ◌≤◌, ◌<◌, [], ◌∷◌, length};
 ghost use Rattle.buffer.specs.Over.{Wrote};
 ghost use Rattle.mesh_geometry.specs.Edge.{ring};

@@ -1,2 +1,4 @@
 // The points of quad patches.
+#![tactic(auto)]
+
 pub mod quad;

@@ -3,5 +3,7 @@
 //   told   seven words, always written: for 0 the number of entries; for 60 the entry that differs, then answer, points and
 //          indices as recorded and as replayed; all other words are 0
 // The answer is a number: 0 all agree, 5 not a recording, 6 unknown version, 7 cut entry, 60 an entry differs.
+#![tactic(auto)]
+
 mod call;
 mod words;

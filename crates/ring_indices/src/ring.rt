@@ -10,7 +10,7 @@ ghost use Rattle.mesh_topology.specs.Ring.{ring_at};
 use strip::line::Line;
 
 // `total` vertices, numbered from `base`; a ring with a total of 0 is the single vertex at the centre.
-#[derive(Drop)]
+#[derive(Clone, Copy, Drop)]
 pub struct Ring {
     pub base: u32,
     pub total: u32,

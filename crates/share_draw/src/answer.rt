@@ -3,7 +3,7 @@ use share_answers::answer::DrawAnswer;
 use share_state::state::State;
 
 // An answer, and the state to pass on.
-#[derive(Drop)]
+#[derive(Clone, Copy, Drop)]
 pub struct DrawResult {
     pub answer: DrawAnswer,
     pub state: State,

@@ -6,6 +6,8 @@
 //   designer  0 or 1
 // Settings, levels and counts are those of `draw_exports`. The answer is a number: 0 started, drawn or cleared, 1 discarded, 3 and 4 too
 // little left of this quota, 8 unknown setting, 11 bad top, 12 quotas too large, 13 too many points, 14 bad state, 15 unknown designer.
+#![tactic(auto)]
+
 pub mod clear;
 pub mod draw;
 pub mod start;

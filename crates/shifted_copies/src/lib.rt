@@ -1,4 +1,6 @@
 // Shifted copies of words: each copy exceeds the one before by the same number.
+#![tactic(auto)]
+
 ghost use Rattle.std.specs.Prelude.{◌+◌, ◌-◌, ◌*◌, ◌≤◌, ◌<◌, length, take, drop};
 ghost use Rattle.buffer.specs.Over.{Wrote, flat};
 ghost use Rattle.shifted_copies.specs.Copies.{shifted, copy, Lesser};

@@ -5,7 +5,7 @@ ghost use Rattle.standard_streams.specs.Moved.{Filled};
 use libc::STDIN_FILENO;
 
 // How many bytes were read, and whether a read failed. Fewer bytes than asked for without a failure mean that the input has ended.
-#[derive(Drop)]
+#[derive(Clone, Copy, Drop)]
 pub struct Input {
     pub count: usize,
     pub failed: bool,

@@ -1,5 +1,7 @@
 // Standard input and output for the programs. A failed read differs from the end of the input, and a failed write from a
 // complete one. The contracts say how many bytes were moved; no contract can say which.
+#![tactic(auto)]
+
 mod input;
 mod output;
 

@@ -5,7 +5,7 @@ ghost use Rattle.standard_streams.specs.Moved.{Taken};
 use libc::{STDERR_FILENO, STDOUT_FILENO};
 
 // How many bytes were written, and whether a write failed, so that some are missing.
-#[derive(Drop)]
+#[derive(Clone, Copy, Drop)]
 pub struct Output {
     pub count: usize,
     pub failed: bool,

@@ -4,7 +4,7 @@ ghost use Rattle.strip.specs.Lines.{vertex};
 
 // Points 0 to `count`. Their vertex numbers start at `first` and increase by `step` modulo 65536, so a step of 65535 counts
 // down. The last point has a number of its own, for a line that ends where its ring starts.
-#[derive(Drop)]
+#[derive(Clone, Copy, Drop)]
 pub struct Line {
     pub first: u16,
     pub step: u16,

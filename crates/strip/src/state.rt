@@ -3,7 +3,7 @@ ghost use Rattle.std.specs.Prelude.{◌≡◌};
 ghost use Rattle.strip.specs.Rule.{OnTwoLines, step_of};
 
 // The strip has reached point a of the outer line, of p segments, and point b of the inner line, of r segments.
-#[derive(Drop)]
+#[derive(Clone, Copy, Drop)]
 pub struct Strip {
     pub a: u32,
     pub b: u32,
@@ -12,7 +12,7 @@ pub struct Strip {
 }
 
 // Which line advanced, and the state after the step.
-#[derive(Drop)]
+#[derive(Clone, Copy, Drop)]
 pub struct Step {
     pub outer: bool,
     pub next: Strip,

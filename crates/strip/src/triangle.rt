@@ -3,7 +3,7 @@ ghost use Rattle.std.specs.Prelude.{◌≡◌, ◌+◌, ◌≤◌, length};
 ghost use Rattle.buffer.specs.Over.{Wrote};
 ghost use Rattle.strip.specs.Triangles.{corners, turned};
 
-#[derive(Drop)]
+#[derive(Clone, Copy, Drop)]
 pub struct Triangle {
     pub a: u16,
     pub b: u16,

@@ -1,5 +1,7 @@
 // Eight steps of a strip at a time. Four pairs of steps are 24 words; if the vertices of both lines are consecutive, the next
 // four pairs are the same words plus 4. The 24 words fit into registers, so each store writes a whole vector.
+#![tactic(auto)]
+
 ghost use Rattle.std.specs.Prelude.{◌≡◌, false, [], ◌∷◌, ◌++◌, ◌+◌, ◌*◌, ◌≤◌, ◌<◌, length};
 ghost use Rattle.buffer.specs.Over.{Wrote, flat};
 ghost use Rattle.shifted_copies.specs.Copies.{shifted, copy};

@@ -1,4 +1,6 @@
 // Two steps of a strip at a time: the outer line advances, then the inner line.
+#![tactic(auto)]
+
 ghost use Rattle.std.specs.Prelude.{◌≡◌, true, [], ◌∷◌, ◌++◌, ◌+◌, ◌-◌, ◌*◌, ◌≤◌, ◌<◌, length};
 ghost use Rattle.buffer.specs.Over.{Wrote};
 ghost use Rattle.strip.specs.Triangles.{indices};
@@ -19,7 +21,7 @@ fn put_two(out: &mut [u16], at: usize, s: Triangle, t: Triangle, positive: bool)
 }
 
 // The place after what was written, and the vertices reached on the two lines.
-#[derive(Drop)]
+#[derive(Clone, Copy, Drop)]
 pub struct Reached {
     pub to: usize,
     pub x: u16,

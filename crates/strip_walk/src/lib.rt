@@ -1,4 +1,6 @@
 // Writes a strip by the rule, step by step.
+#![tactic(auto)]
+
 mod walk;
 
 ghost use Rattle.std.specs.Prelude.{◌+◌, ◌*◌, ◌≤◌, length};

@@ -7,7 +7,7 @@ use strip::state::Strip;
 use strip::triangle::Triangle;
 
 // The state of a strip, with the vertices x and y reached on the outer and the inner line.
-#[derive(Drop)]
+#[derive(Clone, Copy, Drop)]
 pub struct Walk {
     pub strip: Strip,
     pub x: u16,
@@ -15,7 +15,7 @@ pub struct Walk {
 }
 
 // The triangle of a step, and the walk after it.
-#[derive(Drop)]
+#[derive(Clone, Copy, Drop)]
 pub struct Progress {
     pub triangle: Triangle,
     pub walk: Walk,

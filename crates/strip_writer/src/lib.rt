@@ -1,4 +1,6 @@
 // Writes a strip the faster way: in pairs of steps where the rule is known to give them, else step by step by the rule.
+#![tactic(auto)]
+
 mod alternate;
 
 ghost use Rattle.std.specs.Prelude.{◌+◌, ◌*◌, ◌≤◌, length};

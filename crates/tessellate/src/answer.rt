@@ -1,7 +1,7 @@
 // The answers of the two drawing operations.
 
 // The vertex list begins with this many points; or why nothing was written.
-#[derive(Drop)]
+#[derive(Clone, Copy, Drop)]
 pub enum PointsAnswer {
     Drawn { points: u32 },
     Discarded,
@@ -10,7 +10,7 @@ pub enum PointsAnswer {
 }
 
 // The index list begins with this many indices; or why nothing was written.
-#[derive(Drop)]
+#[derive(Clone, Copy, Drop)]
 pub enum IndicesAnswer {
     Drawn { indices: u32 },
     Discarded,

@@ -1,5 +1,7 @@
 // The points of a triangle patch from rows of places: rings of three edges, from the outline inwards, and the centre. The rows of the
 // public functions have the places of an edge, its end included.
+#![tactic(auto)]
+
 ghost use Rattle.std.specs.Prelude.{◌+◌, ◌-◌, ◌*◌, ◌%◌, ◌≤◌, ◌<◌, ◌≡◌, [], ◌∷◌, length, take};
 ghost use Rattle.buffer.specs.Over.{Wrote, flat};
 ghost use Rattle.mesh_geometry.specs.Edge.{ring};

@@ -1,2 +1,4 @@
 // The points of a triangle patch as words, three per point.
+#![tactic(auto)]
+
 pub mod triangle;

@@ -1,4 +1,6 @@
 // The search for a triangle along the chains of its sides: among all triangles of a mesh, or among the first of them.
+#![tactic(auto)]
+
 ghost use Rattle.std.specs.Prelude.{◌≡◌, true, ◌*◌, ◌/◌, ◌%◌, ◌≤◌, ◌<◌, length};
 ghost use Rattle.mesh_geometry.specs.Words.{read_triangles};
 ghost use Rattle.check_searches.specs.Triangles.{triangle_at};

@@ -1,4 +1,6 @@
 // Reads a job from standard input and writes the answers to standard output.
+#![tactic(auto)]
+
 fn main() {
     let mut header = [0u8; 5];
     let mut records = [0u8; 7680];

@@ -12,14 +12,14 @@ use job_text::records::{Progress, put_records};
 use standard_streams::{Input, Output};
 
 // How far the records are answered, and how much of their text was written.
-#[derive(Drop)]
+#[derive(Clone, Copy, Drop)]
 pub struct Step {
     pub progress: Progress,
     pub output: Output,
 }
 
 // What was read and written, and whether another chunk follows.
-#[derive(Drop)]
+#[derive(Clone, Copy, Drop)]
 pub struct Chunk {
     pub input: Input,
     pub output: Output,

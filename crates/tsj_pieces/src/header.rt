@@ -9,7 +9,7 @@ use job_text::header::{Rest, put_header, rest_of};
 use standard_streams::{Input, Output};
 
 // What was read and written, and what to read next: nothing if the read or the write failed.
-#[derive(Drop)]
+#[derive(Clone, Copy, Drop)]
 pub struct Start {
     pub input: Input,
     pub output: Output,

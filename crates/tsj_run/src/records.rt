@@ -12,7 +12,7 @@ use tsj_pieces::chunk::answer_chunk;
 const MOST: usize = 9223372036854775808;
 
 // How many bytes were read in all, the last read, and how much text was written.
-#[derive(Drop)]
+#[derive(Clone, Copy, Drop)]
 pub struct Answered {
     pub read: usize,
     pub last: Input,

@@ -6,7 +6,7 @@ use crate::records::{Answered, answer_rest};
 use tsj_pieces::header::{Start, answer_header};
 
 // What was read and written, for the header and for the records after it.
-#[derive(Drop)]
+#[derive(Clone, Copy, Drop)]
 pub struct JobOutcome {
     pub start: Start,
     pub records: Answered,

@@ -1,2 +1,4 @@
 // The line that says what a replay found.
+#![tactic(auto)]
+
 pub mod sentence;

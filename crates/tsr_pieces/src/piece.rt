@@ -13,14 +13,14 @@ use standard_streams::{Input, read_front};
 const CHUNK: usize = 8704;
 
 // What was read, and the answer so far.
-#[derive(Drop)]
+#[derive(Clone, Copy, Drop)]
 pub struct Start {
     pub input: Input,
     pub so_far: Replay,
 }
 
 // What was read, the answer so far, and whether another chunk follows.
-#[derive(Drop)]
+#[derive(Clone, Copy, Drop)]
 pub struct Chunk {
     pub input: Input,
     pub so_far: Replay,

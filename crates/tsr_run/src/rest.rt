@@ -13,7 +13,7 @@ use tsr_pieces::piece::{is_open, replay_chunk};
 const MOST: usize = 9223372036854775808;
 
 // How many bytes were read in all, the last read, and the answer.
-#[derive(Drop)]
+#[derive(Clone, Copy, Drop)]
 pub struct Replayed {
     pub read: usize,
     pub last: Input,

@@ -12,7 +12,7 @@ use tsr_line::sentence::put_replay;
 use tsr_pieces::piece::replay_header;
 
 // The read of the header, how many bytes were read after it, the last read, the answer, and how much of its line was written.
-#[derive(Drop)]
+#[derive(Clone, Copy, Drop)]
 pub struct ReplayOutcome {
     pub header: Input,
     pub read: usize,

@@ -1,1 +1,2 @@
 // Theorems alone: the whole output for the customer's sample record, computed from its bytes.
+#![tactic(auto)]
