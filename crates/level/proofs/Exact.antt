@@ -42,6 +42,9 @@ fine_parts x = num x * 8388608 / den x
 
 counts : (x : Float) → T (positive x) → T (fits binary32 x) → den x ≤ num x → HasValue x false (fine_parts x) 8388608
 counts (fin false m e) p f h = (refl, sym (whole m e (narrow m e f) h))
+counts lib.Ieee.nan p f h = elim p [ ]
+counts (lib.Ieee.inf _) p f h = elim p [ ]
+counts (fin mathlib.Core.Bool.true m e) p f h = elim p [ ]
 
 -- ---- rounded up to units 128 times as large
 coarser : (A D N : ℕ) → 0 < D → A * 8388608 ≡ N * D → (N + 127) / 128 ≡ ceil (A * 65536) D

@@ -47,10 +47,15 @@ not_below (inf false) (fin t n d) p q = refl
 not_below (fin s m e) (inf true) p q = refl
 not_below (fin s m e) (inf false) p q = refl
 not_below (fin s m e) (fin t n d) p q = signed s t (m * up e * down d) (n * up d * down e)
+not_below nan y p q = elim p [ ]
+not_below (inf false) nan p q = elim q [ ]
+not_below (inf true) nan p q = elim q [ ]
+not_below (fin s m e) nan p q = elim q [ ]
 
 -- ---- what follows if a comparison holds
 or_left : (a b : Bool) → T a → T (a || b)
 or_left true b t = tt
+or_left false b t = elim t [ ]
 
 pub lt_le : (x y : Float) → T (lt x y) → T (le x y)
 unfolding le
@@ -63,6 +68,9 @@ numbers (inf s) (inf t) h = (tt, tt)
 numbers (inf s) (fin t n d) h = (tt, tt)
 numbers (fin s m e) (inf t) h = (tt, tt)
 numbers (fin s m e) (fin t n d) h = (tt, tt)
+numbers nan y h = elim h [ ]
+numbers (inf s) nan h = elim h [ ]
+numbers (fin s m e) nan h = elim h [ ]
 
 -- ---- comparing a float with itself
 size_itself : (s : Bool) (a : ℕ) → below s a s a ≡ false

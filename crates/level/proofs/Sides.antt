@@ -39,6 +39,9 @@ from_high lo hi x p q r h = go x (above_of_le hi x q h) h
     go : (x : Float) → T (above x) → T (le hi x) → T (le lo x)
     go (inf false) a h = rw (under_infinity lo p).1 tt
     go (fin false m e) a h = le_trans_positive lo hi (fin false m e) p q a r h
+    go nan a h = elim a [ ]
+    go (inf true) a h = elim a [ ]
+    go (fin true m e) a h = elim a [ ]
 
 -- ---- the range of a spacing
 module _ (s : Spacing) (t : ℕ) (top : Top t) where

@@ -79,11 +79,17 @@ highest_odd_64 = refl
 pub not_above : (lo : Float) → T (positive lo) → (le lo nan ≡ false) × (le lo (inf true) ≡ false)
 unfolding le
 not_above (fin false m e) p = (refl, refl)
+not_above nan p = elim p [ ]
+not_above (inf _) p = elim p [ ]
+not_above (fin true m e) p = elim p [ ]
 
 -- infinity is above every finite positive number
 pub under_infinity : (x : Float) → T (positive x) → (lt x (inf false) ≡ true) × (le x (inf false) ≡ true)
 unfolding lt le
 under_infinity (fin false m e) p = (refl, refl)
+under_infinity nan p = elim p [ ]
+under_infinity (inf _) p = elim p [ ]
+under_infinity (fin true m e) p = elim p [ ]
 
 -- ---- every level
 module _ (s : Spacing) (t : ℕ) (top : Top t) where
