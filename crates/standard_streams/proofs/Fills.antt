@@ -8,7 +8,7 @@ use native.Mathlib.Omega.{arith}
 use borrow.Author.Tests.{eqb-true, eqb-false}
 use lib.Dec.{eqb}
 use lib.ListN.{length, take, drop, length-append}
-use Rattle.io.proofs.Counting.{length-take_of_le, prefix_len_of_le}
+use Rattle.standard_streams.proofs.Prefixes.{length-take_of_le, prefix_len_of_le}
 use Rattle.standard_streams.specs.declared.input.Input.{Input}
 use Rattle.standard_streams.specs.Moved.{Filled}
 

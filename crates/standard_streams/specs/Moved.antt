@@ -1,8 +1,11 @@
 -- How many bytes a read or a write moved, and whether it failed. Assumes nothing.
-use Rattle.std.specs.Prelude.{ℕ, ◌≤◌, ◌<◌, ◌≡◌, true, List, ltb}
-use Rattle.io.specs.Counts.{IsPrefixLen}
+use Rattle.std.specs.Prelude.{ℕ, ◌≤◌, ◌<◌, ◌≡◌, true, List, ltb, length, take}
 use Rattle.standard_streams.specs.declared.input.Input.{Input}
 use Rattle.standard_streams.specs.declared.output.Output.{Output}
+
+-- the first n words of xs are there, and are n words
+abbrev pub IsPrefixLen : ℕ → List ℕ → Type 0
+IsPrefixLen n xs = (n ≤ length xs) × (n ≡ length (take n xs))
 
 -- a write of n bytes: it moved at most n, and failed exactly if it moved fewer
 pub record Taken (n : ℕ) (r : Output) : Type 0 where

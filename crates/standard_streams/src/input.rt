@@ -2,7 +2,7 @@
 ghost use Rattle.std.specs.Prelude.{◌+◌, ◌≤◌, length};
 ghost use Rattle.standard_streams.specs.Moved.{Filled};
 
-use libc::STDIN_FILENO;
+use std::io::{Read, Stdin};
 
 // How many bytes were read, and whether a read failed. Fewer bytes than asked for without a failure mean that the input has ended.
 #[derive(Clone, Copy, Drop)]
@@ -12,25 +12,27 @@ pub struct Input {
 }
 
 // Does one read, into the bytes from `at` on.
-fn read_on(bytes: &mut [u8], at: usize) -> Input
+fn read_on(stdin: &mut Stdin, bytes: &mut [u8], at: usize) -> Input
     requires { at ≤ length bytes.old }
     ensures { at + result.count ≤ length bytes.old }
 {
     let rest = &mut bytes[at..];
-    let got = libc::read(STDIN_FILENO, rest);
+    let got = stdin.read(rest);
+    let failed = got.is_err();
     Input {
-        count: io::count(got, rest),
-        failed: got < 0,
+        count: got.unwrap_or(0),
+        failed,
     }
 }
 
 // Reads to the front of `bytes` until it is full, the input ends or a read fails.
-pub fn read_front(bytes: &mut [u8]) -> Input
+pub fn read_front(rt: &HostRuntime, bytes: &mut [u8]) -> Input
     ensures { Filled (length bytes.new) bytes.new result }
 {
+    let mut stdin = rt.stdin();
     let mut at = 0;
     while at < bytes.len() {
-        let next = read_on(bytes, at);
+        let next = read_on(&mut stdin, bytes, at);
         if next.count == 0 {
             return Input {
                 count: at,

@@ -2,7 +2,7 @@
 ghost use Rattle.std.specs.Prelude.{◌+◌, ◌≤◌, length};
 ghost use Rattle.standard_streams.specs.Moved.{Taken};
 
-use libc::{STDERR_FILENO, STDOUT_FILENO};
+use std::io::Write;
 
 // How many bytes were written, and whether a write failed, so that some are missing.
 #[derive(Clone, Copy, Drop)]
@@ -12,17 +12,16 @@ pub struct Output {
 }
 
 // Does one write, of the bytes from `at` on; returns how many bytes it took.
-fn write_on(file: i32, bytes: &[u8], at: usize) -> usize
+fn write_on<W: Write>(file: &mut W, bytes: &[u8], at: usize) -> usize
     requires { at ≤ length bytes.now }
     ensures { at + result ≤ length bytes.now }
 {
     let rest = &bytes[at..];
-    let got = libc::write(file, rest);
-    io::count(got, rest)
+    file.write(rest).unwrap_or(0)
 }
 
 // Writes until all of `bytes` is taken or a write takes no byte.
-fn write_front(file: i32, bytes: &[u8]) -> Output
+fn write_front<W: Write>(file: &mut W, bytes: &[u8]) -> Output
     ensures { Taken (length bytes.now) result }
 {
     let mut at = 0;
@@ -43,19 +42,19 @@ fn write_front(file: i32, bytes: &[u8]) -> Output
 }
 
 // Writes a line to standard error.
-pub fn tell(line: &[u8]) -> Output
+pub fn tell(rt: &HostRuntime, line: &[u8]) -> Output
     ensures { Taken (length line.now) result }
 {
-    write_front(STDERR_FILENO, line)
+    write_front(&mut rt.stderr(), line)
 }
 
 // Writes `bytes` to standard output; if that fails, writes a line to standard error.
-pub fn write_or_tell(bytes: &[u8], line: &[u8]) -> Output
+pub fn write_or_tell(rt: &HostRuntime, bytes: &[u8], line: &[u8]) -> Output
     ensures { Taken (length bytes.now) result }
 {
-    let output = write_front(STDOUT_FILENO, bytes);
+    let output = write_front(&mut rt.stdout(), bytes);
     if output.failed {
-        tell(line);
+        tell(rt, line);
     }
     output
 }
