@@ -1,0 +1,28 @@
+use native.Mathlib.Omega.{arith}
+use mathlib.Core.List.{List, [], ◌∷◌}
+use lib.Ieee.{Float}
+use Rattle.patch.specs.Subdivide.{subdivision}
+use Rattle.patch.proofs.Every.{total}
+use Rattle.patch.proofs.Counts.{all_one, not_all_one}
+use Rattle.patch.proofs.subdivision.quad.Goals as goal
+
+pub returns-then-discards4 : goal.returns-then-discards4
+unfolding subdivision
+returns-then-discards4 c = rw (← c.discards4.ensures, c.if-discards4.true)
+
+-- the code's sum of counts is `total`
+pub returns-then-outline-inner_rows-eq6 : goal.returns-then-outline-inner_rows-eq6
+unfolding subdivision total
+returns-then-outline-inner_rows-eq6 c =
+    let a = c.args in
+    let xs : List Float = a.outer0 ∷ a.outer1 ∷ a.outer2 ∷ a.outer3 ∷ a.inner0 ∷ a.inner1 ∷ [] in
+    rw (← c.discards4.ensures, c.if-discards4.false, all_one a.spacing a.top c.requires xs (omega arith) c.if-outline-inner_rows-eq6.true)
+
+pub returns : goal.returns
+unfolding subdivision total
+returns c =
+    let a = c.args in
+    let xs : List Float = a.outer0 ∷ a.outer1 ∷ a.outer2 ∷ a.outer3 ∷ a.inner0 ∷ a.inner1 ∷ [] in
+    rw (← c.discards4.ensures, c.if-discards4.false, not_all_one a.spacing a.top c.requires xs (omega arith) c.if-outline-inner_rows-eq6.false)
+    (rw (← c.segments_in-edge0.ensures.all, ← c.segments_beside-edge1.ensures.all, ← c.segments_beside-edge2.ensures.all, ← c.segments_beside-edge3.ensures.all)
+    (rw (← c.segments_beside-inner_rows.ensures.all, ← c.segments_beside-inner_columns.ensures.all, ← c.as_inner-rows.ensures, ← c.as_inner-columns.ensures)))

@@ -1,0 +1,8 @@
+use mathlib.Core.Path.{refl}
+use Rattle.level.proofs.Valid.{segments_valid}
+use Rattle.patch.proofs.subdivision.segments_in.Goals as goal
+
+pub returns : goal.returns
+returns c =
+    let a = c.args in
+    rw c.segments_in-clamped.ensures.segments (record { all = refl; is = refl; few = (segments_valid a.spacing a.top c.requires.fact_1 a.level).few })
