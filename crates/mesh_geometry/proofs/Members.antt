@@ -33,6 +33,7 @@ module _ {A : Type 0} where
   all_members (x ∷ xs) h = more (h x (Memᴰ.head refl)) (all_members xs (λ y m. h y (Memᴰ.tail m)))
 
   pub all_member : {Q : A → Type 0} {x : A} {xs : List A} → All Q xs → Memᴰ x xs → Q x
+  all_member none m = elim m [ ]
   all_member (more h hs) (Memᴰ.head e) = rw e h
   all_member (more h hs) (Memᴰ.tail m) = all_member hs m
 

@@ -1,6 +1,6 @@
 -- The places along the edges of an outline are those of its runs. Assumes nothing.
 use Prim.Native.Nat.{ℕ, suc, ◌+◌, ◌≤◌, ◌<◌}
-use mathlib.Core.Path.{◌≡◌, refl, sym, ◌∙◌}
+use mathlib.Core.Path.{subst, ◌≡◌, refl, sym, ◌∙◌}
 use mathlib.Core.Bool.{true, false, cond}
 use mathlib.Core.List.{List, [], ◌∷◌, ◌++◌, map, append-nil, append_assoc}
 use native.Mathlib.Omega.{arith}
@@ -140,7 +140,8 @@ module _ {sides : ℕ} {Fits : ℕ → ℕ → Type 0} {place : ℕ → ℕ → 
     places_middle shape (sees k (omega arith)) pre e e' post rest a (rw (ne_eqb (suc k) sides (λ z. omega arith))) (omega arith)
         gs g g' gs' deep,
     good_mirrors g,
-    rw append_assoc at (placed_from (suc k) (pre ++ (e ∷ [])) (e' ∷ post) (simp length-append (omega arith)) (omega arith)
+    subst (λ (xs : List Run). EdgesPlaced edge (ring place 0 xs 0 ++ rest) (suc k) (e' ∷ post)) (append_assoc pre (e ∷ []) (e' ∷ post))
+        (placed_from (suc k) (pre ++ (e ∷ [])) (e' ∷ post) (simp length-append (omega arith)) (omega arith)
         (all_append (e ∷ []) gs (more g none)) (more g' gs')),
   )
 
