@@ -28,7 +28,7 @@ use Rattle.mesh_geometry.specs.Words.{vertex_words}
 use Rattle.patch_mesh.specs.Points.{run, points}
 use Rattle.patch_mesh.proofs.Runs.{good_run}
 use Rattle.patch_mesh.proofs.Cases.{Cases, all_cases}
-use Rattle.mesh_geometry.specs.Domain.{Domain, triangle, square}
+use Rattle.mesh_geometry.specs.Domain.{triangle, square}
 use Rattle.patch_mesh.specs.InPatch.{InPatch, domain_of}
 use Rattle.patch_mesh.specs.Coordinates.{one, UpTo}
 

@@ -14,7 +14,7 @@ use Rattle.patch.specs.declared.kinds.Patch.{Patch}
 use Rattle.patch.specs.declared.kinds.Patch.TheVariants.{Triangles, Quads, Isolines}
 use Rattle.patch.specs.declared.settings.Settings.{Settings}
 use Rattle.patch.specs.declared.subdivision.Subdivision.{Subdivision}
-use Rattle.patch.specs.declared.subdivision.Subdivision.TheVariants.{Discarded, PlainTriangle, Triangle, PlainQuad, Quad, Lines}
+use Rattle.patch.specs.declared.subdivision.Subdivision.TheVariants.{PlainTriangle, Triangle, PlainQuad, Quad, Lines}
 use Rattle.patch.specs.Every.{every}
 use Rattle.patch.specs.Subdivide.{single, discards, cut, subdivision, subdivision_of}
 use Rattle.patch.specs.Turn.{positive, turn_asked}
