@@ -3,7 +3,7 @@
 
 ghost use Rattle.std.specs.Prelude.{◌+◌, ◌≤◌, length};
 
-use libc::STDOUT_FILENO;
+use std::io::{self, Print};
 
 // Three words per point.
 #[rattlefmt::skip]
@@ -75,10 +75,10 @@ fn put_rest(out: &mut [u8], at: usize) -> usize
     decimal_text::put_title(out, d, 2)
 }
 
-fn main() {
+fn main(rt: HostRuntime) -> io::Result<()> {
     let mut out = [0u8; 512];
     let a = put_record(&mut out, 0);
     let b = put_numbers(&mut out, a);
     let n = put_rest(&mut out, b);
-    io::write_all(STDOUT_FILENO, &out[0..n]);
+    rt.write_all(&out[0..n])
 }
