@@ -3,22 +3,30 @@ use crate::show::write_answer;
 use job::cursor::Cursor;
 use job::next::{NextRecord, read_record};
 use job_fields::version::Version;
+use std::io::{self, Print, Stdout};
 
 // The record at a place.
-pub(crate) fn sample(name: &[u8], bytes: &[u8], version: Version, at: usize) {
-    io::write_all(1, name);
-    io::write_all(1, b": ");
-    write_answer(read_record(bytes, version, Cursor { at }));
+pub(crate) fn sample(
+    out: Stdout,
+    name: &[u8],
+    bytes: &[u8],
+    version: Version,
+    at: usize,
+) -> io::Result<()> {
+    out.write_all(name)?;
+    out.write_all(b": ")?;
+    write_answer(out, read_record(bytes, version, Cursor { at }))?;
+    Ok(())
 }
 
 // Every record from a place on.
-pub(crate) fn walk(bytes: &[u8], version: Version, from: usize) {
+pub(crate) fn walk(out: Stdout, bytes: &[u8], version: Version, from: usize) -> io::Result<()> {
     let mut at = from;
     loop {
         let answer = read_record(bytes, version, Cursor { at });
-        io::print_decimal(1, at as u64);
-        io::write_all(1, b": ");
-        write_answer(answer);
+        print!(out; "{at}")?;
+        out.write_all(b": ")?;
+        write_answer(out, answer)?;
         match answer {
             NextRecord::Read { record: _, next } => {
                 at = next.at;
@@ -27,10 +35,10 @@ pub(crate) fn walk(bytes: &[u8], version: Version, from: usize) {
                 at = next.at;
             }
             NextRecord::End => {
-                return;
+                return Ok(());
             }
             NextRecord::CutRecord => {
-                return;
+                return Ok(());
             }
         }
     }

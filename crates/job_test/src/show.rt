@@ -7,60 +7,64 @@ use job_fields::version::version_number;
 use level::{Spacing, segments_of};
 use patch::kinds::Patch;
 use patch::settings::{DomainOrigin, Settings, VertexOrder};
+use std::io::{self, Print, Stdout};
 
-pub(crate) fn write_header(header: Header) {
+pub(crate) fn write_header(out: Stdout, header: Header) -> io::Result<()> {
     match header {
         Header::Read { version, next } => {
-            io::write_all(1, b"version ");
-            io::print_decimal(1, version_number(version) as u64);
-            io::write_all(1, b", next at ");
-            io::print_decimal(1, next.at as u64);
-            io::write_all(1, b"\n");
+            out.write_all(b"version ")?;
+            print!(out; "{}", version_number(version))?;
+            out.write_all(b", next at ")?;
+            print!(out; "{}", next.at)?;
+            out.write_all(b"\n")?;
         }
         Header::NotAJob => {
-            io::write_all(1, b"not a job (5)\n");
+            out.write_all(b"not a job (5)\n")?;
         }
         Header::UnknownVersion => {
-            io::write_all(1, b"unknown version (6)\n");
+            out.write_all(b"unknown version (6)\n")?;
         }
     }
+    Ok(())
 }
 
-pub(crate) fn write_answer(answer: NextRecord) {
+pub(crate) fn write_answer(out: Stdout, answer: NextRecord) -> io::Result<()> {
     match answer {
         NextRecord::Read { record, next } => {
-            write_record(record);
-            io::write_all(1, b"  next at ");
-            io::print_decimal(1, next.at as u64);
-            io::write_all(1, b"\n");
+            write_record(out, record)?;
+            out.write_all(b"  next at ")?;
+            print!(out; "{}", next.at)?;
+            out.write_all(b"\n")?;
         }
         NextRecord::End => {
-            io::write_all(1, b"end\n");
+            out.write_all(b"end\n")?;
         }
         NextRecord::CutRecord => {
-            io::write_all(1, b"cut record (7)\n");
+            out.write_all(b"cut record (7)\n")?;
         }
         NextRecord::UnknownSetting { place, next } => {
-            io::write_all(1, b"unknown setting (8) at place ");
-            io::print_decimal(1, place as u64);
-            io::write_all(1, b", next at ");
-            io::print_decimal(1, next.at as u64);
-            io::write_all(1, b"\n");
+            out.write_all(b"unknown setting (8) at place ")?;
+            print!(out; "{place}")?;
+            out.write_all(b", next at ")?;
+            print!(out; "{}", next.at)?;
+            out.write_all(b"\n")?;
         }
     }
+    Ok(())
 }
 
-fn write_record(record: Record) {
+fn write_record(out: Stdout, record: Record) -> io::Result<()> {
     let settings = settings_of(record);
     let spacing = settings.spacing;
-    write_patch(patch_of(record), spacing);
-    write_settings(settings);
+    write_patch(out, patch_of(record), spacing)?;
+    write_settings(out, settings)?;
     let bits = record.bits;
-    write_bits(bits);
+    write_bits(out, bits)?;
+    Ok(())
 }
 
 // Writes the kind, and the segments of each level that counts.
-fn write_patch(patch: Patch, spacing: Spacing) {
+fn write_patch(out: Stdout, patch: Patch, spacing: Spacing) -> io::Result<()> {
     match patch {
         Patch::Triangles {
             outer0,
@@ -68,11 +72,11 @@ fn write_patch(patch: Patch, spacing: Spacing) {
             outer2,
             inner0,
         } => {
-            io::write_all(1, b"triangles");
-            write_outer(outer0, outer1, spacing);
-            write_level(outer2, spacing);
-            io::write_all(1, b", inner");
-            write_level(inner0, spacing);
+            out.write_all(b"triangles")?;
+            write_outer(out, outer0, outer1, spacing)?;
+            write_level(out, outer2, spacing)?;
+            out.write_all(b", inner")?;
+            write_level(out, inner0, spacing)?;
         }
         Patch::Quads {
             outer0,
@@ -82,74 +86,80 @@ fn write_patch(patch: Patch, spacing: Spacing) {
             inner0,
             inner1,
         } => {
-            io::write_all(1, b"quads");
-            write_outer(outer0, outer1, spacing);
-            write_level(outer2, spacing);
-            write_level(outer3, spacing);
-            io::write_all(1, b", inner");
-            write_level(inner0, spacing);
-            write_level(inner1, spacing);
+            out.write_all(b"quads")?;
+            write_outer(out, outer0, outer1, spacing)?;
+            write_level(out, outer2, spacing)?;
+            write_level(out, outer3, spacing)?;
+            out.write_all(b", inner")?;
+            write_level(out, inner0, spacing)?;
+            write_level(out, inner1, spacing)?;
         }
         Patch::Isolines { outer0, outer1 } => {
-            io::write_all(1, b"isolines");
-            write_outer(outer0, outer1, spacing);
+            out.write_all(b"isolines")?;
+            write_outer(out, outer0, outer1, spacing)?;
         }
     }
-    io::write_all(1, b"\n");
+    out.write_all(b"\n")?;
+    Ok(())
 }
 
-fn write_outer(outer0: f32, outer1: f32, spacing: Spacing) {
-    io::write_all(1, b", segments");
-    write_level(outer0, spacing);
-    write_level(outer1, spacing);
+fn write_outer(out: Stdout, outer0: f32, outer1: f32, spacing: Spacing) -> io::Result<()> {
+    out.write_all(b", segments")?;
+    write_level(out, outer0, spacing)?;
+    write_level(out, outer1, spacing)?;
+    Ok(())
 }
 
 // Writes the segments of a level, with the top level 64.
-fn write_level(level: f32, spacing: Spacing) {
+fn write_level(out: Stdout, level: f32, spacing: Spacing) -> io::Result<()> {
     let clamped = segments_of(level, spacing, 64);
     let segments = clamped.segments;
-    io::write_all(1, b" ");
-    io::print_decimal(1, segments.count as u64);
+    out.write_all(b" ")?;
+    print!(out; "{}", segments.count)?;
+    Ok(())
 }
 
-fn write_settings(settings: Settings) {
+fn write_settings(out: Stdout, settings: Settings) -> io::Result<()> {
     let spacing = settings.spacing;
     let order = settings.order;
     let origin = settings.origin;
     match spacing {
-        Spacing::Equal => io::write_all(1, b"  equal"),
-        Spacing::FractionalEven => io::write_all(1, b"  even"),
-        Spacing::FractionalOdd => io::write_all(1, b"  odd"),
+        Spacing::Equal => out.write_all(b"  equal")?,
+        Spacing::FractionalEven => out.write_all(b"  even")?,
+        Spacing::FractionalOdd => out.write_all(b"  odd")?,
     };
     match order {
-        VertexOrder::Clockwise => io::write_all(1, b", clockwise"),
-        VertexOrder::CounterClockwise => io::write_all(1, b", counter-clockwise"),
+        VertexOrder::Clockwise => out.write_all(b", clockwise")?,
+        VertexOrder::CounterClockwise => out.write_all(b", counter-clockwise")?,
     };
     match origin {
-        DomainOrigin::UpperLeft => io::write_all(1, b", upper-left"),
-        DomainOrigin::LowerLeft => io::write_all(1, b", lower-left"),
+        DomainOrigin::UpperLeft => out.write_all(b", upper-left")?,
+        DomainOrigin::LowerLeft => out.write_all(b", lower-left")?,
     };
     if settings.point_mode {
-        io::write_all(1, b", points, top ");
+        out.write_all(b", points, top ")?;
     } else {
-        io::write_all(1, b", no points, top ");
+        out.write_all(b", no points, top ")?;
     }
-    io::print_decimal(1, settings.top as u64);
-    io::write_all(1, b"\n");
+    print!(out; "{}", settings.top)?;
+    out.write_all(b"\n")?;
+    Ok(())
 }
 
-fn write_bits(bits: LevelBits) {
-    io::write_all(1, b"  bits");
-    write_word(bits.outer0);
-    write_word(bits.outer1);
-    write_word(bits.outer2);
-    write_word(bits.outer3);
-    write_word(bits.inner0);
-    write_word(bits.inner1);
-    io::write_all(1, b"\n");
+fn write_bits(out: Stdout, bits: LevelBits) -> io::Result<()> {
+    out.write_all(b"  bits")?;
+    write_word(out, bits.outer0)?;
+    write_word(out, bits.outer1)?;
+    write_word(out, bits.outer2)?;
+    write_word(out, bits.outer3)?;
+    write_word(out, bits.inner0)?;
+    write_word(out, bits.inner1)?;
+    out.write_all(b"\n")?;
+    Ok(())
 }
 
-fn write_word(word: u32) {
-    io::write_all(1, b" ");
-    io::print_hex(1, word as u64, 8);
+fn write_word(out: Stdout, word: u32) -> io::Result<()> {
+    out.write_all(b" ")?;
+    print!(out; "{word:08x}")?;
+    Ok(())
 }

@@ -28,6 +28,7 @@ pub struct Chunk {
 
 // Answers the records from place `at` of `bytes` on, as many as fit into `out`.
 fn answer_some(
+    rt: &HostRuntime,
     bytes: &[u8],
     at: usize,
     version: Version,
@@ -41,12 +42,13 @@ fn answer_some(
 {
     let progress = put_records(out, bytes, version, at, vertices, indices);
     let written = progress.written;
-    let output = write_or_tell(&out[..written]);
+    let output = write_or_tell(rt, &out[..written]);
     Step { progress, output }
 }
 
 // Answers every record of `bytes`, up to a write that fails.
 fn answer_records(
+    rt: &HostRuntime,
     out: &mut [u8],
     bytes: &[u8],
     version: Version,
@@ -61,7 +63,7 @@ fn answer_records(
     let mut count = 0;
     let mut at = 0;
     while at < bytes.len() {
-        let step = answer_some(bytes, at, version, out, vertices, indices);
+        let step = answer_some(rt, bytes, at, version, out, vertices, indices);
         count += step.output.count;
         if step.output.failed {
             return Output {
@@ -87,6 +89,7 @@ fn chunk_size(version: Version) -> usize
 // Reads a chunk to the front of `bytes` and answers it. If the read fails, nothing is written. Another chunk follows if this one is full and
 // was written; a chunk with fewer bytes is the last.
 pub fn answer_chunk(
+    rt: &HostRuntime,
     bytes: &mut [u8],
     out: &mut [u8],
     version: Version,
@@ -98,7 +101,7 @@ pub fn answer_chunk(
     ensures { AnsweredChunk version bytes.new result }
 {
     let size = chunk_size(version);
-    let input = read_or_tell(bytes, size);
+    let input = read_or_tell(rt, bytes, size);
     if input.failed {
         let output = Output {
             count: 0,
@@ -111,7 +114,7 @@ pub fn answer_chunk(
         };
     }
     let n = input.count;
-    let output = answer_records(out, &bytes[..n], version, vertices, indices);
+    let output = answer_records(rt, out, &bytes[..n], version, vertices, indices);
     let more = (n == size) & !output.failed;
     Chunk {
         input,

@@ -36,6 +36,7 @@ fn stopped(read: usize, written: usize) -> Answered
 
 // Reads and answers chunks until one is not full, or a read or a write fails.
 fn answer_chunks(
+    rt: &HostRuntime,
     bytes: &mut [u8],
     out: &mut [u8],
     version: Version,
@@ -49,7 +50,7 @@ fn answer_chunks(
     let mut read = 0;
     let mut written = 0;
     while (read <= MOST) & (written <= MOST) {
-        let piece = answer_chunk(bytes, out, version, vertices, indices);
+        let piece = answer_chunk(rt, bytes, out, version, vertices, indices);
         read += piece.input.count;
         written += piece.output.count;
         if !piece.more {
@@ -66,6 +67,7 @@ fn answer_chunks(
 
 // Reads and answers what follows a header.
 pub(crate) fn answer_rest(
+    rt: &HostRuntime,
     rest: Rest,
     bytes: &mut [u8],
     out: &mut [u8],
@@ -77,7 +79,7 @@ pub(crate) fn answer_rest(
     ensures { AnsweredRest rest bytes.new result }
 {
     match rest {
-        Rest::Records(version) => answer_chunks(bytes, out, version, vertices, indices),
+        Rest::Records(version) => answer_chunks(rt, bytes, out, version, vertices, indices),
         Rest::Nothing => stopped(0, 0),
     }
 }

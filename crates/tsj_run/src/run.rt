@@ -20,6 +20,7 @@ fn output_buffer() -> [u8; 524288] {
 // Answers the job on standard input. It reads the header to `header` and the records, up to 256 at a time, to the front of `bytes`, and draws
 // patches into the two lists.
 pub fn run(
+    rt: &HostRuntime,
     header: &mut [u8; 5],
     bytes: &mut [u8; 7680],
     vertices: &mut [u32; 12675],
@@ -28,8 +29,8 @@ pub fn run(
     ensures { JobRan header.new bytes.new result }
 {
     let mut out = output_buffer();
-    let start = answer_header(header, &mut out);
+    let start = answer_header(rt, header, &mut out);
     let rest = start.rest;
-    let records = answer_rest(rest, bytes, &mut out, vertices, indices);
+    let records = answer_rest(rt, rest, bytes, &mut out, vertices, indices);
     JobOutcome { start, records }
 }

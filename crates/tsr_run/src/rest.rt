@@ -33,6 +33,7 @@ fn stopped(read: usize, answer: Replay) -> Replayed
 
 // Reads and replays chunks until one is not full, an entry differs or a read fails.
 fn replay_chunks(
+    rt: &HostRuntime,
     bytes: &mut [u8],
     start: Replay,
     vertices: &mut [u32],
@@ -46,7 +47,7 @@ fn replay_chunks(
     let mut so_far = start;
     let mut read = 0;
     while read <= MOST {
-        let piece = replay_chunk(bytes, so_far, vertices, indices);
+        let piece = replay_chunk(rt, bytes, so_far, vertices, indices);
         read += piece.input.count;
         so_far = piece.so_far;
         if !piece.more {
@@ -63,6 +64,7 @@ fn replay_chunks(
 
 // Reads and replays what follows a header: nothing if the header is refused.
 pub(crate) fn replay_rest(
+    rt: &HostRuntime,
     bytes: &mut [u8],
     start: Replay,
     vertices: &mut [u32],
@@ -74,7 +76,7 @@ pub(crate) fn replay_rest(
     ensures { ReplayedRest start bytes.new result }
 {
     if is_open(start) {
-        replay_chunks(bytes, start, vertices, indices)
+        replay_chunks(rt, bytes, start, vertices, indices)
     } else {
         stopped(0, start)
     }
