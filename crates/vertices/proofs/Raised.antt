@@ -6,8 +6,7 @@ use native.Mathlib.Omega.{arith}
 use lib.ListN.{length, take, drop, get_or, set, length-append, length-take, length-drop}
 use lib.Seq.{drop-cons, take-add, take_at, set_at}
 use Rattle.edge.specs.Table.{table}
-use Rattle.mesh_geometry.specs.declared.Point.{Point}
-use Rattle.mesh_geometry.specs.Words.{coordinate_words, vertex_words}
+use Rattle.mesh_geometry.specs.Words.{vertex_words}
 use Rattle.vertices.specs.Rows.{place_in}
 use Rattle.vertices.specs.Grids.{row_points, with_second}
 
