@@ -1,10 +1,10 @@
 -- Cover and seams of a list of all points of a patch, whatever call wrote it: the law that every drawing call uses. Assumes nothing.
 use Prim.Native.Nat.{ℕ, zero, suc, ◌+◌, ◌<◌}
-use mathlib.Core.Path.{◌≡◌, sym, ap, ap₂, ◌∙◌}
+use mathlib.Core.Path.{◌≡◌, sym, ◌∙◌}
 use mathlib.Core.Bool.{Bool, false}
 use mathlib.Core.List.{List, [], ◌∷◌}
 use native.Mathlib.Omega.{arith}
-use lib.ListN.{length, get_or, length-map}
+use lib.ListN.{length, length-map}
 use lib.Ieee.{Float}
 use Rattle.level.specs.Top.{Top}
 use Rattle.level.specs.Segments.{segments_of}
@@ -14,7 +14,7 @@ use Rattle.patch.specs.Subdivide.{outer_levels, discards, subdivision_of}
 use Rattle.mesh_geometry.specs.declared.Point.{Point}
 use Rattle.mesh_geometry.specs.Cover.{Face, Cover, sides, piece}
 use Rattle.mesh_geometry.specs.Seam.{OuterEdge, places, Mirrors}
-use Rattle.mesh_geometry.specs.Edge.{Run, along, EdgesPlaced}
+use Rattle.mesh_geometry.specs.Edge.{Run, EdgesPlaced}
 use Rattle.patch_mesh.specs.Points.{run, points}
 use Rattle.patch_mesh.specs.Primitives.{index_words}
 use Rattle.patch_mesh.specs.Demand.{Surface, outer_runs, edges, Demand}

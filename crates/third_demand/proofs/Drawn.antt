@@ -1,5 +1,5 @@
 -- The third demand for what the two drawing operations wrote, and the seam between the points of any two patches. Assumes nothing.
-use Prim.Native.Nat.{ℕ, ◌*◌}
+use Prim.Native.Nat.{ℕ}
 use mathlib.Core.Path.{◌≡◌}
 use mathlib.Core.List.{List}
 use lib.ListN.{take}
