@@ -1,10 +1,10 @@
 -- Every patch that is not discarded meets the chapter, drawn with any settings whose top level is good.
 -- Assumes nothing.
-use Prim.Native.Nat.{ℕ, zero, suc, ◌+◌, ◌≤◌, ◌<◌}
+use Prim.Native.Nat.{ℕ, zero, suc, ◌+◌, ◌<◌}
 use mathlib.Core.Path.{◌≡◌, refl, sym, ◌∙◌}
 use mathlib.Core.Bool.{Bool, true, false, cond, true≢false, ◌&&◌}
 use mathlib.Core.List.Perm
-use mathlib.Core.List.{List, [], ◌∷◌, map, Perm}
+use mathlib.Core.List.{List, [], ◌∷◌, Perm}
 use native.Mathlib.Omega.{arith}
 use lib.ListN.{length}
 use lib.Ieee.{Float}
@@ -36,7 +36,6 @@ use Rattle.mesh_geometry.specs.Segmented.{run}
 use Rattle.mesh_geometry.specs.RingPoints.{segments}
 use Rattle.mesh_geometry.specs.TrianglePoints.{triangle_place, triangle_corners}
 use Rattle.mesh_geometry.specs.QuadPoints.{quad_place, quad_corners}
-use Rattle.mesh_geometry.proofs.Edge.{good_some}
 use Rattle.mesh_geometry.proofs.Members.{all_member, at_member}
 use Rattle.patch_mesh.specs.Points.{points}
 use Rattle.patch_mesh.specs.Primitives.{triangles, primitives, index_words}

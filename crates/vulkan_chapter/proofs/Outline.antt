@@ -1,7 +1,7 @@
 -- 23.6 and 23.7: the vertices along the outer edges, each edge's end included.
 -- Assumes nothing.
-use Prim.Native.Nat.{ℕ, zero, suc, ◌+◌, ◌-◌, ◌≤◌, ◌<◌}
-use mathlib.Core.Path.{◌≡◌, refl, ap, sym, ◌∙◌}
+use Prim.Native.Nat.{ℕ, zero, suc, ◌+◌, ◌≤◌, ◌<◌}
+use mathlib.Core.Path.{◌≡◌, ap, sym, ◌∙◌}
 use mathlib.Core.List.{List}
 use native.Mathlib.Omega.{arith}
 use native.Mathlib.Decide.{dec_le}
@@ -15,7 +15,7 @@ use Rattle.mesh_geometry.specs.Faces.{at}
 use Rattle.mesh_geometry.specs.Edge.{Run, GoodRun, ring}
 use Rattle.mesh_geometry.specs.Domain.{Domain, triangle, square, edge_count, place_on}
 use Rattle.mesh_geometry.specs.OnEdge.{OnEdge}
-use Rattle.mesh_geometry.specs.OuterRing.{edge_start, OuterRing}
+use Rattle.mesh_geometry.specs.OuterRing.{edge_start}
 use Rattle.mesh_geometry.specs.RingPoints.{segments}
 use Rattle.mesh_geometry.proofs.Edge.{good_some, good_to}
 use Rattle.mesh_geometry.proofs.OuterRing.{outer_exactly}

@@ -23,7 +23,6 @@ use Rattle.mesh_geometry.specs.Domain.{square}
 use Rattle.mesh_geometry.specs.Faces.{at}
 use Rattle.mesh_geometry.specs.Edge.{Run, GoodRun}
 use Rattle.mesh_geometry.specs.OnEdge.{OnEdge}
-use Rattle.mesh_geometry.specs.OuterRing.{edge_start}
 use Rattle.mesh_geometry.specs.QuadPoints.{quad_patch}
 use Rattle.mesh_geometry.specs.RingPoints.{segments}
 use Rattle.mesh_geometry.specs.GridPoints.{GridPoints}
@@ -34,23 +33,7 @@ use Rattle.mesh_geometry.proofs.QuadTurns.{joined_all}
 use Rattle.mesh_geometry.proofs.GridPoints.{grid_exactly}
 use Rattle.vulkan_chapter.specs.Members.{Member}
 use Rattle.vulkan_chapter.specs.Between.{NumberedLine, BandFilled}
-use Rattle.vulkan_chapter.specs.Quads.{
-  OnLines,
-  OnEdgeOrGrid,
-  on_edge,
-  on_grid,
-  Halves,
-  along_xz,
-  along_yw,
-  HalvesCell,
-  InnerRectangle,
-  inner_side,
-  PairDrawn,
-  InGrid,
-  first_of_pair,
-  second_of_pair,
-  between,
-}
+use Rattle.vulkan_chapter.specs.Quads.{OnLines, OnEdgeOrGrid, on_edge, on_grid, Halves, along_xz, along_yw, InnerRectangle, inner_side, PairDrawn, InGrid, first_of_pair, second_of_pair, between}
 use Rattle.vulkan_chapter.proofs.Between.{same_turned, joins_same, member_joined, each_turned, filled_in, filled_turned, strip_joins, strip_fills}
 use Rattle.vulkan_chapter.proofs.Outline.{whole_edge_lem}
 

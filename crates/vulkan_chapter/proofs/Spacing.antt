@@ -1,6 +1,6 @@
 -- 23.3: every level is clamped and rounded, and its edge divided, as the chapter requires.
 -- Assumes nothing.
-use Prim.Native.Nat.{ℕ, ◌+◌, ◌*◌, ◌≤◌, ◌<◌}
+use Prim.Native.Nat.{ℕ, ◌*◌, ◌≤◌}
 use mathlib.Core.Path.{◌≡◌, refl, ap, ap₂, ◌∙◌}
 use mathlib.Core.Bool.{Bool, true, false, cond}
 use native.Mathlib.Omega.{arith}
@@ -26,7 +26,6 @@ use Rattle.level.proofs.Scale.{least_parts, parts_rise}
 use Rattle.level.proofs.Rounding.{least_count}
 use Rattle.level.proofs.Valid.{segments_valid}
 use Rattle.edge.specs.Positions.{position}
-use Rattle.mesh_geometry.specs.Edge.{Run}
 use Rattle.mesh_geometry.specs.Segmented.{run}
 use Rattle.vulkan_chapter.specs.Lengths.{Decreases}
 use Rattle.vulkan_chapter.specs.Spacing.{low_end, high_end, LevelClamped, whole_level, RoundedUp, LengthsOf, Spaced, EdgeRule, one_plus, Subdivides}

@@ -5,7 +5,7 @@ use mathlib.Core.Path.{◌≡◌, refl, sym, ap, ◌∙◌}
 use mathlib.Core.Bool.{Bool, true, false, cond}
 use mathlib.Core.List.Memᴰ
 use mathlib.Core.List.Perm
-use mathlib.Core.List.{List, [], ◌∷◌, ◌++◌, map, Perm}
+use mathlib.Core.List.{List, [], ◌∷◌, map, Perm}
 use native.Mathlib.Omega.{arith}
 use native.Mathlib.Decide.{dec_le}
 use lib.Dec.{eqb}
@@ -14,12 +14,10 @@ use borrow.Author.Tests.{eq-eqb, eqb-true}
 use Rattle.strip.specs.declared.triangle.Triangle.{Triangle}
 use Rattle.strip.specs.Triangles.{turned}
 use Rattle.strip.specs.Mirror.{SameCorners}
-use Rattle.mesh_topology.specs.Sides.{sum}
-use Rattle.mesh_topology.specs.Ring.{ring_at}
 use Rattle.mesh_topology.specs.Nest.{nest}
 use Rattle.mesh_topology.specs.Quad.{joined_lists}
 use Rattle.mesh_topology.specs.RingVertices.{ring_segments, edge_first, ring_size, ring_first, vertex_on}
-use Rattle.mesh_topology.specs.RingStrips.{ring_strip, strips_between, innermost, ring_strips}
+use Rattle.mesh_topology.specs.RingStrips.{ring_strip, strips_between, innermost}
 use Rattle.mesh_topology.proofs.Ring.{ring_zero}
 use Rattle.mesh_topology.proofs.Sums.{sum_constant}
 use Rattle.mesh_topology.proofs.RingVertices.{vertex_before, vertex_end}
