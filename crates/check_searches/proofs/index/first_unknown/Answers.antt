@@ -1,0 +1,14 @@
+use borrow.Author.Tests.{le-leb}
+use native.Mathlib.Omega.{arith}
+use mathlib.Core.Path.{refl}
+use Rattle.check_searches.specs.Indices.{first_unknown_index}
+use Rattle.check_searches.proofs.First.{search_found, search_none}
+use Rattle.check_searches.proofs.index.first_unknown.Goals as goal
+
+pub returns-then-count-indices : goal.returns-then-count-indices
+unfolding first_unknown_index
+returns-then-count-indices c = search_found refl c.loop-k.invariant (omega arith) (le-leb _ _ c.if-count-indices.true)
+
+pub returns : goal.returns
+unfolding first_unknown_index
+returns c = search_none refl c.loop-k.invariant (omega arith)
