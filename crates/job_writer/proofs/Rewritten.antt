@@ -3,7 +3,7 @@ use Prim.Native.Nat.{ℕ, ◌≤◌}
 use native.Mathlib.Omega.{arith}
 use mathlib.Core.Path.{◌≡◌, refl, sym, ap, ◌∙◌}
 use mathlib.Core.Bool.{true, false, cond, Bool}
-use mathlib.Core.List.{List, [], ◌∷◌, ◌++◌}
+use mathlib.Core.List.{List, [], ◌∷◌}
 use borrow.Author.Tests.{le-ltb}
 use lib.Dec.{ltb}
 use lib.ListN.{length, take, drop, get_or}
@@ -20,7 +20,7 @@ use Rattle.job.specs.Header.{header_of}
 use Rattle.job.specs.Records.{record_at}
 use Rattle.job_writer.specs.declared.answer.HeaderWritten.{HeaderWritten}
 use Rattle.job_writer.specs.declared.answer.RecordWritten.{RecordWritten}
-use Rattle.job_bytes.specs.Written.{header_bytes, record_bytes, takes_top}
+use Rattle.job_bytes.specs.Written.{header_bytes, takes_top}
 use Rattle.job_writer.specs.Whole.{Bytes, Reads, records_bytes, file_bytes}
 use Rattle.job_writer.specs.Answers.{wrote, header_code, record_code, bytes_verdict, record_verdict, WroteHeader, WroteRecord}
 use Rattle.job_writer.specs.InTurn.{RecordsInTurn, none, more, FileInTurn}
