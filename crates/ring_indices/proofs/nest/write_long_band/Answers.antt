@@ -1,5 +1,3 @@
--- Meets its contract. Assumes nothing.
-use borrow.Author.Rules.{rules}
 use native.Mathlib.Omega.{arith}
 use Prim.Native.Nat.{◌+◌, ◌*◌}
 use mathlib.Core.List.{[], ◌∷◌}
@@ -15,38 +13,34 @@ use Rattle.strip.proofs.Strips.{indices_length, strip_same, strip_follows}
 use Rattle.strip_blocks.proofs.Blocks.{open_next}
 use Rattle.mesh_topology.specs.Band.{from}
 use mathlib.Core.Bool.{false}
-use Rattle.ring_indices.proofs.nest.write_long_band.Statement.{statement}
-use Rattle.ring_indices.proofs.nest.write_long_band.Tie as tie
+use Rattle.ring_indices.proofs.nest.write_long_band.Goals as goal
 
-write-open-requires-2 : tie.Need-write-open-requires-2
-write-open-requires-2 c κs =
-    let s = c.before.before.before.before.before.before in
-    let a = s.args in
+pub write_open-w-requires-2-clause-fact_3 : goal.write_open-w-requires-2-clause-fact_3
+write_open-w-requires-2-clause-fact_3 c =
+    let a = c.args in
     let r = a.r in
     let x0 = a.base in
     let x1 = a.base + (r + 2) in
     let y0 = a.base + 3 * (r + 2) in
     let y1 = y0 + r in
-    let l = c.before.before.before.write-open in
-    (s.requires.0, (omega arith, omega (arith, open_next a.positive x0 y0 r (omega arith) l.ensures, l.auto.0)))
+    let l = c.write_open-w in
+    omega (arith, open_next a.positive x0 y0 r (omega arith) l.ensures, l.auto.out)
 
-write-long-requires : tie.Need-write-long-requires
-write-long-requires c κs =
-    let s = c.before.before.before.before.before.before.before.before.before.before in
-    let a = s.args in
+pub write_long-requires-clause-fact_3 : goal.write_long-requires-clause-fact_3
+write_long-requires-clause-fact_3 c =
+    let a = c.args in
     let r = a.r in
     let x0 = a.base in
     let x1 = a.base + (r + 2) in
     let y0 = a.base + 3 * (r + 2) in
     let y1 = y0 + r in
-    let k = c.before.before.before.before.before.before.before.write-open in
-    let l = c.before.before.before.write-open2 in
-    (s.requires.0, (omega arith, omega (arith, open_next a.positive x0 y0 r (omega arith) k.ensures, k.auto.0, open_next a.positive x1 y1 r (omega arith) l.ensures, l.auto.0)))
+    let k = c.write_open-w in
+    let l = c.write_open-w-2 in
+    omega (arith, open_next a.positive x0 y0 r (omega arith) k.ensures, k.auto.out, open_next a.positive x1 y1 r (omega arith) l.ensures, l.auto.out)
 
-returns : tie.Need-returns
+pub returns : goal.returns
 returns c =
-    let s = c.before.before.before.before.before.before.before.before.before.before.before.before.before in
-    let a = s.args in
+    let a = c.args in
     let base = a.base in
     let r = a.r in
     let p = r + 2 in
@@ -62,9 +56,9 @@ returns c =
     let y0 = base + 3 * p in
     let y1 = y0 + r in
     let y2 = y0 + 2 * r in
-    let s0 = c.before.before.before.before.before.before.before.before.before.before.write-open in
-    let s1 = c.before.before.before.before.before.before.write-open2 in
-    let s2 = c.before.before.write-long in
+    let s0 = c.write_open-w in
+    let s1 = c.write_open-w-2 in
+    let s2 = c.write_long in
     let G0 = indices a.positive (step_triangle (on x0) (on y0) false (r + 2) r ∷ []) in
     let G1 = indices a.positive (step_triangle (on x1) (on y1) false (r + 2) r ∷ []) in
     let g0 = indices_length a.positive (step_triangle (on x0) (on y0) false (r + 2) r ∷ []) in
@@ -72,7 +66,7 @@ returns c =
     let n0 = open_next a.positive x0 y0 r (omega arith) s0.ensures in
     let n1 = open_next a.positive x1 y1 r (omega arith) s1.ensures in
     three_strips a.positive F p r e0 e1 e2 (on x0) (on y0) (on x1) (on y1) (vertex (line_of x2 p x0)) (vertex (line_of y2 r y0)) G0 G1 (omega arith)
-    (omega (arith, s0.auto.0)) (omega arith) (omega arith) (omega arith)
+    (omega (arith, s0.auto.out)) (omega arith) (omega arith) (omega arith)
     (strip_same (on x0) (from 0 F) (on y0) e0.line p r (λ i h. on_ring base total 0 x0 i (omega arith) (omega arith) (omega arith))
     (λ i h. on_ring inner (3 * r) (0 * r) y0 i (omega arith) (omega arith) (omega arith)))
     (strip_same (on x1) (from (0 + p) F) (on y1) e1.line p r (λ i h. on_ring base total (0 + p) x1 i (omega arith) (omega arith) (omega arith))
@@ -80,16 +74,3 @@ returns c =
     (strip_follows (line_closed base total (0 + p + p) p x2 x0 (omega arith) (omega arith) (omega arith) (omega arith))
     (line_closed inner (3 * r) (2 * r) r y2 y0 (omega arith) (omega arith) (omega arith) (omega arith)))
     s0.ensures (omega arith) s1.ensures (omega arith) s2.ensures
-
-pub write-long-band-spec : {M : Type 1} → statement M
-write-long-band-spec =
-    tie.close
-    (tie.spec
-    (λ c. search rules) (λ c. search rules) (λ c. search rules) (λ c. search rules) (λ c. search rules)
-    (λ c. search rules) (λ c. search rules) (λ c. search rules) (λ c. search rules) (λ c. search rules)
-    (λ c. search rules) (λ c. search rules) (λ c. search rules) (λ c. search rules) (λ c. search rules)
-    (λ c κs. (c.before.before.requires.0, (omega arith, omega arith)))
-    write-open-requires-2
-    write-long-requires
-    (λ c. search rules)
-    returns)
