@@ -1,0 +1,16 @@
+use native.Mathlib.Omega.{arith}
+use Prim.Native.Nat.{◌+◌}
+use Rattle.buffer.proofs.Laws.{wrote_then}
+use Rattle.indices.proofs.Quads.{frame_length, quad_words}
+use Rattle.indices.proofs.quad.write_quad.Goals as goal
+
+pub write_cells-requires-clause-fact_2 : goal.write_cells-requires-clause-fact_2
+write_cells-requires-clause-fact_2 c =
+    let a = c.args in
+    omega (arith, c.write_frame-w.auto.out, frame_length a.positive a.c0 a.c1 a.c2 a.c3 (a.c0 + a.c1 + a.c2 + a.c3) a.m a.n)
+
+pub returns : goal.returns
+returns c =
+    let a = c.args in
+    rw (quad_words a.positive a.c0 a.c1 a.c2 a.c3 a.m a.n) (wrote_then (omega arith)
+    c.write_frame-w.ensures c.write_cells.ensures)
