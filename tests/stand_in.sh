@@ -1,5 +1,5 @@
-# A small checkout with a stand-in for the toolchain's rt, which has the real compiler compile modules that are written here. For the test
-# scripts, which source this file instead of common.sh:
+# A small checkout with a stand-in for the toolchain's rt and rattle, which has the real compiler compile modules that are written here. For
+# the test scripts, which source this file instead of common.sh:
 #     $repository   the checkout, with two crates to export; the name of its folder has a space
 #     $MODULES      the folder of the modules in place of the crates
 #     modules [SED] writes the modules of both crates, the second one changed by a script of sed
@@ -10,27 +10,33 @@
 find_kit || exit 2
 repository="$work/a checkout"
 stand_in="$work/a kit"
-at=on/$(uname -m)/toolchain/bin
+at=toolchain/bin
 mkdir -p "$repository"/{tools,include,rust,crates/exports,crates/more_exports} "$stand_in/bin" "$stand_in/$at" "$work/modules"
 cp tools/{library,merge_modules,kit,alone,is_current} "$repository/tools"
 cp rust/Cargo.toml "$repository/rust"
-printf 'exports:\nmore_exports:\n' >"$repository/crates.txt"
+printf 'exports staticlib:\nmore_exports staticlib:\n' >"$repository/crates.txt"
 printf 'YOKTVARIM_MUST_USE yoktvarim_answer yoktvarim_%s(void);\n' one two >"$repository/include/yoktvarim.h"
-ln -s "$kit/toolchain" "$stand_in/toolchain"
+ln -s "$kit/toolchain/lib" "$stand_in/toolchain/lib"
 ln -s "$clang" "$stand_in/$at/clang"
 
-# The stand-in for rt compiles each module in place of a crate, as the toolchain does.
+# The stand-in for rt proves every crate. That for rattle compiles each module in place of a crate, as the toolchain does.
 cat >"$stand_in/bin/rt" <<'SCRIPT'
 #!/bin/sh
-[ "$1" = staticlib ] || exit 2
-for module in "$MODULES/$2"*.ll; do
+[ "$*" = 'lib --cpu x86-64' ] || exit 2
+SCRIPT
+cat >"$stand_in/bin/rattle" <<'SCRIPT'
+#!/bin/sh
+[ "$1:$2" = build:--crate-name ] || exit 2
+crate=$3
+while [ "$1" != --toolchain ]; do shift; done
+for module in "$MODULES/$crate"*.ll; do
     [ -e "$module" ] || exit 0
     rm -f "$MODULES/module.bc"
     "$CLANG" --target="$(sed -nE 's/^target triple = "(.*)"/\1/p' "$module")" -c -emit-llvm -x ir "$module" -o "$MODULES/module.bc"
-    "$RATTLE_HOME/on/$(uname -m)/toolchain/bin/clang" -Wno-override-module -c -x ir "$MODULES/module.bc" -o "$MODULES/module.o"
+    "$2/bin/clang" -Wno-override-module -c -x ir "$MODULES/module.bc" -o "$MODULES/module.o"
 done
 SCRIPT
-chmod +x "$stand_in/bin/rt"
+chmod +x "$stand_in/bin/rt" "$stand_in/bin/rattle"
 export MODULES=$work/modules CLANG=$clang
 export PATH=$stand_in/bin:$PATH
 
@@ -54,7 +60,7 @@ define noundef i32 @yoktvarim_$1(i32 noundef %a0) #0 {
   ret i32 %r0
 }
 
-attributes #0 = { noinline nounwind "probe-stack"="inline-asm" "target-cpu"="x86-64" }
+attributes #0 = { noinline nounwind "probe-stack"="inline-asm" "stack-probe-size"="3072" "target-cpu"="x86-64" }
 
 !llvm.ident = !{!0}
 !0 = !{!"rattle"}
