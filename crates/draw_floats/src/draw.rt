@@ -13,8 +13,8 @@ pub fn draw_with_floats(
     indices: &mut [u16],
     floats: &mut [f32],
 ) -> FloatsAnswer
-    ensures { DrewWithFloats settings patch (record { vertices = vertices.entry.now; indices = indices.old; floats = floats.old })
-        (record { vertices = vertices.exit.now; indices = indices.new; floats = floats.new }) result }
+    ensures { DrewWithFloats settings patch (record { vertices = vertices.old; indices = indices.old; floats = floats.old })
+        (record { vertices = vertices.new; indices = indices.new; floats = floats.new }) result }
 {
     let answer = crate::room::judge(patch, settings, vertices.len(), indices.len(), floats.len());
     let FloatsAnswer::Drawn { points, indices: _ } = answer else {

@@ -36,8 +36,8 @@ pub extern "C" fn yoktvarim_draw_with_floats(
     counts: &mut [u32; 2],
 ) -> u32
     ensures { FloatsCalled settings.now levels.now
-        (record { vertices = vertices.entry.now; indices = indices.old; floats = floats.old })
-        (record { vertices = vertices.exit.now; indices = indices.new; floats = floats.new }) counts.new result }
+        (record { vertices = vertices.old; indices = indices.old; floats = floats.old })
+        (record { vertices = vertices.new; indices = indices.new; floats = floats.new }) counts.new result }
 {
     match read_call(settings, levels) {
         Asked::Refused { reply } => say_two(reply, counts),

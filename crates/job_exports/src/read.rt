@@ -24,7 +24,7 @@ pub extern "C" fn yoktvarim_read_record(
     place: &mut [u32; 1],
 ) -> u32
     ensures { RecordAsked version bytes.now at
-        (record { settings = settings.exit.now; patterns = patterns.new; next = next.new; place = place.new }) result }
+        (record { settings = settings.new; patterns = patterns.new; next = next.new; place = place.new }) result }
 {
     let found = found_at(bytes, version, at);
     let six_settings = found.settings;

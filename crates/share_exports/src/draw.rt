@@ -46,8 +46,8 @@ fn draw_known(
     counts: &mut [u32; 2],
 ) -> u32
     ensures { ShareCalled (draw_verdict designer state settings patch (length vertices.old) (length indices.old)) designer state
-        settings patch (record { words = words.entry.now; vertices = vertices.old; indices = indices.old })
-        (record { words = words.exit.now; vertices = vertices.new; indices = indices.new }) counts.new result }
+        settings patch (record { words = words.old; vertices = vertices.old; indices = indices.old })
+        (record { words = words.new; vertices = vertices.new; indices = indices.new }) counts.new result }
 {
     let result = share_draw::draw::draw(state, designer, patch, settings, vertices, indices);
     let answer = result.answer;
