@@ -1,22 +1,22 @@
 -- A search along the chain of sides that start at a triangle's first corner. Assumes nothing.
-use Prim.Native.Nat.{ℕ, zero, suc, ◌+◌, ◌-◌, ◌*◌, ◌/◌, ◌%◌, ◌≤◌, ◌<◌}
+use Prim.Native.Nat.{ℕ, suc, ◌+◌, ◌-◌, ◌*◌, ◌/◌, ◌≤◌, ◌<◌}
 use mathlib.Core.Path.{◌≡◌, refl, sym, ap, ◌∙◌}
-use mathlib.Core.Bool.{Bool, true, false, ◌&&◌, ◌||◌, true≢false}
+use mathlib.Core.Bool.{Bool, true, false, ◌&&◌, true≢false}
 use mathlib.Core.List.{List}
 use mathlib.Core.Logic.{◌⊎◌, inl, inr}
 use native.Mathlib.Omega.{arith}
 use native.Mathlib.Decide.{dec_le}
 use lib.Dec.{eqb}
-use lib.ListN.{length, get_or}
+use lib.ListN.{get_or}
 use borrow.Author.Tests.{eq-eqb, ne_eqb, eqb-true}
 use Rattle.strip.specs.declared.triangle.Triangle.{Triangle}
 use Rattle.check_searches.specs.Triangles.{triangle_at}
-use Rattle.check_searches.proofs.First.{some_here, some_none, some_all, some_which}
+use Rattle.check_searches.proofs.First.{some_here, some_none}
 use Rattle.check_side_searches.specs.Same.{same_triangle}
 use Rattle.check_faults.specs.Outline.{start_corner, end_of}
 use Rattle.half_edge_chains.specs.Sides.{side_start, side_end, is_side}
 use Rattle.half_edge_chains.specs.Links.{last_from, Linked}
-use Rattle.half_edge_chains.proofs.Numbers.{numbered_start, numbered_end, both, both_which, which_of, same_ends, ends_same}
+use Rattle.half_edge_chains.proofs.Numbers.{numbered_start, numbered_end, both, both_which, which_of, same_ends}
 use Rattle.half_edge_chains.proofs.Table.{last_none, last_is, last_most, link_before}
 use Rattle.triangle_table.specs.Hits.{some_face, hits, TriangleSought}
 
