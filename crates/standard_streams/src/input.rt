@@ -2,6 +2,7 @@
 ghost use Rattle.std.specs.Prelude.{◌+◌, ◌≤◌, length};
 ghost use Rattle.standard_streams.specs.Moved.{Filled};
 
+use crate::streams::Streams;
 use std::io::{Read, Stdin};
 
 // How many bytes were read, and whether a read failed. Fewer bytes than asked for without a failure mean that the input has ended.
@@ -26,10 +27,10 @@ fn read_on(stdin: &mut Stdin, bytes: &mut [u8], at: usize) -> Input
 }
 
 // Reads to the front of `bytes` until it is full, the input ends or a read fails.
-pub fn read_front(rt: &HostRuntime, bytes: &mut [u8]) -> Input
+pub fn read_front(streams: &Streams, bytes: &mut [u8]) -> Input
     ensures { Filled (length bytes.new) bytes.new result }
 {
-    let mut stdin = rt.stdin();
+    let mut stdin = streams.rt.stdin();
     let mut at = 0;
     while at < bytes.len() {
         let next = read_on(&mut stdin, bytes, at);

@@ -2,7 +2,8 @@
 ghost use Rattle.std.specs.Prelude.{◌+◌, ◌≤◌, length};
 ghost use Rattle.standard_streams.specs.Moved.{Taken};
 
-use std::io::Write;
+use crate::streams::Streams;
+use std::io::{ErrorKind, Write};
 
 // How many bytes were written, and whether a write failed, so that some are missing.
 #[derive(Clone, Copy, Drop)]
@@ -11,22 +12,28 @@ pub struct Output {
     pub failed: bool,
 }
 
-// Does one write, of the bytes from `at` on; returns how many bytes it took.
-fn write_on<W: Write>(file: &mut W, bytes: &[u8], at: usize) -> usize
+// Does one write, of the bytes from `at` on; returns how many bytes it took, and notes where nobody reads them any more.
+fn write_on<W: Write>(file: &mut W, is_closed: &mut bool, bytes: &[u8], at: usize) -> usize
     requires { at ≤ length bytes.now }
     ensures { at + result ≤ length bytes.now }
 {
     let rest = &bytes[at..];
-    file.write(rest).unwrap_or(0)
+    match file.write(rest) {
+        Ok(count) => count,
+        Err(error) => {
+            *is_closed = error.kind() == ErrorKind::BrokenPipe;
+            0
+        }
+    }
 }
 
 // Writes until all of `bytes` is taken or a write takes no byte.
-fn write_front<W: Write>(file: &mut W, bytes: &[u8]) -> Output
+fn write_front<W: Write>(file: &mut W, is_closed: &mut bool, bytes: &[u8]) -> Output
     ensures { Taken (length bytes.now) result }
 {
     let mut at = 0;
     while at < bytes.len() {
-        let next = write_on(file, bytes, at);
+        let next = write_on(file, is_closed, bytes, at);
         if next == 0 {
             return Output {
                 count: at,
@@ -42,19 +49,21 @@ fn write_front<W: Write>(file: &mut W, bytes: &[u8]) -> Output
 }
 
 // Writes a line to standard error.
-pub fn tell(rt: &HostRuntime, line: &[u8]) -> Output
+pub fn tell(streams: &Streams, line: &[u8]) -> Output
     ensures { Taken (length line.now) result }
 {
-    write_front(&mut rt.stderr(), line)
+    let mut is_closed = false;
+    write_front(&mut streams.rt.stderr(), &mut is_closed, line)
 }
 
-// Writes `bytes` to standard output; if that fails, writes a line to standard error.
-pub fn write_or_tell(rt: &HostRuntime, bytes: &[u8], line: &[u8]) -> Output
+// Writes `bytes` to standard output; if that fails, writes a line to standard error, unless nobody reads standard output any more.
+pub fn write_or_tell(streams: &mut Streams, bytes: &[u8], line: &[u8]) -> Output
     ensures { Taken (length bytes.now) result }
 {
-    let output = write_front(&mut rt.stdout(), bytes);
-    if output.failed {
-        tell(rt, line);
+    let mut stdout = streams.rt.stdout();
+    let output = write_front(&mut stdout, &mut streams.is_closed, bytes);
+    if output.failed & !streams.is_closed {
+        tell(streams, line);
     }
     output
 }

@@ -9,7 +9,7 @@ ghost use Rattle.tsj_pieces.specs.Chunks.{AnsweredSome, AnsweredChunk};
 use crate::failures::{read_or_tell, write_or_tell};
 use job_fields::version::{Version, record_size};
 use job_text::records::{Progress, put_records};
-use standard_streams::{Input, Output};
+use standard_streams::{Input, Output, Streams};
 
 // How far the records are answered, and how much of their text was written.
 #[derive(Clone, Copy, Drop)]
@@ -28,7 +28,7 @@ pub struct Chunk {
 
 // Answers the records from place `at` of `bytes` on, as many as fit into `out`.
 fn answer_some(
-    rt: &HostRuntime,
+    streams: &mut Streams,
     bytes: &[u8],
     at: usize,
     version: Version,
@@ -42,13 +42,13 @@ fn answer_some(
 {
     let progress = put_records(out, bytes, version, at, vertices, indices);
     let written = progress.written;
-    let output = write_or_tell(rt, &out[..written]);
+    let output = write_or_tell(streams, &out[..written]);
     Step { progress, output }
 }
 
 // Answers every record of `bytes`, up to a write that fails.
 fn answer_records(
-    rt: &HostRuntime,
+    streams: &mut Streams,
     out: &mut [u8],
     bytes: &[u8],
     version: Version,
@@ -63,7 +63,7 @@ fn answer_records(
     let mut count = 0;
     let mut at = 0;
     while at < bytes.len() {
-        let step = answer_some(rt, bytes, at, version, out, vertices, indices);
+        let step = answer_some(streams, bytes, at, version, out, vertices, indices);
         count += step.output.count;
         if step.output.failed {
             return Output {
@@ -89,7 +89,7 @@ fn chunk_size(version: Version) -> usize
 // Reads a chunk to the front of `bytes` and answers it. If the read fails, nothing is written. Another chunk follows if this one is full and
 // was written; a chunk with fewer bytes is the last.
 pub fn answer_chunk(
-    rt: &HostRuntime,
+    streams: &mut Streams,
     bytes: &mut [u8],
     out: &mut [u8],
     version: Version,
@@ -101,7 +101,7 @@ pub fn answer_chunk(
     ensures { AnsweredChunk version bytes.new result }
 {
     let size = chunk_size(version);
-    let input = read_or_tell(rt, bytes, size);
+    let input = read_or_tell(streams, bytes, size);
     if input.failed {
         let output = Output {
             count: 0,
@@ -114,7 +114,7 @@ pub fn answer_chunk(
         };
     }
     let n = input.count;
-    let output = answer_records(rt, out, &bytes[..n], version, vertices, indices);
+    let output = answer_records(streams, out, &bytes[..n], version, vertices, indices);
     let more = (n == size) & !output.failed;
     Chunk {
         input,

@@ -6,7 +6,7 @@ ghost use Rattle.tsj_pieces.specs.Headers.{header_text, AnsweredHeader};
 use crate::failures::{read_or_tell, write_or_tell};
 use job::header::read_header;
 use job_text::header::{Rest, put_header, rest_of};
-use standard_streams::{Input, Output};
+use standard_streams::{Input, Output, Streams};
 
 // What was read and written, and what to read next: nothing if the read or the write failed.
 #[derive(Clone, Copy, Drop)]
@@ -17,13 +17,13 @@ pub struct Start {
 }
 
 // Reads the header to the front of `header`, and writes its answer, which is at the front of `out`. If the read fails, nothing is written.
-pub fn answer_header(rt: &HostRuntime, header: &mut [u8], out: &mut [u8]) -> Start
+pub fn answer_header(streams: &mut Streams, header: &mut [u8], out: &mut [u8]) -> Start
     requires fact_1 { 5 ≤ length header.old }
     requires fact_2 { room ≤ length out.old }
     ensures answered_header { AnsweredHeader header.new result }
     ensures out_after { take (length (header_text header.new result.input)) out.new ≡ header_text header.new result.input }
 {
-    let input = read_or_tell(rt, header, 5);
+    let input = read_or_tell(streams, header, 5);
     if input.failed {
         let output = Output {
             count: 0,
@@ -38,7 +38,7 @@ pub fn answer_header(rt: &HostRuntime, header: &mut [u8], out: &mut [u8]) -> Sta
     let n = input.count;
     let found = read_header(&header[..n]);
     let written = put_header(out, found);
-    let output = write_or_tell(rt, &out[..written]);
+    let output = write_or_tell(streams, &out[..written]);
     if output.failed {
         return Start {
             input,

@@ -5,7 +5,7 @@ ghost use Rattle.tsj_run.specs.Rests.{job_stopped_at, AnsweredRest};
 
 use job_fields::version::Version;
 use job_text::header::Rest;
-use standard_streams::{Input, Output};
+use standard_streams::{Input, Output, Streams};
 use tsj_pieces::chunk::answer_chunk;
 
 // A proved loop has to end, and the input need not: after more than this many bytes were read or written, no further chunk is read.
@@ -36,7 +36,7 @@ fn stopped(read: usize, written: usize) -> Answered
 
 // Reads and answers chunks until one is not full, or a read or a write fails.
 fn answer_chunks(
-    rt: &HostRuntime,
+    streams: &mut Streams,
     bytes: &mut [u8],
     out: &mut [u8],
     version: Version,
@@ -50,7 +50,7 @@ fn answer_chunks(
     let mut read = 0;
     let mut written = 0;
     while (read <= MOST) & (written <= MOST) {
-        let piece = answer_chunk(rt, bytes, out, version, vertices, indices);
+        let piece = answer_chunk(streams, bytes, out, version, vertices, indices);
         read += piece.input.count;
         written += piece.output.count;
         if !piece.more {
@@ -67,7 +67,7 @@ fn answer_chunks(
 
 // Reads and answers what follows a header.
 pub(crate) fn answer_rest(
-    rt: &HostRuntime,
+    streams: &mut Streams,
     rest: Rest,
     bytes: &mut [u8],
     out: &mut [u8],
@@ -79,7 +79,7 @@ pub(crate) fn answer_rest(
     ensures { AnsweredRest rest bytes.new result }
 {
     match rest {
-        Rest::Records(version) => answer_chunks(rt, bytes, out, version, vertices, indices),
+        Rest::Records(version) => answer_chunks(streams, bytes, out, version, vertices, indices),
         Rest::Nothing => stopped(0, 0),
     }
 }

@@ -3,6 +3,7 @@
 ghost use Rattle.tsj_run.specs.Runs.{JobRan};
 
 use crate::records::{Answered, answer_rest};
+use standard_streams::Streams;
 use tsj_pieces::header::{Start, answer_header};
 
 // What was read and written, for the header and for the records after it.
@@ -20,7 +21,7 @@ fn output_buffer() -> [u8; 524288] {
 // Answers the job on standard input. It reads the header to `header` and the records, up to 256 at a time, to the front of `bytes`, and draws
 // patches into the two lists.
 pub fn run(
-    rt: &HostRuntime,
+    streams: &mut Streams,
     header: &mut [u8; 5],
     bytes: &mut [u8; 7680],
     vertices: &mut [u32; 12675],
@@ -29,8 +30,8 @@ pub fn run(
     ensures { JobRan header.new bytes.new result }
 {
     let mut out = output_buffer();
-    let start = answer_header(rt, header, &mut out);
+    let start = answer_header(streams, header, &mut out);
     let rest = start.rest;
-    let records = answer_rest(rt, rest, bytes, &mut out, vertices, indices);
+    let records = answer_rest(streams, rest, bytes, &mut out, vertices, indices);
     JobOutcome { start, records }
 }

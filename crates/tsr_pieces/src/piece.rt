@@ -7,7 +7,7 @@ ghost use Rattle.tsr_pieces.specs.Pieces.{ReplayedHeader, ReplayedChunk};
 
 use replay::answer::Replay;
 use replay::recording::{go_on, read_start};
-use standard_streams::{Input, read_front};
+use standard_streams::{Input, Streams, read_front};
 
 // The size of a full chunk in bytes: 256 entries.
 const CHUNK: usize = 8704;
@@ -45,11 +45,11 @@ pub fn is_open(so_far: Replay) -> bool
 }
 
 // Reads the header to `header`; returns the answer after it.
-pub fn replay_header(rt: &HostRuntime, header: &mut [u8]) -> Start
+pub fn replay_header(streams: &Streams, header: &mut [u8]) -> Start
     requires { length header.old ≡ 5 }
     ensures { ReplayedHeader header.new result }
 {
-    let input = read_front(rt, header);
+    let input = read_front(streams, header);
     let n = input.count;
     let so_far = read_start(&header[..n]);
     Start { input, so_far }
@@ -58,7 +58,7 @@ pub fn replay_header(rt: &HostRuntime, header: &mut [u8]) -> Start
 // Reads a chunk to `bytes` and replays it. Another chunk follows if this one is full and its entries agree; a chunk with fewer bytes is
 // the last.
 pub fn replay_chunk(
-    rt: &HostRuntime,
+    streams: &Streams,
     bytes: &mut [u8],
     so_far: Replay,
     vertices: &mut [u32],
@@ -69,7 +69,7 @@ pub fn replay_chunk(
     requires bytes_len_2 { Countable so_far 256 }
     ensures { ReplayedChunk so_far bytes.new result }
 {
-    let input = read_front(rt, bytes);
+    let input = read_front(streams, bytes);
     let n = input.count;
     let next = go_on(so_far, &bytes[..n], vertices, indices);
     let more = (n == CHUNK) & is_open(next);

@@ -5,7 +5,7 @@ ghost use Rattle.replay.specs.Replays.{Countable};
 ghost use Rattle.tsr_run.specs.Rests.{replay_stopped_at, ReplayedChunks, ReplayedRest};
 
 use replay::answer::Replay;
-use standard_streams::Input;
+use standard_streams::{Input, Streams};
 use tsr_pieces::piece::{is_open, replay_chunk};
 
 // A proved loop has to end, and the input need not: after more than this many bytes no further chunk is read. The count of entries cannot
@@ -33,7 +33,7 @@ fn stopped(read: usize, answer: Replay) -> Replayed
 
 // Reads and replays chunks until one is not full, an entry differs or a read fails.
 fn replay_chunks(
-    rt: &HostRuntime,
+    streams: &Streams,
     bytes: &mut [u8],
     start: Replay,
     vertices: &mut [u32],
@@ -47,7 +47,7 @@ fn replay_chunks(
     let mut so_far = start;
     let mut read = 0;
     while read <= MOST {
-        let piece = replay_chunk(rt, bytes, so_far, vertices, indices);
+        let piece = replay_chunk(streams, bytes, so_far, vertices, indices);
         read += piece.input.count;
         so_far = piece.so_far;
         if !piece.more {
@@ -64,7 +64,7 @@ fn replay_chunks(
 
 // Reads and replays what follows a header: nothing if the header is refused.
 pub(crate) fn replay_rest(
-    rt: &HostRuntime,
+    streams: &Streams,
     bytes: &mut [u8],
     start: Replay,
     vertices: &mut [u32],
@@ -76,7 +76,7 @@ pub(crate) fn replay_rest(
     ensures { ReplayedRest start bytes.new result }
 {
     if is_open(start) {
-        replay_chunks(rt, bytes, start, vertices, indices)
+        replay_chunks(streams, bytes, start, vertices, indices)
     } else {
         stopped(0, start)
     }

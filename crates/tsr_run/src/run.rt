@@ -7,7 +7,7 @@ ghost use Rattle.tsr_run.specs.Runs.{ReplayRan};
 
 use crate::rest::replay_rest;
 use replay::answer::Replay;
-use standard_streams::{Input, Output};
+use standard_streams::{Input, Output, Streams};
 use tsr_line::sentence::put_replay;
 use tsr_pieces::piece::replay_header;
 
@@ -22,36 +22,36 @@ pub struct ReplayOutcome {
 }
 
 // Writes the line of the answer.
-fn write_line(rt: &HostRuntime, answer: Replay) -> Output
+fn write_line(streams: &mut Streams, answer: Replay) -> Output
     ensures { Taken (length (replay_line answer)) result }
 {
     let mut out = [0u8; 128];
     let written = put_replay(&mut out, answer);
     standard_streams::write_or_tell(
-        rt,
+        streams,
         &out[..written],
         b"tsr: standard output could not be written\n",
     )
 }
 
 // Writes that line, or reports that a read failed.
-fn say(rt: &HostRuntime, failed: bool, answer: Replay) -> Output
+fn say(streams: &mut Streams, failed: bool, answer: Replay) -> Output
     ensures { Taken (length (cond failed [] (replay_line answer))) result }
 {
     if failed {
-        standard_streams::tell(rt, b"tsr: standard input could not be read\n");
+        standard_streams::tell(streams, b"tsr: standard input could not be read\n");
         return Output {
             count: 0,
             failed: false,
         };
     }
-    write_line(rt, answer)
+    write_line(streams, answer)
 }
 
 // Replays the recording on standard input. It reads the header to `header` and the entries, up to 256 at a time, to the front of `bytes`, and
 // draws patches into the two lists.
 pub fn run(
-    rt: &HostRuntime,
+    streams: &mut Streams,
     header: &mut [u8; 5],
     bytes: &mut [u8; 8704],
     vertices: &mut [u32; 12675],
@@ -59,11 +59,11 @@ pub fn run(
 ) -> ReplayOutcome
     ensures { ReplayRan header.new bytes.new result }
 {
-    let start = replay_header(rt, header);
+    let start = replay_header(streams, header);
     let so_far = start.so_far;
-    let rest = replay_rest(rt, bytes, so_far, vertices, indices);
+    let rest = replay_rest(streams, bytes, so_far, vertices, indices);
     let answer = rest.answer;
-    let output = say(rt, start.input.failed | rest.last.failed, answer);
+    let output = say(streams, start.input.failed | rest.last.failed, answer);
     let input = start.input;
     let last = rest.last;
     ReplayOutcome {
