@@ -25,7 +25,7 @@ use Rattle.triangle_table.specs.Hits.{some_face}
 use Rattle.compare_differences.specs.declared.corners.Match.TheVariants.{Corners, Missing}
 use Rattle.compare_differences.specs.Lacking.{among}
 use Rattle.compare_differences.specs.Meshes.{NoneRepeated, DistinctAndNumbered, face_row, same_face}
-use Rattle.compare_differences.specs.Found.{PointFound, Cornered, Matched}
+use Rattle.compare_differences.specs.Found.{PointFound, Cornered}
 use Rattle.compare_differences.proofs.Numbers.{match_found, missing_p, missing_q, missing_r}
 use Rattle.compare_differences.proofs.Lacks.{has_found, has_missing, among_own}
 use Rattle.compare_table_flags.specs.Flags.{Partners, Partnered, AllSet, Narrowed, Flagged, KnownFlags, no_same_face, is_first}
