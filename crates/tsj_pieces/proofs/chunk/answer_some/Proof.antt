@@ -1,7 +1,7 @@
 -- Meets its contract. Assumes nothing.
 use borrow.Author.Rules.{rules}
 use mathlib.Core.Path.{sym}
-use Rattle.io.proofs.Counting.{length-take_of_le}
+use Rattle.standard_streams.proofs.Prefixes.{length-take_of_le}
 use Rattle.tsj_pieces.proofs.chunk.answer_some.Statement.{statement}
 use Rattle.tsj_pieces.proofs.chunk.answer_some.Tie as tie
 

@@ -1,6 +1,6 @@
 -- Meets its contract: the part that is lent is the front. Assumes nothing.
 use borrow.Author.Rules.{rules}
-use Rattle.io.proofs.Counting.{length-take_of_le}
+use Rattle.standard_streams.proofs.Prefixes.{length-take_of_le}
 use Rattle.standard_streams.proofs.Fills.{part_filled}
 use Rattle.tsj_pieces.proofs.failures.read_or_tell.Statement.{statement}
 use Rattle.tsj_pieces.proofs.failures.read_or_tell.Tie as tie

@@ -1,7 +1,7 @@
 -- Meets its contract. Assumes nothing.
 use borrow.Author.Rules.{rules}
 use Prim.Native.Nat.{zero-le}
-use Rattle.io.proofs.Counting.{length-take_of_le}
+use Rattle.standard_streams.proofs.Prefixes.{length-take_of_le}
 use Rattle.buffer.proofs.Laws.{wrote_within}
 use Rattle.tsj_pieces.proofs.Headers.{header_unread, unread_text, read_text, header_unwritten, header_written}
 use Rattle.tsj_pieces.proofs.header.answer_header.Statement.{statement}

@@ -1,7 +1,7 @@
 -- Meets its contract. Assumes nothing.
 use borrow.Author.Rules.{rules}
 use Prim.Native.Nat.{zero-le}
-use Rattle.io.proofs.Counting.{length-take_of_le}
+use Rattle.standard_streams.proofs.Prefixes.{length-take_of_le}
 use Rattle.buffer.proofs.Laws.{wrote_within, wrote_front}
 use Rattle.tsr_run.proofs.run.write_line.Statement.{statement}
 use Rattle.tsr_run.proofs.run.write_line.Tie as tie
