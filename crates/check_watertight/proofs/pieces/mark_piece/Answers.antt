@@ -1,0 +1,46 @@
+use native.Mathlib.Omega.{arith}
+use Prim.Native.Nat.{◌<◌}
+use lib.ListN.{length}
+use Rattle.mesh_geometry.specs.Words.{read_points}
+use Rattle.check_searches.proofs.Read.{points_count, triangles_count}
+use Rattle.half_edge_chains.proofs.Numbers.{start_word, end_known}
+use Rattle.check_faults.specs.JudgedMesh.{judged}
+use Rattle.check_watertight.proofs.Joins.{piece_met, piece_closes, marked_more}
+use Rattle.check_watertight.proofs.pieces.mark_piece.Goals as goal
+
+pub point_at-p-requires : goal.point_at-p-requires
+point_at-p-requires c =
+    let s = c in
+    omega (arith, s.requires.fact_1.at s.args.m (omega arith), points_count s.args.points.now)
+
+pub point_at-q-requires : goal.point_at-q-requires
+point_at-q-requires c =
+    let s = c in
+    let a = s.args in
+    omega (arith, c.end_at.ensures, end_known _ a.indices.now a.m s.requires.fact_1 s.requires.fact_2, points_count a.points.now)
+
+pub returns-then-k-outline-clause-fact_1 : goal.returns-then-k-outline-clause-fact_1
+returns-then-k-outline-clause-fact_1 c =
+    let s = c in
+    let a = s.args in
+    let o = read_points a.outline.now in
+    let mesh = judged a.positive o a.points.now a.indices.now in
+    let l : c.find_piece-k.result < length o = omega (arith, c.if-k-outline.true, points_count a.outline.now) in
+    let p = piece_met mesh a.m (start_word a.indices.now a.m s.requires.fact_2) c.end_at.ensures
+    c.point_at-p.ensures c.point_at-q.ensures l (c.find_piece-k.ensures l) in
+    λ h. piece_closes mesh a.m _ p
+
+pub returns-then-k-outline-clause-fact_2 : goal.returns-then-k-outline-clause-fact_2
+returns-then-k-outline-clause-fact_2 c =
+    let s = c in
+    let a = s.args in
+    let o = read_points a.outline.now in
+    let mesh = judged a.positive o a.points.now a.indices.now in
+    let l : c.find_piece-k.result < length o = omega (arith, c.if-k-outline.true, points_count a.outline.now) in
+    let p = piece_met mesh a.m (start_word a.indices.now a.m s.requires.fact_2) c.end_at.ensures
+    c.point_at-p.ensures c.point_at-q.ensures l (c.find_piece-k.ensures l) in
+    rw c.set_mark.ensures
+    (marked_more mesh a.m _ _ (omega (arith, s.requires.fact_2, triangles_count a.indices.now)) p s.requires.fact_3)
+
+pub returns-else-k-outline-clause-fact_1 : goal.returns-else-k-outline-clause-fact_1
+returns-else-k-outline-clause-fact_1 c = λ h. absurd (omega (arith, h, c.if-k-outline.false, points_count c.args.outline.now))
