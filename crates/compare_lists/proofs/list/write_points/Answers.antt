@@ -1,0 +1,33 @@
+use native.Mathlib.Omega.{arith}
+use mathlib.Core.Path.{sym, ap}
+use mathlib.Core.Bool.{Bool}
+use lib.ListN.{length}
+use Rattle.check_searches.specs.Points.{same_point}
+use Rattle.buffer.proofs.Laws.{count_start, count_fits, count_step, count_done, wrote_as}
+use Rattle.check_searches.proofs.Read.{points_count}
+use Rattle.compare_differences.specs.Lacking.{lacks}
+use Rattle.compare_differences.specs.Meshes.{point_row}
+use Rattle.compare_differences.specs.Differences.{words_if}
+use Rattle.compare_lists.proofs.Passing.{passing_words}
+use Rattle.compare_lists.proofs.list.write_points.Goals as goal
+
+pub loop-k-init : goal.loop-k-init
+loop-k-init c =
+    let a = c.args in
+    let e = passing_words 0 a.side (lacks same_point (point_row a.points.now) (point_row a.others.now)) _ _ (points_count a.points.now) in
+    count_start (omega (arith, ap length e, c.requires.fact_3))
+
+pub put_if-to-requires : goal.put_if-to-requires
+put_if-to-requires c = rw c.lacks_point.ensures (count_fits (omega arith) c.loop-k.invariant)
+
+pub loop-k-preserved : goal.loop-k-preserved
+loop-k-preserved c =
+    let l = c.loop-k in
+    let side = c.args.side in
+    count_step (omega arith) (wrote_as (λ (b : Bool). words_if 0 side b l.k) (sym c.lacks_point.ensures) c.put_if-to.ensures) l.invariant
+
+pub returns : goal.returns
+returns c =
+    let a = c.args in
+    let e = passing_words 0 a.side (lacks same_point (point_row a.points.now) (point_row a.others.now)) _ _ (points_count a.points.now) in
+    rw e (count_done c.loop-k-test.false c.loop-k.invariant)
