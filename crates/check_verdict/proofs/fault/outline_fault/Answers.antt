@@ -1,0 +1,29 @@
+use native.Mathlib.Omega.{arith}
+use mathlib.Core.Path.{refl}
+use Rattle.check_searches.proofs.Read.{points_count, triangles_count}
+use Rattle.check_verdict.specs.declared.Verdict.TheVariants.{MissingPiece}
+use Rattle.check_verdict.specs.Faults.{open_side, outline_fault}
+use Rattle.check_verdict.proofs.Chain.{found, next}
+use Rattle.check_verdict.proofs.fault.outline_fault.Goals as goal
+
+pub returns-then-side-indices : goal.returns-then-side-indices
+unfolding outline_fault
+returns-then-side-indices c =
+    let n = triangles_count c.args.indices.now in
+    found open_side _ c.first_open-side.ensures (omega arith) c.if-side-indices.true
+
+pub returns-then-piece-outline : goal.returns-then-piece-outline
+unfolding outline_fault
+returns-then-piece-outline c =
+    let a = c.args in
+    let n = triangles_count a.indices.now in
+    next _ c.first_open-side.ensures (omega arith) c.if-side-indices.false
+    (found MissingPiece _ c.first_missing-piece.ensures (points_count a.outline.now) c.if-piece-outline.true)
+
+pub returns : goal.returns
+unfolding outline_fault
+returns c =
+    let a = c.args in
+    let n = triangles_count a.indices.now in
+    next _ c.first_open-side.ensures (omega arith) c.if-side-indices.false
+    (next _ c.first_missing-piece.ensures (points_count a.outline.now) c.if-piece-outline.false refl)
