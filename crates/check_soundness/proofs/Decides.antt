@@ -1,9 +1,8 @@
 -- What the result of a search shows, if its test decides a property. Assumes nothing.
 use Prim.Native.Nat.{ℕ, ◌≤◌, ◌<◌}
-use mathlib.Core.Path.{◌≡◌, refl, sym, ◌∙◌}
+use mathlib.Core.Path.{◌≡◌, refl}
 use mathlib.Core.Bool.{Bool, true, false}
 use native.Mathlib.Omega.{arith}
-use lib.Dec.{ltb}
 use borrow.Author.Tests.{ltb-true}
 use Rattle.check_searches.specs.First.{first, some_below}
 use Rattle.check_searches.proofs.First.{Below, first_at, first_none, first_before, first_holds, some_at, some_none, some_all}

@@ -24,7 +24,7 @@ use Rattle.mesh_geometry.proofs.Words.{words_length}
 use Rattle.mesh_geometry.specs.Words.{vertex_words}
 use Rattle.patch_mesh.specs.Points.{points}
 use Rattle.patch_mesh.specs.Primitives.{primitives, index_words}
-use Rattle.patch_mesh.specs.Demand.{Surface, outer_runs, outline, outline_of, twice_area_of, Demand}
+use Rattle.patch_mesh.specs.Demand.{Surface, outer_runs, outline_of, twice_area_of, Demand}
 use Rattle.mesh_geometry.specs.Faces.{faces_in}
 use Rattle.mesh_geometry.proofs.ReadBack.{read_points_lem}
 use Rattle.patch_mesh.proofs.Runs.{good_run}

@@ -1,7 +1,7 @@
 -- What the tests of triangles, sides and the outline show. Assumes nothing.
 use Prim.Native.Nat.{ℕ, zero, suc, ◌+◌, ◌*◌, ◌/◌, ◌%◌, ◌<◌}
 use mathlib.Core.Path.{◌≡◌, refl, ap, sym, ◌∙◌}
-use mathlib.Core.Bool.{Bool, true, false, not, ◌&&◌, ◌||◌, or-true, true≢false}
+use mathlib.Core.Bool.{Bool, true, false, not, ◌||◌, or-true, true≢false}
 use mathlib.Core.Logic.{◌⊎◌, inl, inr, ⊎_elim}
 use mathlib.Core.List.{List}
 use native.Mathlib.Omega.{arith}
@@ -14,7 +14,7 @@ use Rattle.mesh_geometry.specs.declared.Point.{Point}
 use Rattle.mesh_geometry.specs.Cover.{Face, Side, reversed, side, piece, twice_area, Occurs, AllDistinct}
 use Rattle.mesh_geometry.specs.Faces.{at, face_of}
 use Rattle.mesh_geometry.specs.Words.{read_triangles}
-use Rattle.patch_mesh.specs.Demand.{outline, outline_of}
+use Rattle.patch_mesh.specs.Demand.{outline_of}
 use Rattle.check_soundness.specs.Sound.{sides_in}
 use Rattle.check_searches.specs.Points.{same_point}
 use Rattle.check_searches.specs.Triangles.{triangle_at, has_side, share_side, some_side}
@@ -25,7 +25,7 @@ use Rattle.check_faults.specs.Outline.{same_ends, on_outline, side_between, star
 use Rattle.check_faults.proofs.Turns.{sign_holds, sign_tests}
 use Rattle.check_faults.proofs.Corners.{start_known, end_known}
 use Rattle.check_soundness.specs.Means.{TurnsAt, SharedAt, ClosedAt, DrawnAt}
-use Rattle.check_soundness.proofs.Sides.{side_no, by_numbers, drawn_count, side_split, side_of_lem, face_at, any_which, both_which, SideNo, side_which, side_has, share_which, share_has}
+use Rattle.check_soundness.proofs.Sides.{side_no, by_numbers, drawn_count, side_split, side_of_lem, face_at, any_which, both_which, side_which, side_has, share_which, share_has}
 use Rattle.check_soundness.proofs.PointTests.{clash, same_is, is_same}
 use Rattle.patch.specs.Turn.{turn_asked}
 use Rattle.check_soundness.proofs.Decides.{Decides, DecidesPair}

@@ -1,10 +1,8 @@
 -- A mesh that has passed all stages is sound, and a sound mesh passes them. Assumes nothing.
 use Prim.Native.Nat.{ℕ, zero, suc, ◌+◌, ◌*◌, ◌/◌, ◌%◌, ◌<◌}
-use mathlib.Core.Path.{◌≡◌, refl, ap, sym, ◌∙◌}
-use mathlib.Core.Bool.{Bool}
+use mathlib.Core.Path.{◌≡◌, refl, sym, ◌∙◌}
 use mathlib.Core.List.{List}
 use native.Mathlib.Omega.{arith}
-use native.Mathlib.Decide.{dec_le}
 use lib.ListN.{length, length-map}
 use Rattle.patch.specs.declared.kinds.Patch.{Patch}
 use Rattle.patch.specs.declared.settings.Settings.{Settings}
@@ -20,11 +18,11 @@ use Rattle.check_soundness.specs.Sound.{sides_in, SoundWords}
 use Rattle.check_searches.specs.Triangles.{triangle_at}
 use Rattle.check_searches.proofs.Read.{triangles_count}
 use Rattle.check_faults.specs.Turns.{Numbered}
-use Rattle.check_faults.specs.Outline.{start_corner, end_of}
+use Rattle.check_faults.specs.Outline.{start_corner}
 use Rattle.check_faults.proofs.Turns.{numbered, Apart, area_apart}
 use Rattle.check_soundness.specs.Firsts.{Every, NoPair}
-use Rattle.check_soundness.specs.Means.{NumberedAt, EqualAt, TurnsAt, SharedAt, DrawnAt, Kept, PassedNumbered, PassedDistinct, PassedTurned, PassedSingle, PassedClosed}
-use Rattle.check_soundness.proofs.Sides.{by_numbers, drawn_count, side_split, face_at}
+use Rattle.check_soundness.specs.Means.{NumberedAt, EqualAt, DrawnAt, Kept, PassedSingle, PassedClosed}
+use Rattle.check_soundness.proofs.Sides.{drawn_count, side_split, face_at}
 use Rattle.check_soundness.proofs.SideTests.{same_numbers}
 
 -- no two points are equal

@@ -4,10 +4,10 @@ use Rattle.level.specs.Top.{is_top}
 use Rattle.patch.specs.declared.kinds.Patch.{Patch}
 use Rattle.patch.specs.declared.settings.Settings.{Settings}
 use Rattle.patch.specs.Subdivide.{discards}
-use Rattle.patch.specs.Turn.{positive, turn_asked}
+use Rattle.patch.specs.Turn.{turn_asked}
 use Rattle.mesh_geometry.specs.Faces.{at}
 use Rattle.mesh_geometry.specs.Words.{read_points}
-use Rattle.patch_mesh.specs.Demand.{outline, outline_of}
+use Rattle.patch_mesh.specs.Demand.{outline_of}
 use Rattle.check_searches.specs.Indices.{first_unknown_index}
 use Rattle.check_searches.specs.Points.{first_equal, first_repeated}
 use Rattle.check_searches.specs.Triangles.{triangle_at, first_sharing, first_reused}

@@ -1,5 +1,5 @@
 -- When each answer is right. Assumes nothing.
-use Rattle.std.specs.Prelude.{ℕ, ◌+◌, ◌*◌, ◌%◌, ◌<◌, ◌≡◌, Bool, true, false, ◌⊎◌, ◌↔◌, List, [], ◌∷◌, length, get_or}
+use Rattle.std.specs.Prelude.{ℕ, ◌+◌, ◌*◌, ◌%◌, ◌<◌, ◌≡◌, true, false, ◌⊎◌, ◌↔◌, List, length, get_or}
 use Rattle.level.specs.Top.{Top}
 use Rattle.patch.specs.declared.kinds.Patch.{Patch}
 use Rattle.patch.specs.declared.settings.Settings.{Settings}
@@ -8,7 +8,7 @@ use Rattle.patch.specs.Turn.{turn_asked}
 use Rattle.mesh_geometry.specs.declared.Point.{Point}
 use Rattle.mesh_geometry.specs.Cover.{missing, reversed, side, twice_area, HasSign, piece, Occurs}
 use Rattle.mesh_geometry.specs.Words.{read_points, read_triangles}
-use Rattle.patch_mesh.specs.Demand.{Surface, outline, outline_of}
+use Rattle.patch_mesh.specs.Demand.{Surface, outline_of}
 use Rattle.mesh_geometry.specs.Faces.{faces_in}
 use Rattle.mesh_geometry.specs.Held.{face}
 use Rattle.patch_mesh.specs.InPatch.{InPatch, domain_of}

@@ -7,7 +7,7 @@ use Rattle.patch.specs.Turn.{turn_asked}
 use Rattle.mesh_geometry.specs.declared.Point.{Point}
 use Rattle.mesh_geometry.specs.Cover.{Side, missing, reversed, sides, side, twice_area, HasSign, piece, Occurs, AllDistinct}
 use Rattle.mesh_geometry.specs.Words.{read_points}
-use Rattle.patch_mesh.specs.Demand.{outline, outline_of}
+use Rattle.patch_mesh.specs.Demand.{outline_of}
 use Rattle.mesh_geometry.specs.Faces.{faces_in}
 use Rattle.mesh_geometry.specs.Held.{face}
 use Rattle.mesh_geometry.specs.Domain.{Domain}
