@@ -8,7 +8,7 @@ pub row_of-r0-requires : goal.row_of-r0-requires
 row_of-r0-requires c = let a = c.args in
     let v = all_valid a.e0 a.e1 a.e2 a.e3 a.rows a.columns c.requires.fact_1 c.requires.fact_2 in (
       (c.requires.fact_1.0.some, c.requires.fact_1.0.few),
-      (all_stored 8 (omega arith) c.rows_to_8-table.ensures (omega (arith, c.if-most-lt9.true)) v
+      (all_stored 8 (omega arith) c.rows_to_8-table.ensures (omega arith) v
           c.width_of-most.ensures).0,
     )
 
@@ -17,7 +17,7 @@ row_of-r1-requires c = let a = c.args in
     let v = all_valid a.e0 a.e1 a.e2 a.e3 a.rows a.columns c.requires.fact_1 c.requires.fact_2 in (
       (c.requires.fact_1.1.some, c.requires.fact_1.1.few),
       (all_stored 8 (omega arith) c.rows_to_8-table.ensures
-          (omega (arith, c.if-most-lt9.true)) v c.width_of-most.ensures).1.0,
+          (omega arith) v c.width_of-most.ensures).1.0,
     )
 
 pub row_of-r2-requires : goal.row_of-r2-requires
@@ -25,7 +25,7 @@ row_of-r2-requires c = let a = c.args in
     let v = all_valid a.e0 a.e1 a.e2 a.e3 a.rows a.columns c.requires.fact_1 c.requires.fact_2 in (
       (c.requires.fact_1.2.some, c.requires.fact_1.2.few),
       (all_stored 8 (omega arith) c.rows_to_8-table.ensures
-          (omega (arith, c.if-most-lt9.true)) v
+          (omega arith) v
           c.width_of-most.ensures).1.1.0,
     )
 
@@ -34,7 +34,7 @@ row_of-r3-requires c = let a = c.args in
     let v = all_valid a.e0 a.e1 a.e2 a.e3 a.rows a.columns c.requires.fact_1 c.requires.fact_2 in (
       (c.requires.fact_1.3.some, c.requires.fact_1.3.few),
       (all_stored 8 (omega arith) c.rows_to_8-table.ensures
-          (omega (arith, c.if-most-lt9.true)) v
+          (omega arith) v
           c.width_of-most.ensures).1.1.1.0,
     )
 
@@ -54,7 +54,7 @@ pub row_of-r-requires : goal.row_of-r-requires
 row_of-r-requires c = let a = c.args in
     let v = all_valid a.e0 a.e1 a.e2 a.e3 a.rows a.columns c.requires.fact_1 c.requires.fact_2 in (
       (c.requires.fact_2.0.some, c.requires.fact_2.0.few),
-      (all_stored 8 (omega arith) c.rows_to_8-table.ensures (omega (arith, c.if-most-lt9.true))
+      (all_stored 8 (omega arith) c.rows_to_8-table.ensures (omega arith)
           v c.width_of-most.ensures).1.1.1.1.0,
     )
 
@@ -62,10 +62,7 @@ pub row_of-c-requires : goal.row_of-c-requires
 row_of-c-requires c = let a = c.args in
     let v = all_valid a.e0 a.e1 a.e2 a.e3 a.rows a.columns c.requires.fact_1 c.requires.fact_2 in (
       (c.requires.fact_2.1.some, c.requires.fact_2.1.few),
-      (all_stored 8 (omega arith) c.rows_to_8-table.ensures (omega (
-        arith,
-        c.if-most-lt9.true,
-      )) v
+      (all_stored 8 (omega arith) c.rows_to_8-table.ensures (omega arith) v
           c.width_of-most.ensures).1.1.1.1.1,
     )
 
