@@ -13,7 +13,7 @@ use Rattle.tessellate.specs.Draws.{point_words, connection_words}
 use Rattle.answer_codes.specs.Drew.{Drew}
 use Rattle.call_answers.specs.declared.reply.Reply.{Reply}
 use Rattle.call_answers.specs.Clamps.{clamp_bytes, no_clamps}
-use Rattle.call_answers.specs.Replies.{IsReply, unknown_setting, bad_top, two_words, Says}
+use Rattle.call_answers.specs.Replies.{IsReply, unknown_setting, bad_top}
 use Rattle.call_answers.proofs.Replies.{said_one, said_two, says_as}
 use Rattle.call_inputs.specs.declared.asked.Asked.{Asked}
 use Rattle.call_inputs.specs.declared.asked.Asked.TheVariants.{Refused, Known}
