@@ -1,10 +1,9 @@
 -- The contract of drawing with floats: a refusal changes nothing, and all lists are written if everything fits. Assumes nothing.
 use Prim.Native.Nat.{ℕ, ◌*◌}
 use mathlib.Core.Path.{◌≡◌, refl, sym, ap, ◌∙◌}
-use mathlib.Core.List.{List, [], ◌∷◌, map}
+use mathlib.Core.List.{[], ◌∷◌, map}
 use types.Run.{OneOf, miss}
 use denote.Enum.Declared.{tag_of}
-use lib.Ieee.{Float}
 use lib.ListN.{length, take}
 use Rattle.buffer.specs.Over.{over}
 use Rattle.patch.specs.declared.kinds.Patch.{Patch}
