@@ -32,7 +32,7 @@ use Rattle.job_writer.proofs.Headers.{header_back, header_again}
 use Rattle.job_writer.proofs.RoundTrip.{record_back}
 use Rattle.job_words.specs.declared.found.Found.{Found}
 use Rattle.job_words.specs.Inputs.{is_version, version_of_number, bits_in, record_in}
-use Rattle.job_words.specs.Found.{settings_out, patterns_out, found_of, found_at}
+use Rattle.job_words.specs.Found.{settings_out, found_of, found_at}
 use Rattle.job_words.proofs.Places.{found_here}
 use Rattle.job_exports.specs.Back.{SixPatterns, ReadBack}
 use Rattle.job_exports.specs.Calls.{header_says, record_says, HeaderCalled, RecordCalled, read_code, HeaderAsked, RecordMemory, RecordAsked}

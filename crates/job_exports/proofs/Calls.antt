@@ -11,7 +11,6 @@ use Rattle.call_answers.specs.Replies.{unknown_setting, bad_top, one_word, Says}
 use Rattle.call_answers.proofs.Replies.{says_as}
 use Rattle.call_inputs.specs.Inputs.{top_in}
 use Rattle.job_fields.specs.Settings.{first_unknown_setting}
-use Rattle.job_fields.specs.Version.{record_size}
 use Rattle.job_bytes.specs.Written.{takes_top}
 use Rattle.job_writer.specs.Answers.{bytes_verdict, record_verdict}
 use Rattle.job_words.specs.Inputs.{is_version, version_of_number, record_in}

@@ -8,17 +8,14 @@ use native.Mathlib.Decide.{dec_le}
 use native.Mathlib.Omega.{arith}
 use lib.Dec.{eqb}
 use lib.ListN.{length, get_or}
-use Rattle.answer_codes.specs.AnswerCode.{AnswerCode}
 use Rattle.call_answers.specs.Replies.{one_word}
 use Rattle.job.specs.declared.header.Header.{Header}
 use Rattle.job.specs.declared.header.Header.TheVariants.{Read, NotAJob, UnknownVersion}
-use Rattle.job.specs.declared.cursor.Cursor.{Cursor}
 use Rattle.job.specs.declared.next.NextRecord.{NextRecord}
 use Rattle.job.specs.declared.next.NextRecord.TheVariants as next-record
 use Rattle.job_fields.specs.declared.version.Version.{Version}
-use Rattle.job_fields.specs.Version.{version_number}
 use Rattle.job.specs.Header.{first_record, header_of}
-use Rattle.job.specs.Records.{record_at, record_of, cursor_after, RecordMeans}
+use Rattle.job.specs.Records.{record_at, record_of, cursor_after}
 use Rattle.job.proofs.Headers.{header_exactly}
 use Rattle.job.proofs.Records.{record_exactly}
 use Rattle.job_words.specs.declared.found.Found.{Found}
