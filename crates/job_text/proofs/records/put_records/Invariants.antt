@@ -1,10 +1,7 @@
-use borrow.Author.Rules.{rules}
-use borrow.Author.Tests.{leb-true, leb-false}
 use Prim.Native.Nat.{◌-◌}
 use mathlib.Core.Path.{◌≡◌}
-use native.Mathlib.Omega.{arith}
 use lib.ListN.{length}
-use Rattle.job_text.proofs.Answering.{Answering, answering_start, answering_next, answering_step}
+use Rattle.job_text.proofs.Answering.{Answering}
 use Rattle.job_text.proofs.records.put_records.Given as goal
 
 abbrev pub invariant-loop-at : goal.invariant-loop-at
