@@ -9,7 +9,6 @@ use Rattle.compare_differences.specs.Differences.{differences, words}
 use Rattle.compare_meshes.specs.Answers.{MeshWords, mesh_in, compare_verdict, comparison_code}
 use Rattle.compare_meshes.specs.declared.answer.Fault.{Fault}
 use Rattle.compare_meshes.specs.declared.answer.Fault.TheVariants.{NotThrees, UnknownIndex, EqualPoints}
-use Rattle.compare_meshes.specs.declared.answer.Comparison.{Comparison}
 use Rattle.compare_meshes.specs.declared.answer.Comparison.TheVariants.{Differences, NoRoom, LeftRefused, RightRefused}
 use Rattle.compare_sameness.specs.Same.{SameMesh}
 use Rattle.compare_sameness.specs.Refusals.{Comparable, AnswerMeans}
