@@ -12,11 +12,11 @@ use lib.Seq.{take_all}
 use Rattle.job.specs.Header.{starts_with, version_number_in}
 use Rattle.replay.specs.declared.answer.Replay.{Replay}
 use Rattle.replay.specs.declared.answer.Replay.TheVariants.{AllAgree, NotARecording, UnknownVersion}
-use Rattle.replay.specs.Replays.{recording_mark, not_aRecording, replay_start, go_on, replay_of, Countable}
+use Rattle.replay.specs.Replays.{recording_mark, not_a_recording, replay_start, go_on, replay_of, Countable}
 use Rattle.replay.specs.Pieces.{is_open}
 
 module _ (bs : List ℕ) where
-  pub start_lacks : not_aRecording bs ≡ true → replay_start bs ≡ NotARecording
+  pub start_lacks : not_a_recording bs ≡ true → replay_start bs ≡ NotARecording
   unfolding replay_start
   start_lacks h = rw h
 
@@ -54,7 +54,7 @@ start_open bs h = elim (dec_le 5 (length bs)) [
 -- after the header the number of entries is 0
 pub start_countable : (bs : List ℕ) {s : Replay} {n : ℕ} → s ≡ replay_start bs → n ≤ 18446744073709551615 → Countable s n
 unfolding replay_start
-start_countable bs {n = n} e h = subst (λ (r : Replay). Countable r n) (sym e) (go (not_aRecording bs) (eqb (version_number_in bs) 1))
+start_countable bs {n = n} e h = subst (λ (r : Replay). Countable r n) (sym e) (go (not_a_recording bs) (eqb (version_number_in bs) 1))
   where
     go : (a b : Bool) → Countable (cond a NotARecording (cond b (AllAgree 0) UnknownVersion)) n
     go true b = tt

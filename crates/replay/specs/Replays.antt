@@ -14,12 +14,12 @@ abbrev pub entry_size : ℕ
 entry_size = 34
 
 -- answer 5, not a recording: fewer than 5 bytes, or another mark
-abbrev pub not_aRecording : List ℕ → Bool
-not_aRecording bs = lacks_mark recording_mark bs
+abbrev pub not_a_recording : List ℕ → Bool
+not_a_recording bs = lacks_mark recording_mark bs
 
 -- the answer after the header: 5, 6 if the version is not 1, or that all of 0 entries agree
 unfoldable pub replay_start : List ℕ → Replay
-replay_start bs = cond (not_aRecording bs) NotARecording (cond (eqb (version_number_in bs) 1) (AllAgree 0) UnknownVersion)
+replay_start bs = cond (not_a_recording bs) NotARecording (cond (eqb (version_number_in bs) 1) (AllAgree 0) UnknownVersion)
 
 -- the answer for n whole entries, the first of which is entry k, and the bytes after them
 unfoldable pub say_entries : ℕ → ℕ → List ℕ → Replay
