@@ -138,20 +138,18 @@ module _ (set : Settings) (top : Top set.top) where
 
     triangle_vertices : (y : Bool) → every (single s t) levels3 ≡ y → TriangleVertices rings e3 own inside (points (cut3 y))
     unfolding points sum ring table
-    triangle_vertices true h = record {
-      outer_segments_lem = λ k l. refl;
-      outer = ring_whole_edge triangle e3 good3 triangle_corners (sym (plain_outline s t top (Triangles a b c i) (i ∷ []) h triangle_place));
-      single = λ _. refl;
-      concentric = λ no. absurd (no (ones3 h));
-      no_other = λ no. absurd (no (ones3 h));
-    }
-    triangle_vertices false h = record {
-      outer_segments_lem = λ k l. refl;
-      outer = (tri.listed e3 inside good3 (inner i) (inner_two s t top i)).outer;
-      single = λ one. absurd (true≢false (sym (every3 one) ∙ h));
-      concentric = λ _. tri.concentric e3 inside good3 (inner i) (inner_two s t top i);
-      no_other = λ _. tri.no_other e3 inside good3 (inner i) (inner_two s t top i);
-    }
+    triangle_vertices true h = tri.vertices_lem {ring = rings} {e = e3} {own = own} {inside = inside} {ps = points (cut3 true)}
+        (λ k l. refl)
+        (ring_whole_edge triangle e3 good3 triangle_corners (sym (plain_outline s t top (Triangles a b c i) (i ∷ []) h triangle_place)))
+        (λ _. refl)
+        (λ no. absurd (no (ones3 h)))
+        (λ no. absurd (no (ones3 h)))
+    triangle_vertices false h = tri.vertices_lem {ring = rings} {e = e3} {own = own} {inside = inside} {ps = points (cut3 false)}
+        (λ k l. refl)
+        (tri.listed e3 inside good3 (inner i) (inner_two s t top i)).outer
+        (λ one. absurd (true≢false (sym (every3 one) ∙ h)))
+        (λ _. tri.concentric e3 inside good3 (inner i) (inner_two s t top i))
+        (λ _. tri.no_other e3 inside good3 (inner i) (inner_two s t top i))
 
     -- the numbers of the three corners
     corner3 : AllOne3 e3 own → (k x : ℕ) → k < 3 → sum (segments e3) k ≡ x → x ≡ vertex_on (segments e3) inside.c 0 k 0

@@ -25,7 +25,8 @@ use Rattle.mesh_topology.proofs.RingStrips.{nest_exactly}
 use Rattle.mesh_geometry.specs.declared.Point.{Point}
 use Rattle.mesh_geometry.specs.Faces.{at}
 use Rattle.mesh_geometry.specs.Edge.{Run, GoodRun}
-use Rattle.mesh_geometry.specs.OnEdge.{opposite_coordinate, OnTriangle}
+use Rattle.mesh_geometry.specs.Domain.{triangle}
+use Rattle.mesh_geometry.specs.OnEdge.{opposite_coordinate, OnTriangle, OnEdge}
 use Rattle.mesh_geometry.specs.TrianglePoints.{centre, triangle_patch}
 use Rattle.mesh_geometry.specs.RingPoints.{segments, RingPoints}
 use Rattle.mesh_geometry.proofs.Lists.{All, none, more, all_append, all_more}
@@ -34,7 +35,7 @@ use Rattle.mesh_geometry.proofs.QuadTurns.{joined_all}
 use Rattle.mesh_geometry.proofs.RingPoints.{rings_exactly}
 use Rattle.vulkan_chapter.specs.Members.{Member}
 use Rattle.vulkan_chapter.specs.Between.{NumberedLine, BandFilled}
-use Rattle.vulkan_chapter.specs.Triangles.{OnPerpendicular, Concentric, OnRing, IsRing, InRings, RingDrawn}
+use Rattle.vulkan_chapter.specs.Triangles.{OnPerpendicular, Concentric, OnRing, AllOne3, TriangleVertices, IsRing, InRings, RingDrawn}
 use Rattle.vulkan_chapter.specs.Triangles as chapter
 use Rattle.vulkan_chapter.proofs.Between.{same_turned, joins_same, member_joined, each_turned, filled_in, filled_turned, strip_joins, strip_fills}
 
@@ -159,6 +160,13 @@ module _ (e : ℕ → Run) (inside : Run) (outer-good : (k : ℕ) → GoodRun (e
               rw z at (at_centre h g)
         ]
   ]
+
+-- the parts of the claim about the vertices, for any lines, edges and vertices
+pub vertices_lem : {ring : ℕ → ℕ → NumberedLine} {e : ℕ → Run} {own inside : Run} {ps : List Point} → ((k : ℕ) → k < 3 → (ring 0 k).segments ≡ (e k).c)
+    → ((k i : ℕ) → k < 3 → i ≤ (e k).c → OnEdge triangle k ((e k).q i) (at ps ((ring 0 k).vertex i))) → (AllOne3 e own → length ps ≡ 3)
+    → ((AllOne3 e own → ⊥) → Concentric inside.c inside.q ring (at ps)) → ((AllOne3 e own → ⊥) → (v : ℕ) → v < length ps → OnRing inside.c ring v)
+    → TriangleVertices ring e own inside ps
+vertices_lem segments_as on_edges corners inner others = record { outer_segments_lem = segments_as; outer = on_edges; single = corners; concentric = inner; no_other = others }
 
 -- ---- the triangles between them
 module _ (c : ℕ → ℕ) (n : ℕ) (two : 2 ≤ n) where
