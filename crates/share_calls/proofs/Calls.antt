@@ -1,13 +1,12 @@
 -- One call from C and the session in memory: either a refusal that only calls from C have applies and changes nothing, or the
 -- call is that of the operation. Assumes nothing.
-use Prim.Native.Nat.{ℕ, zero, suc, ◌≤◌, ◌<◌}
-use mathlib.Core.Path.{◌≡◌, refl, sym, ap, ◌∙◌}
+use Prim.Native.Nat.{ℕ, zero, suc, ◌≤◌}
+use mathlib.Core.Path.{◌≡◌, refl, ap, ◌∙◌}
 use mathlib.Core.Bool.{Bool, true, false, cond, true≢false}
-use mathlib.Core.List.{List, [], ◌∷◌}
+use mathlib.Core.List.{List, []}
 use native.Mathlib.Omega.{arith}
 use borrow.Author.Tests.{ltb-false, eqb-true}
 use lib.Dec.{ltb, eqb}
-use lib.Ieee.{Float}
 use lib.ListN.{length}
 use Rattle.level.specs.Top.{is_top}
 use Rattle.job_fields.specs.Settings.{first_unknown_setting}
@@ -15,22 +14,21 @@ use Rattle.answer_codes.specs.AnswerCode.{AnswerCode, refused, done}
 use Rattle.call_answers.specs.Replies.{unknown_setting, bad_top, two_words}
 use Rattle.call_inputs.specs.Inputs.{top_in, patch_in, settings_in}
 use Rattle.share_state.specs.declared.state.Designer.{Designer}
-use Rattle.share_state.specs.declared.state.State.{State}
-use Rattle.share_state.specs.Answers.{accepted, lent, sound_state, clear_verdict}
+use Rattle.share_state.specs.Answers.{accepted, lent, clear_verdict}
 use Rattle.share_state.specs.Operations.{unless_refused, cleared_state}
 use Rattle.share_state.proofs.Sound.{and-true, state_test}
 use Rattle.share_answers.specs.Answers.{draw_verdict}
 use Rattle.share_draw.specs.Operations.{drawn_state}
 use Rattle.share_words.specs.Words.{state_in, state_words, designer_of}
 use Rattle.share_words.specs.Memory.{Memory}
-use Rattle.share_exports.specs.Calls.{unknown_designer, asked, draw_says, clear_says}
+use Rattle.share_exports.specs.Calls.{unknown_designer, asked, clear_says}
 use Rattle.share_exports.proofs.Calls.{asked_none, asked_some}
 use Rattle.share_isolation.specs.Session.{Session, OwnState, View, same_designer, own_state, answer_to, served}
 use Rattle.share_isolation.specs.Session as runs
 use Rattle.share_isolation.proofs.OwnState.{call_answer, own_state_next, view_next}
 use Rattle.share_isolation.proofs.Step.{Good, good_next, length_next, other_next, own_answer, own_next, own_state_next_lem}
 use Rattle.share_isolation.proofs.Runs.{session_of}
-use Rattle.share_calls.specs.Run.{RawRequest, draw, clear, RawCall, RawAnswer, RawSameLists, RawMade, drew, cleared, session_in}
+use Rattle.share_calls.specs.Run.{RawRequest, draw, clear, RawCall, RawAnswer, RawMade, drew, cleared, session_in}
 
 -- the operation's call
 abbrev pub request_of : RawRequest → runs.Request

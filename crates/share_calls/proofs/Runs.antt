@@ -2,14 +2,12 @@
 use Prim.Native.Nat.{ℕ, ◌≤◌}
 use mathlib.Core.Path.{◌≡◌, refl, sym, ap, ap₂, ◌∙◌}
 use mathlib.Core.Bool.{Bool, true, false, cond}
-use mathlib.Core.List.{List, [], ◌∷◌}
+use mathlib.Core.List.{List}
 use native.Mathlib.Omega.{arith}
 use lib.Dec.{eqb}
 use lib.ListN.{length}
-use Rattle.answer_codes.specs.AnswerCode.{AnswerCode, refused, done}
-use Rattle.share_state.specs.declared.state.State.{State}
+use Rattle.answer_codes.specs.AnswerCode.{refused, done}
 use Rattle.share_state.specs.Answers.{quotas_fit}
-use Rattle.share_state.specs.Operations.{start_state}
 use Rattle.share_words.specs.Words.{state_in, quota_in, designer_of}
 use Rattle.share_words.specs.Memory.{Memory}
 use Rattle.share_isolation.specs.Session.{Session, OwnState, View, own_state, begun}
@@ -17,7 +15,7 @@ use Rattle.share_isolation.specs.Session as runs
 use Rattle.share_isolation.proofs.Step.{Good}
 use Rattle.share_isolation.proofs.Isolation.{begun_good, start_own_state}
 use Rattle.share_calls.specs.Run.{RawCall, RawAnswer, RawBegun, begin, RawMade, RawRan, raw_calls_of, raw_answers_of, session_in, raw_view, raw_quota_of}
-use Rattle.share_isolation.specs.Steps.{those, state_after, replies}
+use Rattle.share_isolation.specs.Steps.{state_after, replies}
 use Rattle.share_isolation.proofs.Steps.{Played, ran_is, those_twice, kept_after, seen, answered}
 use Rattle.share_calls.proofs.Calls.{reply, step, own_reply, own_step, view_step, good_step, length_step, own_reply_lem, own_step_lem, own_view, other_view, made_is}
 

@@ -1,6 +1,6 @@
 -- Isolation for anything that answers step by step: if an own step changes a view by that view alone, and the others' steps
 -- keep it, the view is the same without the others' steps. Assumes nothing.
-use mathlib.Core.Path.{◌≡◌, refl, sym, ap, ap₂, ◌∙◌}
+use mathlib.Core.Path.{◌≡◌, refl, ap, ap₂, ◌∙◌}
 use mathlib.Core.Bool.{Bool, true, false, cond}
 use mathlib.Core.List.{List, [], ◌∷◌}
 use Rattle.share_isolation.specs.Steps.{those, state_after, replies, RanSteps, none, more}

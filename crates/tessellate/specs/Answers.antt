@@ -1,10 +1,7 @@
 -- The numbers and values that the customer's table gives for each answer, and which of them applies. Assumes nothing.
-use Rattle.std.specs.Prelude.{ℕ, ◌*◌, cond, List, [], ◌∷◌, ltb, length}
+use Rattle.std.specs.Prelude.{ℕ, ◌*◌, cond, ltb}
 use Rattle.patch.specs.declared.kinds.Patch.{Patch}
 use Rattle.patch.specs.declared.settings.Settings.{Settings}
-use Rattle.patch.specs.Subdivide.{subdivision_of}
-use Rattle.patch_mesh.specs.Points.{points}
-use Rattle.patch_mesh.specs.Primitives.{index_words}
 use Rattle.answer_codes.specs.AnswerCode.{AnswerCode, refused, drew}
 use Rattle.measure.specs.IfDrawn.{if_drawn}
 use Rattle.measure.specs.Sizes.{points_of, indices_of}
