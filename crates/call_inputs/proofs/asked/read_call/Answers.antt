@@ -17,5 +17,5 @@ returns-then-place-lt5 c =
 pub returns : goal.returns
 returns c =
     let a = c.args in
-    asked_known a.settings.now a.levels.now c.top_in-top.ensures (sym c.is_top.ensures ∙ c.if-not-is_top.false) c.first_unknown-place.ensures c.if-place-lt5.false
+    asked_known a.settings.now a.levels.now c.top_in-top.ensures (sym c.is_top.ensures ∙ c.if-not-is_top.false) c.first_unknown-place.ensures (omega arith)
     c.read_settings.ensures c.patch_in.ensures

@@ -33,5 +33,5 @@ returns c =
     let wrote = rw (c.version_in-known.ensures, c.record_in-record.ensures) at c.write_record-answer.ensures in
     done
     (record_known _ _ _ (sym c.is_version.ensures ∙ c.if-not-is_version.false) (sym taken ∙ c.if-not-takes_top.false)
-    c.args.patterns.now (omega (arith, is, c.if-place-lt5.false)))
+    c.args.patterns.now (omega (arith, is)))
     wrote.wrote (said_one c.of_written_record.ensures c.say_one-2.ensures)

@@ -13,7 +13,7 @@ decides : (c : After-is_top) (t : Bool) → c.is_top.result ≡ t
 decides c t e =
     let first = c.first_unknown-place.ensures in
     let top = rw c.in-Two.is at (c.is_top.ensures ∙ ap is_top c.read_top.ensures) in
-    rw c.in-Two.is (sym (place_top _ _ (omega (arith, first, c.if-place-lt5.false)) t (sym top ∙ e)))
+    rw c.in-Two.is (sym (place_top _ _ (omega (arith, first)) t (sym top ∙ e)))
 
 pub returns-in-One : goal.returns-in-One
 unfolding unknown_place

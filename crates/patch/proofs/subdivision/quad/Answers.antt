@@ -1,4 +1,5 @@
 use native.Mathlib.Omega.{arith}
+use mathlib.Core.Path.{refl}
 use mathlib.Core.List.{List, [], ◌∷◌}
 use lib.Ieee.{Float}
 use Rattle.patch.specs.Subdivide.{subdivision}
@@ -23,6 +24,6 @@ unfolding subdivision total
 returns c =
     let a = c.args in
     let xs : List Float = a.outer0 ∷ a.outer1 ∷ a.outer2 ∷ a.outer3 ∷ a.inner0 ∷ a.inner1 ∷ [] in
-    rw (← c.discards4.ensures, c.if-discards4.false, not_all_one a.spacing a.top c.requires xs (omega arith) c.if-outline-inner_rows-eq6.false)
+    rw (← c.discards4.ensures, c.if-discards4.false, not_all_one a.spacing a.top c.requires xs refl (λ e. omega arith))
     (rw (← c.segments_in-edge0.ensures.all, ← c.segments_beside-edge1.ensures.all, ← c.segments_beside-edge2.ensures.all, ← c.segments_beside-edge3.ensures.all)
     (rw (← c.segments_beside-inner_rows.ensures.all, ← c.segments_beside-inner_columns.ensures.all, ← c.as_inner-rows.ensures, ← c.as_inner-columns.ensures)))
