@@ -177,7 +177,7 @@ answer_in n c =
 
 same_answer : (a : ShareAnswer) → answer_in (number_of a) (words_of a) ≡ a
 same_answer no_designer = refl
-same_answer (unknown place) = refl
+same_answer (unknown at) = refl
 same_answer (found (drawing.Drawn x y)) = refl
 same_answer (found drawing.Discarded) = refl
 same_answer (found drawing.NoRoomForVertices) = refl
