@@ -1,3 +1,4 @@
+use native.Mathlib.Omega.{arith}
 use mathlib.Core.Path.{sym, ◌∙◌}
 use Rattle.call_inputs.proofs.Reading.{asked_bad, asked_unknown, asked_known}
 use Rattle.call_inputs.proofs.asked.read_call.Goals as goal
