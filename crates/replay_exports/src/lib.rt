@@ -5,5 +5,5 @@
 // The answer is a number: 0 all agree, 5 not a recording, 6 unknown version, 7 cut entry, 60 an entry differs.
 #![tactic(auto)]
 
-mod call;
+pub mod call;
 mod words;
