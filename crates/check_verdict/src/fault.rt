@@ -99,6 +99,7 @@ fn point_fault(
 }
 
 // Returns the first fault of a mesh of a triangle or quad patch; the outline's points and the orientation asked for are given.
+#[tactic(auto, using(crate::proofs::Chain::points_not_threes, crate::proofs::Chain::indices_not_threes))]
 pub fn mesh_fault(
     outline: &[u32],
     points: &[u32],

@@ -1,8 +1,8 @@
 use native.Mathlib.Omega.{arith}
-use Prim.Native.Nat.{◌/◌}
+use Prim.Native.Nat.{◌/◌, ◌%◌}
 use mathlib.Core.Path.{refl}
 use lib.ListN.{length}
-use borrow.Author.Tests.{eq-eqb, ne_eqb}
+use borrow.Author.Tests.{eq-eqb}
 use Rattle.check_searches.proofs.Read.{points_count}
 use Rattle.check_verdict.specs.declared.Verdict.TheVariants.{UnknownIndex}
 use Rattle.check_verdict.specs.Faults.{mesh_fault}
@@ -10,19 +10,11 @@ use Rattle.check_verdict.proofs.Chain.{found, next}
 use Rattle.check_faults.proofs.Known.{all_numbered}
 use Rattle.check_verdict.proofs.fault.mesh_fault.Goals as goal
 
-pub returns-then-points-ne0 : goal.returns-then-points-ne0
-unfolding mesh_fault
-returns-then-points-ne0 c = rw (ne_eqb _ _ c.if-points-ne0.true)
-
-pub returns-then-indices-ne0 : goal.returns-then-indices-ne0
-unfolding mesh_fault
-returns-then-indices-ne0 c = rw (eq-eqb _ _ c.if-points-ne0.false, ne_eqb _ _ c.if-indices-ne0.true)
-
 pub returns-then-place-indices : goal.returns-then-place-indices
 unfolding mesh_fault
 returns-then-place-indices c =
     let xs = c.args.points.now in
-    rw (eq-eqb _ _ c.if-points-ne0.false, eq-eqb _ _ c.if-indices-ne0.false, points_count xs)
+    rw (eq-eqb (length xs % 3) 0 (omega arith), eq-eqb (length c.args.indices.now % 3) 0 (omega arith), points_count xs)
     (found UnknownIndex _ c.first_unknown-place.ensures refl c.if-place-indices.true)
 
 pub point_fault-requires : goal.point_fault-requires
@@ -34,5 +26,5 @@ pub returns : goal.returns
 unfolding mesh_fault
 returns c =
     let xs = c.args.points.now in
-    rw (eq-eqb _ _ c.if-points-ne0.false, eq-eqb _ _ c.if-indices-ne0.false, points_count xs)
+    rw (eq-eqb (length xs % 3) 0 (omega arith), eq-eqb (length c.args.indices.now % 3) 0 (omega arith), points_count xs)
     (next _ c.first_unknown-place.ensures refl c.if-place-indices.false c.point_fault.ensures)

@@ -1,5 +1,7 @@
 use native.Mathlib.Omega.{arith}
+use Prim.Native.Nat.{◌*◌, ◌/◌}
 use mathlib.Core.Path.{refl}
+use lib.ListN.{length}
 use Rattle.check_searches.proofs.Read.{points_count, triangles_count}
 use Rattle.check_verdict.specs.declared.Verdict.TheVariants.{MissingPiece}
 use Rattle.check_verdict.specs.Faults.{open_side, outline_fault}
@@ -17,7 +19,7 @@ unfolding outline_fault
 returns-then-piece-outline c =
     let a = c.args in
     let n = triangles_count a.indices.now in
-    next _ c.first_open-side.ensures (omega arith) c.if-side-indices.false
+    next _ {m = length a.indices.now / 3 * 3} c.first_open-side.ensures (omega arith) (omega arith)
     (found MissingPiece _ c.first_missing-piece.ensures (points_count a.outline.now) c.if-piece-outline.true)
 
 pub returns : goal.returns
@@ -25,5 +27,5 @@ unfolding outline_fault
 returns c =
     let a = c.args in
     let n = triangles_count a.indices.now in
-    next _ c.first_open-side.ensures (omega arith) c.if-side-indices.false
+    next _ {m = length a.indices.now / 3 * 3} c.first_open-side.ensures (omega arith) (omega arith)
     (next _ c.first_missing-piece.ensures (points_count a.outline.now) c.if-piece-outline.false refl)
