@@ -1,3 +1,4 @@
+use native.Mathlib.Omega.{arith}
 use mathlib.Core.Path.{ap, ◌∙◌, sym}
 use Rattle.level.specs.Top.{is_top}
 use Rattle.call_answers.proofs.Replies.{reply_as}
@@ -22,20 +23,20 @@ returns-then-designer-gt1 c =
     let a = c.args in
     reply_as (found_designer a.settings.now a.designer _
     (sym (c.is_top.ensures ∙ ap is_top c.top_in-top.ensures) ∙ c.if-not-is_top.false)
-    (sym c.accepts.ensures ∙ c.if-not-accepts.false) c.if-designer-gt1.true) c.refusal-then-designer-gt1.ensures
+    (sym c.accepts.ensures ∙ c.if-not-accepts.false) (omega arith)) c.refusal-then-designer-gt1.ensures
 
 pub returns-then-place-lt5 : goal.returns-then-place-lt5
 returns-then-place-lt5 c =
     let a = c.args in
     reply_as (found_setting a.settings.now a.designer _
     (sym (c.is_top.ensures ∙ ap is_top c.top_in-top.ensures) ∙ c.if-not-is_top.false)
-    (sym c.accepts.ensures ∙ c.if-not-accepts.false) c.if-designer-gt1.false c.first_unknown-place.ensures
-    c.if-place-lt5.true) c.unknown_setting.ensures
+    (sym c.accepts.ensures ∙ c.if-not-accepts.false) (omega arith) c.first_unknown-place.ensures
+    (omega arith)) c.unknown_setting.ensures
 
 pub returns : goal.returns
 returns c =
     let a = c.args in
     reply_as (found_none a.settings.now a.designer _
     (sym (c.is_top.ensures ∙ ap is_top c.top_in-top.ensures) ∙ c.if-not-is_top.false)
-    (sym c.accepts.ensures ∙ c.if-not-accepts.false) c.if-designer-gt1.false c.first_unknown-place.ensures
-    c.if-place-lt5.false) c.refusal-2.ensures
+    (sym c.accepts.ensures ∙ c.if-not-accepts.false) (omega arith) c.first_unknown-place.ensures
+    (omega arith)) c.refusal-2.ensures
