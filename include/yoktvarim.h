@@ -54,13 +54,13 @@ extern "C" {
  * paths through it. The WebAssembly module has a stack of its own of 512 kB. */
 enum {
     YOKTVARIM_STACK_MEASURE = 4096,
-    YOKTVARIM_STACK_DRAW = 20480,     /* points, indices */
-    YOKTVARIM_STACK_FLOATS = 20480,   /* drawing with floats */
+    YOKTVARIM_STACK_DRAW = 28672,     /* points, indices */
+    YOKTVARIM_STACK_FLOATS = 28672,   /* drawing with floats */
     YOKTVARIM_STACK_JOB = 4096,       /* writing and reading job files */
-    YOKTVARIM_STACK_CHECK = 143360,   /* checking a mesh */
-    YOKTVARIM_STACK_SHARE = 20480,    /* starting, drawing and clearing on shared lists */
+    YOKTVARIM_STACK_CHECK = 151552,   /* checking a mesh */
+    YOKTVARIM_STACK_SHARE = 28672,    /* starting, drawing and clearing on shared lists */
     YOKTVARIM_STACK_COMPARE = 172032, /* comparing two meshes */
-    YOKTVARIM_STACK_REPLAY = 118784,  /* replaying a recording */
+    YOKTVARIM_STACK_REPLAY = 131072,  /* replaying a recording */
 };
 
 /* ---------------------------------------------------------------- settings and levels */

@@ -218,10 +218,17 @@ static size_t used(inputs *on)
     return stack_of(all_inputs);
 }
 
-/* Whether a figure is right: enough, and less than 8 kB too high. Prints both. */
+/* The figures are those of x86-64 and aarch64. WebAssembly keeps in its own stack less of what two tables share, and has to stay within. */
+#ifdef __wasm__
+enum { TOO_HIGH = 24576 };
+#else
+enum { TOO_HIGH = 8192 };
+#endif
+
+/* Whether a figure is right: enough, and not too high by so much. Prints both. */
 static int is_right(const char *name, size_t bytes, size_t limit)
 {
-    const int right_figure = bytes <= limit && limit < bytes + 8192;
+    const int right_figure = bytes <= limit && limit < bytes + TOO_HIGH;
     say(name);
     say(": ");
     say_decimal(bytes);
