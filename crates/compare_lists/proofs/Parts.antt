@@ -33,7 +33,8 @@ module _ (l r : Mesh) where
   -- what is left to write after the points
   pub after_points : {xs xs₁ : List ℕ} {w : ℕ} → length (words (differences l r)) ≤ length xs → Wrote xs 0 (words (left_points l r) ++ words (right_points l r)) xs₁ w
       → Left xs₁ w (words (left_faces l r) ++ words (right_faces l r)) xs 0 (words (differences l r))
-  after_points h p = left_step p (parts_words ∙ sym (append_assoc (words (left_points l r)) (words (right_points l r)) (words (left_faces l r) ++ words (right_faces l r)))) (left_all refl (omega arith))
+  after_points h p =
+      left_step p (parts_words ∙ sym (append_assoc (words (left_points l r)) (words (right_points l r)) (words (left_faces l r) ++ words (right_faces l r)))) (left_all refl (omega arith))
 
   -- what is left to write after the triangles of the left side
   pub after_faces : {xs xs₁ xs₂ : List ℕ} {w v : ℕ} → length (words (differences l r)) ≤ length xs → Wrote xs 0 (words (left_points l r) ++ words (right_points l r)) xs₁ w

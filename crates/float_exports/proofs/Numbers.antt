@@ -25,7 +25,8 @@ module _ (bs : List ℕ) (xs : List Float) where
       go : (t u s a b c d : Bool)
           → OneOf (0 ∷ 1 ∷ 3 ∷ 4 ∷ 8 ∷ 9 ∷ 11 ∷ [])
           (cond t (cond u (unknown_setting (first_unknown_setting bs 0))
-          (cond s (cond a (refused 1) (cond b (refused 3) (cond c (refused 4) (cond d (refused 9) (drew_both (points_of (settings_in bs) (patch_in bs xs)) (indices_of (settings_in bs) (patch_in bs xs)))))))
+          (cond s (cond a (refused 1) (cond b (refused 3) (cond c (refused 4) (cond d (refused 9)
+          (drew_both (points_of (settings_in bs) (patch_in bs xs)) (indices_of (settings_in bs) (patch_in bs xs)))))))
           (refused 11))) bad_top).number
       go false u s a b c d = inr (inr (inr (inr (inr (inr (inl refl))))))
       go true true s a b c d = inr (inr (inr (inr (inl refl))))

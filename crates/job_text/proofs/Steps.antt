@@ -22,7 +22,8 @@ module _ (v : Version) (bs : List ℕ) where
   goes_on_lem at h = rw (lt-leb (length bs) at h) (go (incomplete v bs at) (unknown v bs at) refl)
     where
       go : (c u : Bool) → incomplete v bs at ≡ c
-          → goes_on (length bs) (cond c CutRecord (cond u (UnknownSetting (unknown_place v bs at) (cursor_after v at)) (Read (record_of v bs at) (cursor_after v at)))) ≡ min (at + record_size v) (length bs)
+          → goes_on (length bs) (cond c CutRecord (cond u (UnknownSetting (unknown_place v bs at) (cursor_after v at)) (Read (record_of v bs at) (cursor_after v at))))
+          ≡ min (at + record_size v) (length bs)
       go true u e = omega (arith, ltb-true (length bs - at) (record_size v) e)
       go false true e = omega (arith, ltb-false (length bs - at) (record_size v) e)
       go false false e = omega (arith, ltb-false (length bs - at) (record_size v) e)

@@ -21,7 +21,8 @@ entries_agree k none = entries_none k [] refl ∙ ap AllAgree (omega arith)
 entries_agree k (more {c} {cs} m w) =
     let e = entry_bytes c in
     let front : take entry_size (e ++ entries_bytes cs) ≡ e = subst (λ (n : ℕ). take n (e ++ entries_bytes cs) ≡ e) (entry_length c) (take-append_seam e (entries_bytes cs)) in
-    let rest : drop entry_size (e ++ entries_bytes cs) ≡ entries_bytes cs = subst (λ (n : ℕ). drop n (e ++ entries_bytes cs) ≡ entries_bytes cs) (entry_length c) (drop-append_seam e (entries_bytes cs)) in
+    let rest : drop entry_size (e ++ entries_bytes cs) ≡ entries_bytes cs =
+    subst (λ (n : ℕ). drop n (e ++ entries_bytes cs) ≡ entries_bytes cs) (entry_length c) (drop-append_seam e (entries_bytes cs)) in
     entries_step k (e ++ entries_bytes cs) (omega (arith, length-append e (entries_bytes cs), entry_length c))
     ∙ rw (front, rest, entry_agrees c m) (entries_agree (suc k) w ∙ ap AllAgree (omega arith))
 

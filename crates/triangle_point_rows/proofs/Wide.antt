@@ -168,7 +168,8 @@ module _ {base other row : List ℕ} {from : ℕ} (laid : Laid base other from r
   pub edge_two : flat (sums base (from + 1) less less (2 * get_or row 0 0)) 0 (length row - 1)
       ≡ vertex_words (edge_points triangle_place 2 (listed (take (length row - 1) row)) (place_in (take (length row - 1) row) 0))
   edge_two =
-      points_of_lem (sums base (from + 1) less less (2 * get_or row 0 0)) (λ i. triangle_place 2 (place_in (take (length row - 1) row) i) (place_in (take (length row - 1) row) 0)) (length row - 1) _ size
+      points_of_lem (sums base (from + 1) less less (2 * get_or row 0 0))
+      (λ i. triangle_place 2 (place_in (take (length row - 1) row) i) (place_in (take (length row - 1) row) 0)) (length row - 1) _ size
       (λ i h.
       let d = place_in (take (length row - 1) row) 0 in
       let x = place_in (take (length row - 1) row) i in

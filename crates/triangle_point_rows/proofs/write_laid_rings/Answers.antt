@@ -18,14 +18,16 @@ write_wide_ring-to-requires-clause-fact_3 c =
     let l = c.loop-inner in
     let inner = l.inner.now in
     let n = length inner - 1 in
-    let fits = left_fits (vertex_words (ring_points (take n inner))) _ (ring_then inner n (omega arith) (omega arith) (omega arith)) l.invariant.2 in ring_clear inner n (omega arith) (omega arith) l.invariant.0
+    let fits = left_fits (vertex_words (ring_points (take n inner))) _ (ring_then inner n (omega arith) (omega arith) (omega arith)) l.invariant.2 in
+    ring_clear inner n (omega arith) (omega arith) l.invariant.0
 
 pub write_wide_ring-to-requires-clause-fact_4 : goal.write_wide_ring-to-requires-clause-fact_4
 write_wide_ring-to-requires-clause-fact_4 c =
     let l = c.loop-inner in
     let inner = l.inner.now in
     let n = length inner - 1 in
-    let fits = left_fits (vertex_words (ring_points (take n inner))) _ (ring_then inner n (omega arith) (omega arith) (omega arith)) l.invariant.2 in omega (arith, words_length (ring_points (take n inner)))
+    let fits = left_fits (vertex_words (ring_points (take n inner))) _ (ring_then inner n (omega arith) (omega arith) (omega arith)) l.invariant.2 in
+    omega (arith, words_length (ring_points (take n inner)))
 
 pub loop-inner-preserved : goal.loop-inner-preserved
 loop-inner-preserved c =

@@ -8,7 +8,9 @@ use Rattle.tsr_run.proofs.Rests.{Full, full_start, full_countable, full_more, fu
 use Rattle.tsr_run.proofs.rest.replay_chunks.Given as goal
 
 abbrev pub invariant-loop-read : goal.invariant-loop-read
-invariant-loop-read l = Full l.initial.so_far l.so_far l.read × ((length l.bytes ≡ length l.initial.bytes) × (length l.vertices ≡ length l.initial.vertices) × (length l.indices ≡ length l.initial.indices))
+invariant-loop-read l =
+    Full l.initial.so_far l.so_far l.read
+    × ((length l.bytes ≡ length l.initial.bytes) × (length l.vertices ≡ length l.initial.vertices) × (length l.indices ≡ length l.initial.indices))
 
 abbrev pub decreases-loop-read : goal.decreases-loop-read
 decreases-loop-read l = 18446744073709551615 - l.read
