@@ -1,3 +1,6 @@
+use native.Mathlib.Omega.{arith}
+use Prim.Native.Nat.{◌%◌}
+use lib.ListN.{length}
 use mathlib.Core.Path.{refl}
 use borrow.Author.Tests.{eq-eqb, ne_eqb}
 use Rattle.compare_meshes.specs.Answers.{checked}
@@ -18,7 +21,7 @@ unfolding checked
 returns-then-first_unknown-indices c =
     rw (
       eq-eqb _ _ c.if-points-ne0.false,
-      eq-eqb _ _ c.if-indices-ne0.false,
+      eq-eqb (length c.args.indices.now % 3) 0 (omega arith),
       points_count c.args.points.now,
       test_found c.first_unknown.ensures refl c.if-first_unknown-indices.true,
     )
@@ -28,7 +31,7 @@ unfolding checked
 returns-then-first_repeated-count c =
     rw (
       eq-eqb _ _ c.if-points-ne0.false,
-      eq-eqb _ _ c.if-indices-ne0.false,
+      eq-eqb (length c.args.indices.now % 3) 0 (omega arith),
       points_count c.args.points.now,
       test_none c.first_unknown.ensures refl c.if-first_unknown-indices.false,
       test_found c.first_repeated.ensures refl c.if-first_repeated-count.true,
@@ -39,7 +42,7 @@ unfolding checked
 returns c =
     rw (
       eq-eqb _ _ c.if-points-ne0.false,
-      eq-eqb _ _ c.if-indices-ne0.false,
+      eq-eqb (length c.args.indices.now % 3) 0 (omega arith),
       points_count c.args.points.now,
       test_none c.first_unknown.ensures refl c.if-first_unknown-indices.false,
       test_none c.first_repeated.ensures refl c.if-first_repeated-count.false,

@@ -1,3 +1,4 @@
+use native.Mathlib.Omega.{arith}
 use borrow.Author.Tests.{lt-ltb, le-ltb}
 use Rattle.draw_floats.specs.Answers.{floats_room_verdict}
 use Rattle.draw_floats.proofs.room.find_room.Goals as goal
@@ -12,7 +13,8 @@ returns-then-index_words-indices c = rw (le-ltb _ _ c.if-vertex_words-words.fals
 
 pub returns-then-float_words-words : goal.returns-then-float_words-words
 unfolding floats_room_verdict
-returns-then-float_words-words c = rw (le-ltb _ _ c.if-vertex_words-words.false, le-ltb _ _ c.if-index_words-indices.false, lt-ltb _ _ c.if-float_words-words.true)
+returns-then-float_words-words c =
+    rw (le-ltb _ _ c.if-vertex_words-words.false, le-ltb c.args.index_words c.args.indices (omega arith), lt-ltb _ _ c.if-float_words-words.true)
 
 pub returns : goal.returns
 unfolding floats_room_verdict

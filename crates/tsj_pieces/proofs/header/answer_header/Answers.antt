@@ -17,7 +17,7 @@ returns-then-output-clause-out_after c =
 pub returns-clause-answered_header : goal.returns-clause-answered_header
 returns-clause-answered_header c =
     header_written c.read_or_tell-input.ensures c.if-input.false c.read_header-found.ensures.is c.put_header-written.ensures
-    c.write_or_tell-output.ensures c.if-output.false c.rest_of-rest.ensures
+    c.write_or_tell-output.ensures (cc) c.rest_of-rest.ensures
 
 pub returns-clause-out_after : goal.returns-clause-out_after
 returns-clause-out_after c = read_text c.read_or_tell-input.ensures c.if-input.false c.read_header-found.ensures.is c.put_header-written.ensures
