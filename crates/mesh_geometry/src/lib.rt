@@ -2,7 +2,7 @@
 #![tactic(auto)]
 
 // A point of the domain, in whole units.
-#[derive(Clone, Copy, Drop)]
+#[derive(Clone, Copy, PartialEq, Eq, Drop)]
 pub struct Point {
     pub u: u32,
     pub v: u32,
