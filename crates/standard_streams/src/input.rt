@@ -6,6 +6,7 @@ use crate::streams::Streams;
 use std::io::{Read, Stdin};
 
 // How many bytes were read, and whether a read failed. Fewer bytes than asked for without a failure mean that the input has ended.
+// Kept: the programs count the bytes of a failed read with all others, so a Result would hold the same count in both of its variants.
 #[derive(Clone, Copy, Drop)]
 pub struct Input {
     pub count: usize,

@@ -6,6 +6,7 @@ use crate::streams::Streams;
 use std::io::{ErrorKind, Write};
 
 // How many bytes were written, and whether a write failed, so that some are missing.
+// Kept: the programs count the bytes of a failed write with all others, so a Result would hold the same count in both of its variants.
 #[derive(Clone, Copy, Drop)]
 pub struct Output {
     pub count: usize,
