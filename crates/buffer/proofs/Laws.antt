@@ -7,6 +7,7 @@ use native.Mathlib.Numerals.{add-one}
 use native.Mathlib.Omega.{arith}
 use borrow.Author.Rules.{rules}
 use lib.ListN.{length, take, drop, set, length-append, length-take, length-drop, take-append-drop}
+use borrow.Rule.Slice.PartMut.{put_mid}
 use lib.Seq.{set_split, take-append-add, drop-append-add, take-append_seam, drop-drop}
 use Rattle.buffer.specs.Over.{over, Wrote, flat}
 
@@ -62,6 +63,14 @@ module _ {A : Type 0} where
   pub wrote_three : {xs : List A} {at : ℕ} {x y z : A} → at + 3 ≤ length xs
       → Wrote xs at (x ∷ y ∷ z ∷ []) (set (set (set xs at x) (at + 1) y) (at + 2) z) (at + 3)
   wrote_three {xs} {at} {x} {y} {z} h = record { is = over_three xs at x y z h; next = refl }
+
+  -- all of a list, copied into the part of the slice that it takes
+  pub wrote_part : {xs ys zs : List A} {at : ℕ} → zs ≡ ys → at + length ys ≤ length xs
+      → Wrote xs at ys (put_mid at (at + length ys - at) xs zs) (at + length ys)
+  unfolding over
+  wrote_part {xs} {ys} {zs} {at} e h =
+      let n : at + length ys - at ≡ length ys = omega arith in
+      record { is = rw (e, n) (ap (λ (ds : List A). take at xs ++ (ys ++ ds)) (drop-drop (length ys) at xs)); next = refl }
 
   -- the words at the front read back
   pub over_front : (xs ys : List A) (n : ℕ) → n ≡ length ys → take n (over xs 0 ys) ≡ ys

@@ -89,7 +89,7 @@ fn put_if(out: &mut [u64], at: usize, is: bool, kind: u64, side: u64, number: us
     ensures { Wrote out.old at (words_if kind side is number) out.new result }
 {
     if is {
-        buffer::put3_u64(out, at, kind, side, number as u64)
+        buffer::put3(out, at, kind, side, number as u64)
     } else {
         at
     }

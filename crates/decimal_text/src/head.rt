@@ -12,7 +12,7 @@ fn put_worded(out: &mut [u8], at: usize, word: &[u8], n: u32) -> usize
     ensures wrote { Wrote out.old at (word.now ++ line (n ∷ [])) out.new result }
     ensures upper_bound { result ≤ at + length word.now + 11 }
 {
-    let w = buffer::put_bytes(out, at, word);
+    let w = buffer::put_all(out, at, word);
     put_line1(out, w, n)
 }
 
@@ -31,7 +31,7 @@ pub fn put_drawn(out: &mut [u8], at: usize, points: u32, indices: u32) -> usize
     ensures wrote { Wrote out.old at (drawn_line points indices) out.new result }
     ensures upper_bound { result ≤ at + 28 }
 {
-    let w = buffer::put_bytes(out, at, b"drawn ");
+    let w = buffer::put_all(out, at, b"drawn ");
     put_line2(out, w, points, indices)
 }
 
@@ -40,7 +40,7 @@ pub fn put_discarded(out: &mut [u8], at: usize) -> usize
     requires { at + 10 ≤ length out.old }
     ensures { Wrote out.old at discarded_line out.new result }
 {
-    buffer::put_bytes(out, at, b"discarded\n")
+    buffer::put_all(out, at, b"discarded\n")
 }
 
 // Writes the line of a refused record, with the number of the refusal.

@@ -153,7 +153,7 @@ pub fn rows_to_8() -> [u32; 44]
 {
     let all = rows_to_64();
     let mut rows = [0u32; 44];
-    buffer::put_words(&mut rows, 0, &all[0..44]);
+    buffer::put_all(&mut rows, 0, &all[0..44]);
     rows
 }
 
@@ -163,7 +163,7 @@ pub fn rows_to_16() -> [u32; 152]
 {
     let all = rows_to_64();
     let mut rows = [0u32; 152];
-    buffer::put_words(&mut rows, 0, &all[0..152]);
+    buffer::put_all(&mut rows, 0, &all[0..152]);
     rows
 }
 
@@ -173,7 +173,7 @@ pub fn rows_to_32() -> [u32; 560]
 {
     let all = rows_to_64();
     let mut rows = [0u32; 560];
-    buffer::put_words(&mut rows, 0, &all[0..560]);
+    buffer::put_all(&mut rows, 0, &all[0..560]);
     rows
 }
 

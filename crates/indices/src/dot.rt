@@ -11,7 +11,7 @@ pub fn write_dots(out: &mut [u16], at: usize, p: u32) -> usize
     let mut to = at;
     let mut i = 0u32;
     while i < p {
-        to = buffer::put_u16(out, to, i as u16);
+        to = buffer::put(out, to, i as u16);
         i += 1;
     }
     to

@@ -14,7 +14,7 @@ fn write_line(out: &mut [u16], at: usize, first: u32, n: u32) -> usize
     let mut c = 0u32;
     while c < n {
         let x = first + c;
-        to = buffer::put2_u16(out, to, x as u16, (x + 1) as u16);
+        to = buffer::put2(out, to, x as u16, (x + 1) as u16);
         c += 1;
     }
     to

@@ -3,7 +3,7 @@ ghost use Rattle.std.specs.Prelude.{◌≡◌, ◌+◌, ◌≤◌, length};
 ghost use Rattle.buffer.specs.Over.{Wrote};
 ghost use Rattle.job_bytes.specs.Written.{kind_byte, spacing_byte, order_byte, origin_byte, five_bytes};
 
-use buffer::put_bytes;
+use buffer::put_all;
 use job_fields::setting::Kind;
 use level::Spacing;
 use patch::settings::{DomainOrigin, Settings, VertexOrder};
@@ -62,5 +62,5 @@ pub(crate) fn put_settings(out: &mut [u8], at: usize, kind: Kind, settings: Sett
         origin_byte(origin),
         point_mode as u8,
     ];
-    put_bytes(out, at, &bytes)
+    put_all(out, at, &bytes)
 }

@@ -3,7 +3,7 @@ ghost use Rattle.std.specs.Prelude.{◌≡◌, true, ◌+◌, ◌≤◌, length}
 ghost use Rattle.buffer.specs.Over.{Wrote};
 ghost use Rattle.job_bytes.specs.Written.{takes_top, top_bytes};
 
-use buffer::put_bytes;
+use buffer::put_all;
 use job_fields::version::Version;
 use level::is_top;
 
@@ -24,6 +24,6 @@ pub(crate) fn put_top(out: &mut [u8], at: usize, version: Version, top: u32) -> 
 {
     match version {
         Version::One => at,
-        Version::Two => put_bytes(out, at, &[top as u8]),
+        Version::Two => put_all(out, at, &[top as u8]),
     }
 }

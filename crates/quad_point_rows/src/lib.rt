@@ -24,7 +24,7 @@ fn write_edge(out: &mut [u32], at: usize, row: &[u32], k: u32) -> usize
     let mut i = 0usize;
     while i < row.len() {
         let p = quad_place(k, row[i]);
-        to = buffer::put3_u32(out, to, p.u, p.v, p.w);
+        to = buffer::put3(out, to, p.u, p.v, p.w);
         i += 1;
     }
     to

@@ -161,8 +161,8 @@ pub fn write_plain_quad(out: &mut [u32], at: usize) -> usize
     requires { at + 12 ≤ length out.old }
     ensures { Wrote out.old at (vertex_words quad_corners) out.new result }
 {
-    let w = buffer::put3_u32(out, at, 0, 65536, 0);
-    let w = buffer::put3_u32(out, w, 0, 0, 0);
-    let w = buffer::put3_u32(out, w, 65536, 0, 0);
-    buffer::put3_u32(out, w, 65536, 65536, 0)
+    let w = buffer::put3(out, at, 0, 65536, 0);
+    let w = buffer::put3(out, w, 0, 0, 0);
+    let w = buffer::put3(out, w, 65536, 0, 0);
+    buffer::put3(out, w, 65536, 65536, 0)
 }

@@ -15,7 +15,7 @@ fn write_copy(out: &mut [u16], from: usize, at: usize, n: usize, by: usize) -> u
     let mut i = 0usize;
     while i < n {
         let x = out[from + i] as usize;
-        to = buffer::put_u16(out, to, ((x + by) % 65536) as u16);
+        to = buffer::put(out, to, ((x + by) % 65536) as u16);
         i += 1;
     }
     to

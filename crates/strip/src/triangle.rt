@@ -3,7 +3,7 @@ ghost use Rattle.std.specs.Prelude.{◌≡◌, ◌+◌, ◌≤◌, length};
 ghost use Rattle.buffer.specs.Over.{Wrote};
 ghost use Rattle.strip.specs.Triangles.{corners, turned};
 
-#[derive(Clone, Copy, Drop)]
+#[derive(Clone, Copy, PartialEq, Eq, Drop)]
 pub struct Triangle {
     pub a: u16,
     pub b: u16,
@@ -30,5 +30,5 @@ pub fn put_triangle(out: &mut [u16], at: usize, t: Triangle, positive: bool) -> 
     ensures { Wrote out.old at (corners (turned positive t)) out.new result }
 {
     let u = turn(t, positive);
-    buffer::put3_u16(out, at, u.a, u.b, u.c)
+    buffer::put3(out, at, u.a, u.b, u.c)
 }

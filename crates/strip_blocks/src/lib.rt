@@ -52,7 +52,7 @@ fn block(pattern: &[u16; 48], x: u16, y: u16, positive: bool) -> [u16; 24]
     while i < 24 {
         let line = wide(pattern[i]);
         let on = wide(pattern[24 + i]);
-        to = buffer::put_u16(&mut words, to, ((line * d + on + first) % 65536) as u16);
+        to = buffer::put(&mut words, to, ((line * d + on + first) % 65536) as u16);
         i += 1;
     }
     words
@@ -67,7 +67,7 @@ fn put_block(out: &mut [u16], at: usize, words: &[u16]) -> usize
     let mut to = at;
     let mut i = 0usize;
     while i < 24 {
-        to = buffer::put_u16(out, to, words[i]);
+        to = buffer::put(out, to, words[i]);
         i += 1;
     }
     to
@@ -82,7 +82,7 @@ fn raise(words: &mut [u16], by: u32)
     let mut i = 0usize;
     while i < 24 {
         let x = wide(words[i]);
-        i = buffer::put_u16(words, i, ((x + by) % 65536) as u16);
+        i = buffer::put(words, i, ((x + by) % 65536) as u16);
     }
 }
 

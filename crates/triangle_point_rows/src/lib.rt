@@ -25,7 +25,7 @@ fn write_edge(out: &mut [u32], at: usize, row: &[u32], depth: u32, high: u32, k:
     let mut i = 0usize;
     while i < row.len() {
         let p = triangle_place(k, row[i], depth, high);
-        to = buffer::put3_u32(out, to, p.u, p.v, p.w);
+        to = buffer::put3(out, to, p.u, p.v, p.w);
         i += 1;
     }
     to
@@ -71,7 +71,7 @@ fn write_rings(out: &mut [u32], at: usize, row: &[u32]) -> usize
         inner = &inner[1..end];
     }
     if inner.len() == 1 {
-        return buffer::put3_u32(out, to, 65536, 65536, 65536);
+        return buffer::put3(out, to, 65536, 65536, 65536);
     }
     write_ring(out, to, &inner[0..1])
 }
@@ -102,7 +102,7 @@ fn eight(base: &[u32], from: usize, p: u32, q: u32, r: u32) -> [u32; 24]
         let u = sum(base[j], p);
         let v = sum(base[j + 1], q);
         let w = sum(base[j + 2], r);
-        to = buffer::put3_u32(&mut words, to, u, v, w);
+        to = buffer::put3(&mut words, to, u, v, w);
         i += 1;
     }
     words
@@ -122,7 +122,7 @@ fn write_eight(
     ensures { Wrote out.old at (flat (sums base.now from p q r) 0 8) out.new result }
 {
     let words = eight(base, from, p, q, r);
-    buffer::put_words(out, at, &words)
+    buffer::put_all(out, at, &words)
 }
 
 fn write_eights(

@@ -175,7 +175,7 @@ pub fn write_plain_triangle(out: &mut [u32], at: usize) -> usize
     requires { at + 9 ≤ length out.old }
     ensures { Wrote out.old at (vertex_words triangle_corners) out.new result }
 {
-    let w = buffer::put3_u32(out, at, 0, 196608, 0);
-    let w = buffer::put3_u32(out, w, 0, 0, 196608);
-    buffer::put3_u32(out, w, 196608, 0, 0)
+    let w = buffer::put3(out, at, 0, 196608, 0);
+    let w = buffer::put3(out, w, 0, 0, 196608);
+    buffer::put3(out, w, 196608, 0, 0)
 }

@@ -12,7 +12,7 @@ fn write_row(out: &mut [u32], at: usize, columns: &[u32], v: u32) -> usize
     let mut to = at;
     let mut c = 0usize;
     while c < columns.len() {
-        to = buffer::put3_u32(out, to, columns[c], v, 0);
+        to = buffer::put3(out, to, columns[c], v, 0);
         c += 1;
     }
     to
@@ -58,7 +58,7 @@ fn write_raised(out: &mut [u32], at: usize, rows: &[u32], columns: &[u32]) -> us
     let mut r = 0usize;
     while r < rows.len() {
         raise(&mut row, n, rows[r]);
-        to = buffer::put_words(out, to, &row[0..words]);
+        to = buffer::put_all(out, to, &row[0..words]);
         r += 1;
     }
     to

@@ -18,8 +18,8 @@ loop-i-init c =
       length-take a.n (drop a.from a.out.now),
     ))
 
-pub put_u16-to-requires : goal.put_u16-to-requires
-put_u16-to-requires c =
+pub put-to-requires : goal.put-to-requires
+put-to-requires c =
     omega (arith, count_fits (omega arith) c.loop-i.invariant)
 
 pub loop-i-preserved : goal.loop-i-preserved
@@ -27,7 +27,7 @@ loop-i-preserved c =
     let a = c.args in
     let l = c.loop-i in
     let kept = count_keeps (omega arith) l.invariant (a.from + l.i) (omega arith) in
-    count_step (omega arith) (wrote_as (λ (x : ℕ). ((x + a.by) % 65536) ∷ []) (sym kept) c.put_u16-to.ensures) l.invariant
+    count_step (omega arith) (wrote_as (λ (x : ℕ). ((x + a.by) % 65536) ∷ []) (sym kept) c.put-to.ensures) l.invariant
 
 pub returns : goal.returns
 returns c =

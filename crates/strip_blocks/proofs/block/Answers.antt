@@ -13,15 +13,15 @@ use Rattle.strip_blocks.proofs.block.Goals as goal
 pub loop-i-init : goal.loop-i-init
 loop-i-init c = count_begin 1 (λ j. refl) (omega arith)
 
-pub put_u16-to-requires : goal.put_u16-to-requires
-put_u16-to-requires c = count_room c.loop-i.invariant (omega arith) (λ j. refl)
+pub put-to-requires : goal.put-to-requires
+put-to-requires c = count_room c.loop-i.invariant (omega arith) (λ j. refl)
 
 pub loop-i-preserved : goal.loop-i-preserved
 loop-i-preserved c =
     let l = c.loop-i in
     let line = c.wide-line.ensures.0 in
     let on = c.wide-on.ensures.0 in
-    count_step (omega arith) (rw (← line, ← on) c.put_u16-to.ensures) l.invariant
+    count_step (omega arith) (rw (← line, ← on) c.put-to.ensures) l.invariant
 
 pub returns : goal.returns
 returns c =

@@ -7,11 +7,11 @@ use Rattle.strip_blocks.proofs.put_block.Goals as goal
 pub loop-i-init : goal.loop-i-init
 loop-i-init c = count_begin 1 (λ j. refl) (omega arith)
 
-pub put_u16-to-requires : goal.put_u16-to-requires
-put_u16-to-requires c = count_room c.loop-i.invariant (omega arith) (λ j. refl)
+pub put-to-requires : goal.put-to-requires
+put-to-requires c = count_room c.loop-i.invariant (omega arith) (λ j. refl)
 
 pub loop-i-preserved : goal.loop-i-preserved
-loop-i-preserved c = count_step (omega arith) c.put_u16-to.ensures c.loop-i.invariant
+loop-i-preserved c = count_step (omega arith) c.put-to.ensures c.loop-i.invariant
 
 pub returns : goal.returns
 returns c =

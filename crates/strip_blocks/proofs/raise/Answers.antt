@@ -9,5 +9,5 @@ pub loop-i-preserved : goal.loop-i-preserved
 loop-i-preserved c =
     let a = c.args in
     let l = c.loop-i in
-    let w = c.put_u16-i in
+    let w = c.put-i in
     (omega (arith, w.ensures.next), omega (arith, w.auto.out), raise_step a.by a.words.now l.i (omega arith) l.invariant.2 c.wide-x.ensures.0 w.ensures)

@@ -8,8 +8,8 @@ use Rattle.triangle_point_rows.proofs.eight.Goals as goal
 pub loop-i-init : goal.loop-i-init
 loop-i-init c = count_begin 3 (λ j. refl) (omega arith)
 
-pub put3_u32-to-requires : goal.put3_u32-to-requires
-put3_u32-to-requires c = count_room c.loop-i.invariant (omega arith) (λ j. refl)
+pub put3-to-requires : goal.put3-to-requires
+put3-to-requires c = count_room c.loop-i.invariant (omega arith) (λ j. refl)
 
 pub loop-i-preserved : goal.loop-i-preserved
 loop-i-preserved c =
@@ -17,7 +17,7 @@ loop-i-preserved c =
       ← c.sum-u.ensures,
       ← c.sum-v.ensures,
       ← c.sum-w.ensures,
-    ) c.put3_u32-to.ensures)
+    ) c.put3-to.ensures)
     c.loop-i.invariant
 
 pub returns : goal.returns

@@ -36,13 +36,13 @@ loop-inner-preserved c =
       left_step c.write_ring-to.ensures (ring_then inner (length inner - 1 - 0) (omega arith) (omega arith) (omega arith)) l.invariant.1,
     )
 
-pub put3_u32-requires : goal.put3_u32-requires
-put3_u32-requires c = omega (arith, ap length (centre_last c.loop-inner.inner.now (omega arith)))
+pub put3-requires : goal.put3-requires
+put3-requires c = omega (arith, ap length (centre_last c.loop-inner.inner.now (omega arith)))
 
 pub returns-then-inner-eq1 : goal.returns-then-inner-eq1
 returns-then-inner-eq1 c =
     let l = c.loop-inner in
-    left_last c.put3_u32.ensures (centre_last l.inner.now (omega arith)) l.invariant.1
+    left_last c.put3.ensures (centre_last l.inner.now (omega arith)) l.invariant.1
 
 pub write_ring-requires-clause-fact_3 : goal.write_ring-requires-clause-fact_3
 write_ring-requires-clause-fact_3 c =

@@ -12,6 +12,6 @@ put_line2-requires c =
 
 pub returns : goal.returns
 returns c = record {
-  wrote = wrote_then (omega arith) c.put_bytes-w.ensures c.put_line2.ensures;
+  wrote = wrote_then (omega arith) c.put_all-w.ensures c.put_line2.ensures;
   upper_bound = omega (arith, line_length 9 (c.args.points ∷ c.args.indices ∷ []) (more (omega arith) (more (omega arith) none)));
 }

@@ -9,6 +9,6 @@ put_line1-requires c = omega (arith, line_length 9 (c.args.n ∷ []) (more (omeg
 
 pub returns : goal.returns
 returns c = record {
-  wrote = wrote_then (omega arith) c.put_bytes-w.ensures c.put_line1.ensures;
+  wrote = wrote_then (omega arith) c.put_all-w.ensures c.put_line1.ensures;
   upper_bound = omega (arith, line_length 9 (c.args.n ∷ []) (more (omega arith) none));
 }

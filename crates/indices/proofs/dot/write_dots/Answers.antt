@@ -8,8 +8,8 @@ pub loop-i-init : goal.loop-i-init
 unfolding dots
 loop-i-init c = count_start (omega (arith, dots_length c.args.p))
 
-pub put_u16-to-requires : goal.put_u16-to-requires
-put_u16-to-requires c = search counting
+pub put-to-requires : goal.put-to-requires
+put-to-requires c = search counting
 
 pub loop-i-preserved : goal.loop-i-preserved
 loop-i-preserved c = search counting

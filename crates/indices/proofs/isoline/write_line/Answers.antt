@@ -6,8 +6,8 @@ pub loop-c-init : goal.loop-c-init
 unfolding line_words
 loop-c-init c = search counting
 
-pub put2_u16-to-requires : goal.put2_u16-to-requires
-put2_u16-to-requires c = search counting
+pub put2-to-requires : goal.put2-to-requires
+put2-to-requires c = search counting
 
 pub loop-c-preserved : goal.loop-c-preserved
 loop-c-preserved c = search counting

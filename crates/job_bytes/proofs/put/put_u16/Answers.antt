@@ -9,4 +9,4 @@ unfolding low_bytes
 returns c =
     let x = c.args.x in
     let high : x / 256 % 256 ≡ x / 256 = omega arith in
-    rw high c.put_bytes.ensures
+    rw high c.put_all.ensures

@@ -7,11 +7,11 @@ use Rattle.tsr_line.proofs.sentence.put_counted.Goals as goal
 pub put_long-b-requires : goal.put_long-b-requires
 put_long-b-requires c = omega (arith, digits_long c.args.n (omega arith))
 
-pub put_bytes-requires : goal.put_bytes-requires
-put_bytes-requires c = omega (arith, digits_long c.args.n (omega arith))
+pub put_all-requires : goal.put_all-requires
+put_all-requires c = omega (arith, digits_long c.args.n (omega arith))
 
 pub returns-clause-wrote : goal.returns-clause-wrote
-returns-clause-wrote c = wrote_then (omega arith) (wrote_then (omega arith) c.put_bytes-a.ensures c.put_long-b.ensures) c.put_bytes.ensures
+returns-clause-wrote c = wrote_then (omega arith) (wrote_then (omega arith) c.put_all-a.ensures c.put_long-b.ensures) c.put_all.ensures
 
 pub returns-clause-upper_bound : goal.returns-clause-upper_bound
 returns-clause-upper_bound c = omega (arith, digits_long c.args.n (omega arith))

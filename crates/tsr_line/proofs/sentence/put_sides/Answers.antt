@@ -11,4 +11,4 @@ put_line3-requires c =
     omega (arith, line_length 9 (b.answer ∷ b.points ∷ b.indices ∷ []) (more (omega arith) (more (omega arith) (more (omega arith) none))))
 
 pub returns : goal.returns
-returns c = wrote_then (omega arith) (wrote_then (omega arith) c.put_spaced-a.ensures.wrote c.put_bytes-b.ensures) c.put_line3.ensures
+returns c = wrote_then (omega arith) (wrote_then (omega arith) c.put_spaced-a.ensures.wrote c.put_all-b.ensures) c.put_line3.ensures

@@ -27,8 +27,8 @@ loop-r-init c =
       λ v. ap (with_second v) stands ∙ row_raised columns 0 v,
     )
 
-pub put_words-to-requires : goal.put_words-to-requires
-put_words-to-requires c =
+pub put_all-to-requires : goal.put_all-to-requires
+put_all-to-requires c =
     let a = c.args in
     let l = c.loop-r in
     omega (
@@ -48,7 +48,7 @@ loop-r-preserved c =
     let v = place_in a.rows.now l.r in
     let room : n ≤ length l.row = omega arith in
     let front : take n up.new.row ≡ vertex_words (row_points columns v) = raised_front v n l.row room up.ensures ∙ l.invariant.2 v in (
-      count_step (omega arith) (wrote_as (λ (zs : List ℕ). zs) (sym front ∙ ap (λ (k : ℕ). take k up.new.row) (sym (sub-zero n))) c.put_words-to.ensures) l.invariant.0,
+      count_step (omega arith) (wrote_as (λ (zs : List ℕ). zs) (sym front ∙ ap (λ (k : ℕ). take k up.new.row) (sym (sub-zero n))) c.put_all-to.ensures) l.invariant.0,
       raised_size v n l.row room up.ensures ∙ l.invariant.1,
       λ h. ap (with_second h) front ∙ row_raised columns v h,
     )
