@@ -111,6 +111,11 @@ search_found {t} {n = n} {i = i} e p l h = sym (first_at t n i (omega arith) p.b
 pub search_none : {t : ℕ → Bool} {m n i : ℕ} → n ≡ m → Passed t m i → m ≤ i → i ≡ first t n
 search_none {t} {n = n} {i = i} e p l = let d : i ≡ n = omega (arith, p.most) in d ∙ sym (first_none t n (rw d at p.below))
 
+-- the same where a range ends the search: its end is the result
+pub range_none : {t : ℕ → Bool} {m n i : ℕ} → n ≡ m → Passed t m i → m ≤ i → m ≡ first t n
+range_none {t} {n = n} {i = i} e p l =
+    let d : i ≡ n = omega (arith, p.most) in sym e ∙ sym (first_none t n (rw d at p.below))
+
 pub some_found : {t : ℕ → Bool} {m n i : ℕ} → n ≡ m → Passed t m i → i < m → t i ≡ true → true ≡ some_below t n
 some_found {t} {n = n} {i = i} e p l h = sym (some_at t n i (omega arith) p.below h)
 

@@ -2,5 +2,4 @@
 pub mod First
 pub mod Read
 pub mod Lacks
-pub mod Packed
 pub mod Equal

@@ -6,14 +6,12 @@ ghost use Rattle.check_searches.specs.Indices.{first_unknown_index, Lacks};
 pub fn first_unknown(indices: &[u16], count: usize) -> usize
     ensures { result ≡ first_unknown_index indices.now count }
 {
-    let mut k = 0;
-    while k < indices.len() {
-        if count <= indices[k] as usize {
+    for (k, x) in indices.iter().enumerate() {
+        if count <= *x as usize {
             return k;
         }
-        k += 1;
     }
-    k
+    indices.len()
 }
 
 // Whether x or y is among the indices from place `from` up to, not including, `to`. It always reads all of them, so that it can
@@ -23,10 +21,8 @@ pub fn holds(indices: &[u16], from: usize, to: usize, x: u16, y: u16) -> bool
     ensures { result ≡ false → Lacks indices.now from to x y }
 {
     let mut found = false;
-    let mut k = from;
-    while k < to {
+    for k in from..to {
         found = found | (indices[k] == x) | (indices[k] == y);
-        k += 1;
     }
     found
 }

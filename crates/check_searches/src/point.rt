@@ -22,7 +22,7 @@ pub fn point_at(points: &[u32], k: usize) -> Point
 pub fn same_point(p: Point, q: Point) -> bool
     ensures { result ≡ same_point p q }
 {
-    (p.u == q.u) & (p.v == q.v) & (p.w == q.w)
+    p == q
 }
 
 // Whether point k equals q.
@@ -38,14 +38,12 @@ pub fn first_equal(points: &[u32], q: Point, end: usize) -> usize
     requires { end ≤ length points.now / 3 }
     ensures { result ≡ first_equal (read_points points.now) q end }
 {
-    let mut i = 0;
-    while i < end {
+    for i in 0..end {
         if lies_at(points, i, q) {
             return i;
         }
-        i += 1;
     }
-    i
+    end
 }
 
 // Whether point j equals an earlier point.
@@ -61,12 +59,10 @@ pub fn first_repeated(points: &[u32]) -> usize
     ensures { result ≡ first_repeated (read_points points.now) }
 {
     let count = points.len() / 3;
-    let mut j = 0;
-    while j < count {
+    for j in 0..count {
         if is_repeated(points, j) {
             return j;
         }
-        j += 1;
     }
-    j
+    count
 }

@@ -1,5 +1,5 @@
 // Triangles and their directed sides (half-edges), three indices per triangle.
-ghost use Rattle.std.specs.Prelude.{◌≡◌, ◌&&◌, ◌+◌, ◌*◌, ◌/◌, ◌<◌, eqb, length};
+ghost use Rattle.std.specs.Prelude.{◌≡◌, ◌&&◌, ◌/◌, ◌<◌, eqb, length};
 ghost use Rattle.mesh_geometry.specs.Words.{read_triangles};
 ghost use Rattle.check_searches.specs.Triangles.{triangle_at, has_corner, has_side, share_side};
 
@@ -23,18 +23,11 @@ pub fn has_corner(t: Triangle, x: u16) -> bool
     (t.a == x) | (t.b == x) | (t.c == x)
 }
 
-// Two vertex numbers packed into one word.
-fn packed(x: u16, y: u16) -> u32
-    ensures { result ≡ x * 65536 + y }
-{
-    (x as u32) * 65536 + (y as u32)
-}
-
 // Whether x→y is the directed side p→q.
 fn same_side(x: u16, y: u16, p: u16, q: u16) -> bool
     ensures { result ≡ (eqb x p && eqb y q) }
 {
-    packed(x, y) == packed(p, q)
+    (x == p) & (y == q)
 }
 
 // Whether x→y is a directed side of a triangle.

@@ -1,4 +1,3 @@
-use Prim.Native.Nat.{◌-◌}
 use lib.Dec.{leb}
 use lib.ListN.{length, get_or}
 use Rattle.check_searches.proofs.First.{Passed}
@@ -6,6 +5,3 @@ use Rattle.check_searches.proofs.index.first_unknown.Given as goal
 
 abbrev pub invariant-loop-k : goal.invariant-loop-k
 invariant-loop-k l = Passed (λ i. leb l.count (get_or l.indices i 0)) (length l.indices) l.k
-
-abbrev pub decreases-loop-k : goal.decreases-loop-k
-decreases-loop-k l = length l.indices - l.k

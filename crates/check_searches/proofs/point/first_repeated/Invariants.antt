@@ -1,4 +1,3 @@
-use Prim.Native.Nat.{◌-◌}
 use Rattle.mesh_geometry.specs.Words.{read_points}
 use Rattle.check_searches.specs.Points.{repeats}
 use Rattle.check_searches.proofs.First.{Passed}
@@ -6,6 +5,3 @@ use Rattle.check_searches.proofs.point.first_repeated.Given as goal
 
 abbrev pub invariant-loop-j : goal.invariant-loop-j
 invariant-loop-j l = Passed (repeats (read_points l.points)) l.count l.j
-
-abbrev pub decreases-loop-j : goal.decreases-loop-j
-decreases-loop-j l = l.count - l.j
