@@ -8,3 +8,10 @@ pub struct Point {
     pub v: u32,
     pub w: u32,
 }
+
+// A mesh as words: three of each point, and the three indices of each triangle.
+#[derive(Clone, Copy, Drop)]
+pub struct Mesh<'a> {
+    pub points: &'a [u32],
+    pub indices: &'a [u16],
+}
