@@ -5,26 +5,25 @@ ghost use Rattle.measure.specs.Cuts.{cut_of};
 
 use patch::kinds::Patch;
 use patch::settings::Settings;
-use patch::subdivision::Subdivision;
+use patch::subdivision::{Subdivision, is_discarded, subdivide};
 
-#[derive(Clone, Copy, Drop)]
-pub enum Cut {
+// Why a patch is neither drawn nor measured.
+#[derive(Clone, Copy, Debug, PartialEq, Eq, Drop)]
+pub enum NotDrawn {
     BadTop,
     Discarded,
-    Ready { cut: Subdivision },
 }
 
-pub fn cut_with(patch: Patch, settings: Settings) -> Cut
+pub fn cut_with(patch: Patch, settings: Settings) -> Result<Subdivision, NotDrawn>
     ensures { result ≡ cut_of settings patch }
 {
-    let spacing = settings.spacing;
     let top = settings.top;
     if !level::is_top(top) {
-        return Cut::BadTop;
+        return Err(NotDrawn::BadTop);
     }
-    let cut = patch::subdivision::subdivide(patch, spacing, top);
-    if patch::subdivision::is_discarded(cut) {
-        return Cut::Discarded;
+    let cut = subdivide(patch, settings.spacing, top);
+    if is_discarded(cut) {
+        return Err(NotDrawn::Discarded);
     }
-    Cut::Ready { cut }
+    Ok(cut)
 }

@@ -23,8 +23,8 @@ use Rattle.mesh_geometry.proofs.ReadBack.{read_points_lem}
 use Rattle.patch_mesh.proofs.Demand.{demand}
 use Rattle.patch_mesh.proofs.Once.{demand_once}
 use Rattle.patch_mesh.proofs.Kept.{kept_connections}
-use Rattle.tessellate.specs.declared.answer.PointsAnswer.{PointsAnswer}
-use Rattle.tessellate.specs.declared.answer.IndicesAnswer.{IndicesAnswer}
+use Rattle.std.proofs.Common.{Result}
+use Rattle.tessellate.specs.declared.refusal.DrawRefusal.{DrawRefusal}
 use Rattle.measure.specs.Sizes.{points_of, indices_of}
 use Rattle.tessellate.specs.Answers.{points_code, indices_code, list_verdict}
 use Rattle.answer_codes.specs.AnswerCode.{AnswerCode, refused, drew}
@@ -60,43 +60,43 @@ front : {t right : AnswerCode} {words xs xs' : List ℕ} (n k : ℕ) → Drew t 
 front {words = words} {xs = xs} n k d e h = ap (take k) (d.list ∙ rw e) ∙ over_front xs words k h
 
 module _ (set : Settings) (p : Patch) where
-  points_fit : (r : PointsAnswer) {v v' : List ℕ} {P : ℕ} → DrewPoints set p v v' r → points_code r ≡ drew P
+  points_fit : (r : Result ℕ DrawRefusal) {v v' : List ℕ} {P : ℕ} → DrewPoints set p v v' r → points_code r ≡ drew P
       → Fits set p (3 * points_of set p) (length v) (points_of set p) P
   points_fit r {v} {P = P} d e = drawn_means set p 2 (3 * points_of set p) (length v) (points_of set p) P (sym e ∙ d.answer)
 
   -- the words of the points that were drawn
-  pub point_words_drawn : (r : PointsAnswer) {v v' : List ℕ} {P : ℕ} → DrewPoints set p v v' r → points_code r ≡ drew P → take (3 * P) v' ≡ point_words set p
+  pub point_words_drawn : (r : Result ℕ DrawRefusal) {v v' : List ℕ} {P : ℕ} → DrewPoints set p v v' r → points_code r ≡ drew P → take (3 * P) v' ≡ point_words set p
   point_words_drawn r {P = P} d e =
       front P (3 * P) d e (omega (arith, (points_fit r d e).count, words_length (points (subdivision_of set p))))
 
   -- the points that were drawn, read from the list
-  pub points_drawn : (r : PointsAnswer) {v v' : List ℕ} {P : ℕ} → DrewPoints set p v v' r → points_code r ≡ drew P
+  pub points_drawn : (r : Result ℕ DrawRefusal) {v v' : List ℕ} {P : ℕ} → DrewPoints set p v v' r → points_code r ≡ drew P
       → Top set.top × (discards p ≡ false) × (read_points (take (3 * P) v') ≡ points (subdivision_of set p))
   points_drawn r d e =
       let f = points_fit r d e in
       (f.top, f.drawn, ap read_points (point_words_drawn r d e) ∙ read_points_lem (points (subdivision_of set p)))
 
   -- the indices that were drawn
-  pub indices_drawn : (r : IndicesAnswer) {i i' : List ℕ} {I : ℕ} → DrewIndices set p i i' r → indices_code r ≡ drew I
+  pub indices_drawn : (r : Result ℕ DrawRefusal) {i i' : List ℕ} {I : ℕ} → DrewIndices set p i i' r → indices_code r ≡ drew I
       → Top set.top × (discards p ≡ false) × (take I i' ≡ connection_words set p)
   indices_drawn r {i} {I = I} d e =
       let f = drawn_means set p 3 (indices_of set p) (length i) (indices_of set p) I (sym e ∙ d.answer) in
       (f.top, f.drawn, front I I d e f.count)
 
   -- demand 3 for what the two operations give for the same patch and settings
-  pub demand_together : (r : PointsAnswer) (s : IndicesAnswer) {v v' i i' : List ℕ} {P I : ℕ} → DrewPoints set p v v' r → DrewIndices set p i i' s
+  pub demand_together : (r : Result ℕ DrawRefusal) (s : Result ℕ DrawRefusal) {v v' i i' : List ℕ} {P I : ℕ} → DrewPoints set p v v' r → DrewIndices set p i i' s
       → points_code r ≡ drew P → indices_code s ≡ drew I → Demand set p (read_points (take (3 * P) v')) (take I i')
   demand_together r s d d' e e' =
       let ps = points_drawn r d e in
       rw (ps.2, (indices_drawn s d' e').2) (demand set ps.0 p ps.1)
 
   -- exactly one triangle holds each spot
-  pub once_together : (r : PointsAnswer) (s : IndicesAnswer) {v v' i i' : List ℕ} {P I : ℕ} → DrewPoints set p v v' r → DrewIndices set p i i' s
+  pub once_together : (r : Result ℕ DrawRefusal) (s : Result ℕ DrawRefusal) {v v' i i' : List ℕ} {P I : ℕ} → DrewPoints set p v v' r → DrewIndices set p i i' s
       → points_code r ≡ drew P → indices_code s ≡ drew I → SpotsOnce set p (read_points (take (3 * P) v')) (take I i')
   once_together r s d d' e e' = demand_once set (points_drawn r d e).0 p (demand_together r s d d' e e')
 
 -- patches that are alike get equal indices where both are drawn
-pub kept : (set set' : Settings) (p p' : Patch) (r r' : IndicesAnswer) {i₀ i₁ j₀ j₁ : List ℕ} {m n : ℕ} → Alike set set' p p'
+pub kept : (set set' : Settings) (p p' : Patch) (r r' : Result ℕ DrawRefusal) {i₀ i₁ j₀ j₁ : List ℕ} {m n : ℕ} → Alike set set' p p'
     → DrewIndices set p i₀ i₁ r → DrewIndices set' p' j₀ j₁ r' → indices_code r ≡ drew m → indices_code r' ≡ drew n → take m i₁ ≡ take n j₁
 kept set set' p p' r r' a d d' e e' =
     let is = indices_drawn set p r d e in

@@ -1,27 +1,23 @@
 -- The numbers and values that the customer's table gives for each answer, and which of them applies. Assumes nothing.
-use Rattle.std.specs.Prelude.{ℕ, ◌*◌, cond, ltb}
+use Rattle.std.specs.Prelude.{ℕ, ◌*◌, cond, ltb, Result, Ok, Err}
 use Rattle.patch.specs.declared.kinds.Patch.{Patch}
 use Rattle.patch.specs.declared.settings.Settings.{Settings}
 use Rattle.answer_codes.specs.AnswerCode.{AnswerCode, refused, drew}
 use Rattle.measure.specs.IfDrawn.{if_drawn}
 use Rattle.measure.specs.Sizes.{points_of, indices_of}
-use Rattle.tessellate.specs.declared.answer.PointsAnswer.{PointsAnswer}
-use Rattle.tessellate.specs.declared.answer.PointsAnswer.TheVariants as points
-use Rattle.tessellate.specs.declared.answer.IndicesAnswer.{IndicesAnswer}
-use Rattle.tessellate.specs.declared.answer.IndicesAnswer.TheVariants as indices
+use Rattle.tessellate.specs.declared.refusal.DrawRefusal.{DrawRefusal}
+use Rattle.tessellate.specs.Refusals.{refusal_code}
 
--- the number and values of each answer; 2 once meant more points than an index can number, and is not used again
-abbrev pub points_code : PointsAnswer → AnswerCode
-points_code (points.Drawn n) = drew n
-points_code points.Discarded = refused 1
-points_code points.NoRoomForVertices = refused 3
-points_code points.BadTop = refused 11
+-- the number and values of each answer
+abbrev pub draw_code : Result ℕ DrawRefusal → AnswerCode
+draw_code (Ok n) = drew n
+draw_code (Err e) = refusal_code e
 
-abbrev pub indices_code : IndicesAnswer → AnswerCode
-indices_code (indices.Drawn n) = drew n
-indices_code indices.Discarded = refused 1
-indices_code indices.NoRoomForIndices = refused 4
-indices_code indices.BadTop = refused 11
+abbrev pub points_code : Result ℕ DrawRefusal → AnswerCode
+points_code r = draw_code r
+
+abbrev pub indices_code : Result ℕ DrawRefusal → AnswerCode
+indices_code r = draw_code r
 
 -- the answer of an operation that writes `count` points or indices as `need` words into a list of `have` words: a bad top first, then the
 -- lowest number that applies; `short` is the number for a list that is too short
