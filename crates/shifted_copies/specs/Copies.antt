@@ -9,9 +9,3 @@ shifted d (x ∷ xs) = ((x + d) % 65536) ∷ shifted d xs
 -- copy i of ys: each word plus i * by
 unfoldable pub copy : ℕ → List ℕ → ℕ → List ℕ
 copy by ys i = shifted (i * by) ys
-
--- r is at least 1 and at most a and b
-pub record Lesser (a b r : ℕ) : Type 0 where
-  pub some : 1 ≤ r
-  pub first : r ≤ a
-  pub second : r ≤ b

@@ -3,7 +3,7 @@
 
 ghost use Rattle.std.specs.Prelude.{◌+◌, ◌-◌, ◌*◌, ◌≤◌, ◌<◌, length, take, drop};
 ghost use Rattle.buffer.specs.Over.{Wrote, flat};
-ghost use Rattle.shifted_copies.specs.Copies.{shifted, copy, Lesser};
+ghost use Rattle.shifted_copies.specs.Copies.{shifted, copy};
 
 // Writes the n words from `from` on again, each plus `by`, modulo 65536. A single plain loop, so that it compiles to vector code.
 fn write_copy(out: &mut [u16], from: usize, at: usize, n: usize, by: usize) -> usize
@@ -12,20 +12,11 @@ fn write_copy(out: &mut [u16], from: usize, at: usize, n: usize, by: usize) -> u
     ensures { Wrote out.old at (shifted by (take n (drop from out.old))) out.new result }
 {
     let mut to = at;
-    let mut i = 0usize;
-    while i < n {
+    for i in 0..n {
         let x = out[from + i] as usize;
         to = buffer::put(out, to, ((x + by) % 65536) as u16);
-        i += 1;
     }
     to
-}
-
-fn lesser(a: usize, b: usize) -> usize
-    requires { (1 ≤ a) × (1 ≤ b) }
-    ensures { Lesser a b result }
-{
-    if a <= b { a } else { b }
 }
 
 // Writes copies of the n words from `at` on until there are k in all; each round copies all that are there, or as many as are left to write.
@@ -37,7 +28,7 @@ pub fn write_copies(out: &mut [u16], at: usize, n: usize, k: usize, by: usize) -
     let mut to = at + n;
     let mut r = 1usize;
     while r < k {
-        let m = lesser(r, k - r);
+        let m = r.min(k - r);
         to = write_copy(out, at, to, m * n, r * by);
         r += m;
     }

@@ -13,11 +13,11 @@ pub write_copy-to-requires-clause-fact_1 : goal.write_copy-to-requires-clause-fa
 write_copy-to-requires-clause-fact_1 c =
     let a = c.args in
     let l = c.loop-r in
-    let m = c.lesser-m.result in
+    let m = c.min-m.result in
     let r : l.r ≤ 64 = omega arith in
     let by : a.by ≤ 1024 = omega arith in
-    let inside : m ≤ l.r = c.lesser-m.ensures.first in
-    let beyond : l.r + m ≤ a.k = omega (arith, c.lesser-m.ensures.second) in
+    let inside : m ≤ l.r = omega arith in
+    let beyond : l.r + m ≤ a.k = omega arith in
     let place = copying_place a.out.now a.at a.n a.k a.by (omega arith) (omega arith) l.invariant in
     let same = l.invariant.left.same in
     (omega (arith, mul-le-mul_right a.n inside), omega (arith, mul-le-mul r by))
@@ -26,11 +26,11 @@ pub write_copy-to-requires-clause-fact_2 : goal.write_copy-to-requires-clause-fa
 write_copy-to-requires-clause-fact_2 c =
     let a = c.args in
     let l = c.loop-r in
-    let m = c.lesser-m.result in
+    let m = c.min-m.result in
     let r : l.r ≤ 64 = omega arith in
     let by : a.by ≤ 1024 = omega arith in
-    let inside : m ≤ l.r = c.lesser-m.ensures.first in
-    let beyond : l.r + m ≤ a.k = omega (arith, c.lesser-m.ensures.second) in
+    let inside : m ≤ l.r = omega arith in
+    let beyond : l.r + m ≤ a.k = omega arith in
     let place = copying_place a.out.now a.at a.n a.k a.by (omega arith) (omega arith) l.invariant in
     let same = l.invariant.left.same in
     omega (arith, mul-le-mul_right a.n beyond, add-mul l.r m a.n)
@@ -39,8 +39,8 @@ pub loop-r-preserved : goal.loop-r-preserved
 loop-r-preserved c =
     let a = c.args in
     let l = c.loop-r in
-    let m = c.lesser-m in
-    copying_step a.out.now a.at a.n a.k a.by (omega arith) (omega arith) l.invariant m.result m.ensures.some m.ensures.first m.ensures.second
+    let m = c.min-m in
+    copying_step a.out.now a.at a.n a.k a.by (omega arith) (omega arith) l.invariant m.result (omega arith) (omega arith) (omega arith)
     c.write_copy-to.ensures
 
 pub returns : goal.returns

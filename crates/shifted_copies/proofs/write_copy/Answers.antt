@@ -32,4 +32,4 @@ loop-i-preserved c =
 pub returns : goal.returns
 returns c =
     let a = c.args in
-    rw (← all_words a.by a.out.now a.from a.n (omega arith)) (count_done c.loop-i-test.false c.loop-i.invariant)
+    rw (← all_words a.by a.out.now a.from a.n (omega arith)) (count_done (omega arith) c.loop-i.invariant)
