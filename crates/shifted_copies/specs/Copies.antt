@@ -1,5 +1,5 @@
 -- Shifted copies of words: each copy exceeds the one before by the same number. Assumes nothing.
-use Rattle.std.specs.Prelude.{ℕ, ◌+◌, ◌*◌, ◌%◌, ◌≤◌, List, [], ◌∷◌}
+use Rattle.std.specs.Prelude.{ℕ, ◌+◌, ◌*◌, ◌%◌, List, [], ◌∷◌}
 
 -- each word plus d, modulo 65536
 unfoldable pub shifted : ℕ → List ℕ → List ℕ

@@ -56,11 +56,11 @@ pub words_length : (A B : ℕ → ℕ) (next : ℕ → ℕ → Bool) (positive :
 words_length A B next positive n a b = omega (arith, indices_length positive (strip_from A B next n a b), steps_length A B next n a b)
 
 -- the words of one step of several, as the writing loop has them
-pub words_more : (A B : ℕ → ℕ) (next : ℕ → ℕ → Bool) (positive : Bool) (n a b : ℕ) (t : Triangle) (a' b' : ℕ) → 0 < n
+pub words_more : (A B : ℕ → ℕ) (next : ℕ → ℕ → Bool) (positive : Bool) (n a b : ℕ) (t : Triangle) (n' a' b' : ℕ) → 0 < n → n' ≡ n - 1
     → t ≡ step_triangle A B (next a b) a b → a' ≡ step_outer (next a b) a → b' ≡ step_inner (next a b) b
-    → indices positive (strip_from A B next n a b) ≡ corners (turned positive t) ++ indices positive (strip_from A B next (n - 1) a' b')
+    → indices positive (strip_from A B next n a b) ≡ corners (turned positive t) ++ indices positive (strip_from A B next n' a' b')
 unfolding indices
-words_more A B next positive n a b t a' b' h e f g = rw (steps_more A B next n a b h, e, f, g)
+words_more A B next positive n a b t n' a' b' h d e f g = rw (steps_more A B next n a b h, d, e, f, g)
 
 -- ---- a strip depends only on the points of its lines
 step_same : (A A' B B' : ℕ → ℕ) (t : Bool) (a b : ℕ) → A a ≡ A' a → A (step_outer t a) ≡ A' (step_outer t a) → B b ≡ B' b → B (step_inner t b) ≡ B' (step_inner t b)

@@ -51,8 +51,7 @@ pub fn write_pairs(
     let mut x = first;
     let mut y = second;
     let mut to = at;
-    let mut i = 0u32;
-    while i < n {
+    for i in 0..n {
         let u = outer.next(a + i, x);
         let v = inner.next(b + i, y);
         to = put_two(
@@ -64,7 +63,6 @@ pub fn write_pairs(
         );
         x = u;
         y = v;
-        i += 1;
     }
     Reached { to, x, y }
 }

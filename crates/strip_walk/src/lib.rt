@@ -18,17 +18,13 @@ pub fn write_walk(out: &mut [u16], at: usize, outer: Line, inner: Line, positive
     requires fact_3 { at + 3 * (outer.count + inner.count) ≤ length out.old }
     ensures { Wrote out.old at (indices positive (strip (vertex outer) (vertex inner) outer.count inner.count)) out.new result }
 {
-    let p = outer.count;
-    let r = inner.count;
+    let steps = outer.count + inner.count;
     let mut walk = walk::begin(outer, inner);
-    let mut left = p + r;
     let mut to = at;
-    while 0 < left {
+    for _step in 0..steps {
         let t = walk::advance(outer, inner, walk);
-        let triangle = t.triangle;
-        to = strip::triangle::put_triangle(out, to, triangle, positive);
+        to = strip::triangle::put_triangle(out, to, t.triangle, positive);
         walk = t.walk;
-        left -= 1;
     }
     to
 }

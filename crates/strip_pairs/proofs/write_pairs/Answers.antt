@@ -42,7 +42,7 @@ returns c =
     let l = c.loop-i in
     let e : l.i ≡ a.n = omega (arith, l.invariant.2.within) in
     record {
-      wrote = count_done c.loop-i-test.false l.invariant.2;
+      wrote = count_done (omega arith) l.invariant.2;
       outer = l.invariant.0 ∙ ap (λ (k : ℕ). vertex a.outer (a.a + k)) e;
       inner = l.invariant.1 ∙ ap (λ (k : ℕ). vertex a.inner (a.b + k)) e;
     }
