@@ -27,7 +27,7 @@ pub put_triangle-to-requires : goal.put_triangle-to-requires
 put_triangle-to-requires c =
     let a = c.args in
     let l = c.loop-step in
-    omega (arith, words_length (vertex a.outer) (vertex a.inner) (outer_next a.outer.count a.inner.count) a.positive (a.outer.count + a.inner.count - l.step) l.walk.strip.a l.walk.strip.b)
+    omega (arith, words_length (vertex a.outer) (vertex a.inner) (outer_next a.outer.count a.inner.count) a.positive (a.outer.count + a.inner.count - l._step) l.walk.strip.a l.walk.strip.b)
 
 pub loop-step-preserved : goal.loop-step-preserved
 loop-step-preserved c =
@@ -39,7 +39,7 @@ loop-step-preserved c =
       on.stands,
       omega (arith, step_sum (next s.a s.b) s.a s.b),
       left_step c.put_triangle-to.ensures
-          (words_more (vertex a.outer) (vertex a.inner) next a.positive (a.outer.count + a.inner.count - l.step) s.a s.b _ (a.outer.count + a.inner.count - (l.step + 1)) _ _ (omega arith) (omega arith) on.triangle on.a on.b) l.invariant.2,
+          (words_more (vertex a.outer) (vertex a.inner) next a.positive (a.outer.count + a.inner.count - l._step) s.a s.b _ (a.outer.count + a.inner.count - (l._step + 1)) _ _ (omega arith) (omega arith) on.triangle on.a on.b) l.invariant.2,
     )
 
 pub returns : goal.returns
@@ -47,5 +47,5 @@ unfolding indices
 returns c =
     let a = c.args in
     let l = c.loop-step in
-    left_none (rw (steps_none (vertex a.outer) (vertex a.inner) (outer_next a.outer.count a.inner.count) (a.outer.count + a.inner.count - l.step) l.walk.strip.a
+    left_none (rw (steps_none (vertex a.outer) (vertex a.inner) (outer_next a.outer.count a.inner.count) (a.outer.count + a.inner.count - l._step) l.walk.strip.a
     l.walk.strip.b (omega arith))) l.invariant.2
