@@ -13,7 +13,7 @@ abbrev pub level_at : List Float → ℕ → Float
 level_at xs k = get_or xs k nan
 
 -- six levels in the order of a job record: four outer, two inner
-abbrev pub levels_in : List Float → Levels
+abbrev pub levels_in : List Float → Levels Float
 levels_in xs = record {
   outer0 = level_at xs 0;
   outer1 = level_at xs 1;

@@ -2,7 +2,7 @@
 ghost use Rattle.std.specs.Prelude.{◌≡◌, ◌≤◌, length};
 ghost use Rattle.call_inputs.specs.Inputs.{top_in, patch_in};
 
-use job_fields::setting::Kind;
+use job_fields::setting::{Kind, SettingByte};
 use patch::kinds::Patch;
 
 // Returns the top level, good or bad.
@@ -16,7 +16,7 @@ pub fn top_in(settings: &[u8]) -> u32
 pub fn patch_in(settings: &[u8; 6], levels: &[f32; 6]) -> Patch
     ensures { result ≡ patch_in settings.now levels.now }
 {
-    let kind = job_fields::setting::kind_of(settings[0]);
+    let kind = Kind::of_byte(settings[0]);
     match kind {
         Kind::Triangles => Patch::Triangles {
             outer0: levels[0],

@@ -1,5 +1,5 @@
 // Where reading continues.
-#[derive(Clone, Copy, Drop)]
+#[derive(Clone, Copy, Debug, PartialEq, Eq, Drop)]
 pub struct Cursor {
     pub at: usize,
 }

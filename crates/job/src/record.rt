@@ -2,7 +2,7 @@
 ghost use Rattle.std.specs.Prelude.{◌≡◌};
 ghost use Rattle.job.specs.Patches.{patch_of};
 
-use job_fields::levels::{LevelBits, Levels};
+use job_fields::levels::Levels;
 use job_fields::setting::Kind;
 use patch::kinds::Patch;
 use patch::settings::Settings;
@@ -11,9 +11,9 @@ use patch::settings::Settings;
 pub struct Record {
     pub kind: Kind,
     pub settings: Settings,
-    pub levels: Levels,
+    pub levels: Levels<f32>,
     // The bit patterns that the levels were read from.
-    pub bits: LevelBits,
+    pub bits: Levels<u32>,
 }
 
 // Returns the patch, with the levels that count for its kind.

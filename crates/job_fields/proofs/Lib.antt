@@ -1,5 +1,4 @@
 -- The laws of `job_fields`.
-pub mod Tables
 pub mod Words
 pub mod Limits
 pub mod Tops

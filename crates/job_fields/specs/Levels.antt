@@ -1,13 +1,12 @@
 -- The six levels of a record: four outer, two inner. Assumes nothing.
-use Rattle.std.specs.Prelude.{ℕ, ◌+◌, List}
+use Rattle.std.specs.Prelude.{ℕ, ◌+◌, List, Float}
 use Rattle.std.specs.Float.{binary32}
 use Rattle.std.specs.Float.Ieee.{of_bits}
 use Rattle.job_fields.specs.Bytes.{word}
-use Rattle.job_fields.specs.declared.levels.LevelBits.{LevelBits}
 use Rattle.job_fields.specs.declared.levels.Levels.{Levels}
 
 -- the bit patterns of the six levels from place `at` on, four bytes each
-abbrev pub bits_at : List ℕ → ℕ → LevelBits
+abbrev pub bits_at : List ℕ → ℕ → Levels ℕ
 bits_at bs at = record {
   outer0 = word 4 bs at;
   outer1 = word 4 bs (at + 4);
@@ -18,7 +17,7 @@ bits_at bs at = record {
 }
 
 -- the f32 levels with these bit patterns
-abbrev pub levels_of : LevelBits → Levels
+abbrev pub levels_of : Levels ℕ → Levels Float
 levels_of bits = record {
   outer0 = of_bits binary32 bits.outer0;
   outer1 = of_bits binary32 bits.outer1;

@@ -61,6 +61,29 @@ abbrev pub point_mode_of : ℕ → Bool
 point_mode_of zero = false
 point_mode_of (suc b) = true
 
+-- the byte of each value, which reads back as that value
+abbrev pub kind_byte : Kind → ℕ
+kind_byte Triangles = 0
+kind_byte Quads = 1
+kind_byte Isolines = 2
+
+abbrev pub spacing_byte : Spacing → ℕ
+spacing_byte Equal = 0
+spacing_byte FractionalEven = 1
+spacing_byte FractionalOdd = 2
+
+abbrev pub order_byte : VertexOrder → ℕ
+order_byte Clockwise = 0
+order_byte CounterClockwise = 1
+
+abbrev pub origin_byte : DomainOrigin → ℕ
+origin_byte UpperLeft = 0
+origin_byte LowerLeft = 1
+
+abbrev pub switch_byte : Bool → ℕ
+switch_byte false = 0
+switch_byte true = 1
+
 -- the settings of the record at `at`, with a given top level
 abbrev pub settings_at : List ℕ → ℕ → ℕ → Settings
 settings_at bs at top = record {

@@ -5,32 +5,22 @@ ghost use Rattle.job_fields.specs.Levels.{bits_at, levels_of};
 use crate::word::read_u32;
 use level::level_of_bits;
 
-// The bit patterns; they keep the payload of a NaN.
+// Four outer levels and two inner ones: as f32, or as their bit patterns, which keep the payload of a NaN.
 #[derive(Clone, Copy, Drop)]
-pub struct LevelBits {
-    pub outer0: u32,
-    pub outer1: u32,
-    pub outer2: u32,
-    pub outer3: u32,
-    pub inner0: u32,
-    pub inner1: u32,
+pub struct Levels<T> {
+    pub outer0: T,
+    pub outer1: T,
+    pub outer2: T,
+    pub outer3: T,
+    pub inner0: T,
+    pub inner1: T,
 }
 
-#[derive(Clone, Copy, Drop)]
-pub struct Levels {
-    pub outer0: f32,
-    pub outer1: f32,
-    pub outer2: f32,
-    pub outer3: f32,
-    pub inner0: f32,
-    pub inner1: f32,
-}
-
-pub fn read_bits(bytes: &[u8], at: usize) -> LevelBits
+pub fn read_bits(bytes: &[u8], at: usize) -> Levels<u32>
     requires { at + 24 ≤ length bytes.now }
     ensures { result ≡ bits_at bytes.now at }
 {
-    LevelBits {
+    Levels {
         outer0: read_u32(bytes, at),
         outer1: read_u32(bytes, at + 4),
         outer2: read_u32(bytes, at + 8),
@@ -41,7 +31,7 @@ pub fn read_bits(bytes: &[u8], at: usize) -> LevelBits
 }
 
 // Returns the f32 levels with these bit patterns.
-pub fn levels_of(bits: LevelBits) -> Levels
+pub fn levels_of(bits: Levels<u32>) -> Levels<f32>
     ensures { result ≡ levels_of bits }
 {
     Levels {

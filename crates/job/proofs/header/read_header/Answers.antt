@@ -1,9 +1,8 @@
 use Prim.Native.Nat.{◌≤◌}
-use native.Mathlib.Omega.{arith}
 use mathlib.Core.Path.{◌≡◌, sym, ◌∙◌}
 use mathlib.Core.Bool.{true}
 use lib.ListN.{length}
-use Rattle.job_fields.specs.declared.version.Version.TheVariants.{One, Two}
+use Rattle.std.proofs.lemmas.Result.{err_from_is_err_and}
 use Rattle.job.specs.Header.{job_mark, starts_with}
 use Rattle.job.proofs.Marks.{has_mark}
 use Rattle.job.proofs.Headers.{header_read, header_lacks, header_version, header_right}
@@ -17,13 +16,15 @@ found c = has_mark job_mark _ (sym c.lacks_mark.ensures ∙ c.if-lacks_mark.fals
 pub returns-then-lacks_mark : goal.returns-then-lacks_mark
 returns-then-lacks_mark c = header_read _ (header_lacks _ (sym c.lacks_mark.ensures ∙ c.if-lacks_mark.true))
 
-pub returns-in-1 : goal.returns-in-1
-returns-in-1 c = let f = found (goal.at.returns-in-1 c).Else-lacks_mark in header_read _ (header_right _ f.0 f.1 One (sym c.read_version.ensures ∙ c.in-1.is))
+pub returns-in_err-version : goal.returns-in_err-version
+returns-in_err-version c =
+    let f = found (goal.at.returns-in_err-version c).Else-lacks_mark in
+    let n = c.from-number.ensures ∙ c.read_version.ensures in
+    let unknown = c.in_err-version.ensures in
+    let p = err_from_is_err_and c.from_residual.result c.from_residual.ensures.1 in
+    header_read _ (header_version _ f.0 f.1 (λ e. unknown.0 (n ∙ e)) (λ e. unknown.1 (n ∙ e)) ∙ rw (p.1, p.2))
 
-pub returns-in-2 : goal.returns-in-2
-returns-in-2 c = let f = found (goal.at.returns-in-2 c).Else-lacks_mark in header_read _ (header_right _ f.0 f.1 Two (sym c.read_version.ensures ∙ c.in-2.is))
-
-pub returns-in_default : goal.returns-in_default
-returns-in_default c =
-    let f = found (goal.at.returns-in_default c).Else-lacks_mark in
-    header_read _ (header_version _ f.0 f.1 (λ e. omega arith) (λ e. omega arith))
+pub returns : goal.returns
+returns c =
+    let f = found (goal.at.returns c).Else-lacks_mark in
+    header_read _ (header_right _ f.0 f.1 c.in_ok-version.version (sym (c.from-number.ensures ∙ c.read_version.ensures) ∙ c.in_ok-version.ensures))

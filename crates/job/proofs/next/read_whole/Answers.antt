@@ -9,5 +9,5 @@ returns c = rw (
   c.setting_bytes.ensures,
   c.read_settings-settings.ensures,
   c.read_top-top.ensures,
-  c.kind_of-kind.ensures,
+  c.of_byte-kind.ensures,
 )

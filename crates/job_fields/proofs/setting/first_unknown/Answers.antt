@@ -8,10 +8,7 @@ pub returns-then-place-bytes : goal.returns-then-place-bytes
 returns-then-place-bytes c =
     sym
     ((first_is choices _ _ _).1
-    record { within = c.loop-place-test.true; over = c.if-place-bytes.true; below = c.loop-place.invariant.1 }).0
+    record { within = omega arith; over = c.if-place-bytes.true; below = c.loop-place.invariant }).0
 
 pub returns : goal.returns
-returns c =
-    let bytes = c.args.bytes.now in
-    let at = c.args.at in
-    omega (arith, first_all choices bytes at (λ k l. c.loop-place.invariant.1 k (omega (arith, c.loop-place-test.false))))
+returns c = sym (first_all choices c.args.bytes.now c.args.at (λ k l. c.loop-place.invariant k (omega arith)))
