@@ -10,8 +10,8 @@ use strip::triangle::Triangle;
 
 // Writes the two triangles of the cell with the corners p, p + 1 on one row and q, q + 1 on the next.
 fn write_cell(out: &mut [u16], at: usize, p: u32, q: u32, positive: bool) -> usize
-    requires fact_1 { (p < 65535) × (q < 65535) }
-    requires fact_2 { at + 6 ≤ length out.old }
+    requires small { (p < 65535) × (q < 65535) }
+    requires room { at + 6 ≤ length out.old }
     ensures { Wrote out.old at (cell_words positive p q) out.new result }
 {
     let lower = Triangle {
@@ -30,44 +30,36 @@ fn write_cell(out: &mut [u16], at: usize, p: u32, q: u32, positive: bool) -> usi
 
 // Writes a row of cells, from vertex `first` on.
 fn write_row(out: &mut [u16], at: usize, first: u32, width: u32, b: u32, positive: bool) -> usize
-    requires fact_1 { first + width + b < 65535 }
-    requires fact_2 { at + 6 * b ≤ length out.old }
+    requires small { first + width + b < 65535 }
+    requires room { at + 6 * b ≤ length out.old }
     ensures { Wrote out.old at (row_words positive first width b) out.new result }
 {
     let mut to = at;
-    let mut c = 0u32;
-    while c < b {
+    for c in 0..b {
         let p = first + c;
         to = write_cell(out, to, p, p + width, positive);
-        c += 1;
     }
     to
 }
 
 // Writes all cells, row by row.
 fn write_each(out: &mut [u16], at: usize, grid: Grid, positive: bool) -> usize
-    requires fact_1 { GridFits grid }
-    requires fact_2 { at + 6 * (grid.a * grid.b) ≤ length out.old }
+    requires fits { GridFits grid }
+    requires room { at + 6 * (grid.a * grid.b) ≤ length out.old }
     ensures { Wrote out.old at (indices positive (cells (grid_at grid.start grid.width) grid.a grid.b)) out.new result }
 {
-    let width = grid.width;
-    let a = grid.a;
-    let b = grid.b;
-    let mut first = grid.start;
     let mut to = at;
-    let mut r = 0u32;
-    while r < a {
-        to = write_row(out, to, first, width, b, positive);
-        first += width;
-        r += 1;
+    for r in 0..grid.a {
+        let first = grid.start + r * grid.width;
+        to = write_row(out, to, first, grid.width, grid.b, positive);
     }
     to
 }
 
 // Writes all cells. Each row is the first row, shifted by the row's number times `width`; copying does not pay for fewer than ten cells.
 pub fn write_cells(out: &mut [u16], at: usize, grid: Grid, positive: bool) -> usize
-    requires fact_1 { GridFits grid }
-    requires fact_2 { at + 6 * (grid.a * grid.b) ≤ length out.old }
+    requires fits { GridFits grid }
+    requires room { at + 6 * (grid.a * grid.b) ≤ length out.old }
     ensures { Wrote out.old at (indices positive (cells (grid_at grid.start grid.width) grid.a grid.b)) out.new result }
 {
     let start = grid.start;

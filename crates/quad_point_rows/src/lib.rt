@@ -15,25 +15,23 @@ use vertices::place::quad_place;
 
 // Writes the points of edge k of the outline, one per place.
 fn write_edge(out: &mut [u32], at: usize, row: &[u32], k: u32) -> usize
-    requires fact_1 { k < 4 }
-    requires fact_2 { ClearOfEnds 0 (listed row.now) }
-    requires fact_3 { at + 3 * length row.now ≤ length out.old }
+    requires edge { k < 4 }
+    requires clear { ClearOfEnds 0 (listed row.now) }
+    requires room { at + 3 * length row.now ≤ length out.old }
     ensures { Wrote out.old at (vertex_words (edge_points quad_place k (listed row.now) 0)) out.new result }
 {
     let mut to = at;
-    let mut i = 0usize;
-    while i < row.len() {
-        let p = quad_place(k, row[i]);
+    for x in row {
+        let p = quad_place(k, *x);
         to = buffer::put3(out, to, p.u, p.v, p.w);
-        i += 1;
     }
     to
 }
 
 // Writes the edges of the outline from rows without their ends.
 fn write_edges(out: &mut [u32], at: usize, e0: &[u32], e1: &[u32], e2: &[u32], e3: &[u32]) -> usize
-    requires fact_1 { ClearOfEnds 0 (listed e0.now) × ClearOfEnds 0 (listed e1.now) × ClearOfEnds 0 (listed e2.now) × ClearOfEnds 0 (listed e3.now) }
-    requires fact_2 { at + 3 * length (ring quad_place 0 (listed e0.now ∷ listed e1.now ∷ listed e2.now ∷ listed e3.now ∷ []) 0) ≤ length out.old }
+    requires clear { ClearOfEnds 0 (listed e0.now) × ClearOfEnds 0 (listed e1.now) × ClearOfEnds 0 (listed e2.now) × ClearOfEnds 0 (listed e3.now) }
+    requires room { at + 3 * length (ring quad_place 0 (listed e0.now ∷ listed e1.now ∷ listed e2.now ∷ listed e3.now ∷ []) 0) ≤ length out.old }
     ensures { Wrote out.old at (vertex_words (ring quad_place 0 (listed e0.now ∷ listed e1.now ∷ listed
         e2.now ∷ listed e3.now ∷ []) 0)) out.new result }
 {
@@ -52,8 +50,8 @@ pub fn write_outline(
     e2: &[u32],
     e3: &[u32],
 ) -> usize
-    requires fact_1 { GoodRow e0.now × GoodRow e1.now × GoodRow e2.now × GoodRow e3.now }
-    requires fact_2 { at + 3 * length (quad_outline (whole_edge e0.now) (whole_edge e1.now) (whole_edge e2.now) (whole_edge e3.now)) ≤ length out.old }
+    requires rows { GoodRow e0.now × GoodRow e1.now × GoodRow e2.now × GoodRow e3.now }
+    requires room { at + 3 * length (quad_outline (whole_edge e0.now) (whole_edge e1.now) (whole_edge e2.now) (whole_edge e3.now)) ≤ length out.old }
     ensures { Wrote out.old at (vertex_words (quad_outline (whole_edge e0.now) (whole_edge e1.now)
         (whole_edge e2.now) (whole_edge e3.now))) out.new result }
 {
@@ -66,8 +64,8 @@ pub fn write_outline(
 
 // Writes the inner grid.
 pub fn write_inside(out: &mut [u32], at: usize, rows: &[u32], columns: &[u32]) -> usize
-    requires fact_1 { GoodRow rows.now × GoodRow columns.now }
-    requires fact_2 { at + 3 * length (quad_inside (whole_edge rows.now) (whole_edge columns.now)) ≤ length out.old }
+    requires rows { GoodRow rows.now × GoodRow columns.now }
+    requires room { at + 3 * length (quad_inside (whole_edge rows.now) (whole_edge columns.now)) ≤ length out.old }
     ensures { Wrote out.old at (vertex_words (quad_inside (whole_edge rows.now) (whole_edge columns.now))) out.new result }
 {
     let m = rows.len() - 1;
@@ -77,8 +75,8 @@ pub fn write_inside(out: &mut [u32], at: usize, rows: &[u32], columns: &[u32]) -
 
 // The same point by point, which is faster for a small grid.
 pub fn write_small_inside(out: &mut [u32], at: usize, rows: &[u32], columns: &[u32]) -> usize
-    requires fact_1 { GoodRow rows.now × GoodRow columns.now }
-    requires fact_2 { at + 3 * length (quad_inside (whole_edge rows.now) (whole_edge columns.now)) ≤ length out.old }
+    requires rows { GoodRow rows.now × GoodRow columns.now }
+    requires room { at + 3 * length (quad_inside (whole_edge rows.now) (whole_edge columns.now)) ≤ length out.old }
     ensures { Wrote out.old at (vertex_words (quad_inside (whole_edge rows.now) (whole_edge columns.now))) out.new result }
 {
     let m = rows.len() - 1;

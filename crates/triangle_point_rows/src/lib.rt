@@ -16,25 +16,23 @@ use vertices::place::triangle_place;
 
 // Writes edge k of the ring `depth` units inside, a point for each place; `high` is 196608 - depth.
 fn write_edge(out: &mut [u32], at: usize, row: &[u32], depth: u32, high: u32, k: u32) -> usize
-    requires fact_1 { (k < 3) × (high + depth ≡ 196608) }
-    requires fact_2 { ClearOfEnds depth (listed row.now) }
-    requires fact_3 { at + 3 * length row.now ≤ length out.old }
+    requires edge { (k < 3) × (high + depth ≡ 196608) }
+    requires clear { ClearOfEnds depth (listed row.now) }
+    requires room { at + 3 * length row.now ≤ length out.old }
     ensures { Wrote out.old at (vertex_words (edge_points triangle_place k (listed row.now) depth)) out.new result }
 {
     let mut to = at;
-    let mut i = 0usize;
-    while i < row.len() {
-        let p = triangle_place(k, row[i], depth, high);
+    for x in row {
+        let p = triangle_place(k, *x, depth, high);
         to = buffer::put3(out, to, p.u, p.v, p.w);
-        i += 1;
     }
     to
 }
 
 // Writes the edges of the outline, from rows without their ends.
 fn write_edges(out: &mut [u32], at: usize, e0: &[u32], e1: &[u32], e2: &[u32]) -> usize
-    requires fact_1 { ClearOfEnds 0 (listed e0.now) × ClearOfEnds 0 (listed e1.now) × ClearOfEnds 0 (listed e2.now) }
-    requires fact_2 { at + 3 * length (ring triangle_place 0 (listed e0.now ∷ listed e1.now ∷ listed e2.now ∷ []) 0) ≤ length out.old }
+    requires clear { ClearOfEnds 0 (listed e0.now) × ClearOfEnds 0 (listed e1.now) × ClearOfEnds 0 (listed e2.now) }
+    requires room { at + 3 * length (ring triangle_place 0 (listed e0.now ∷ listed e1.now ∷ listed e2.now ∷ []) 0) ≤ length out.old }
     ensures { Wrote out.old at (vertex_words (ring triangle_place 0 (listed e0.now ∷ listed e1.now ∷ listed e2.now ∷ []) 0)) out.new result }
 {
     let w = write_edge(out, at, e0, 0, 196608, 0);
@@ -44,9 +42,9 @@ fn write_edges(out: &mut [u32], at: usize, e0: &[u32], e1: &[u32], e2: &[u32]) -
 
 // Writes an inner ring; each edge is without its end, and the first place is the ring's depth.
 fn write_ring(out: &mut [u32], at: usize, row: &[u32]) -> usize
-    requires fact_1 { 0 < length row.now }
-    requires fact_2 { ClearOfEnds (place_in row.now 0) (listed row.now) }
-    requires fact_3 { at + 3 * length (ring_points row.now) ≤ length out.old }
+    requires some { 0 < length row.now }
+    requires clear { ClearOfEnds (place_in row.now 0) (listed row.now) }
+    requires room { at + 3 * length (ring_points row.now) ≤ length out.old }
     ensures { Wrote out.old at (vertex_words (ring_points row.now)) out.new result }
 {
     let depth = row[0];
@@ -59,8 +57,8 @@ fn write_ring(out: &mut [u32], at: usize, row: &[u32]) -> usize
 // Writes a ring and all rings inside it. The next ring has the same places without the first and the last; the innermost ring has three
 // points, or is the centre.
 fn write_rings(out: &mut [u32], at: usize, row: &[u32]) -> usize
-    requires fact_1 { Inward row.now }
-    requires fact_2 { at + 3 * length (rings_of row.now) ≤ length out.old }
+    requires inward { Inward row.now }
+    requires room { at + 3 * length (rings_of row.now) ≤ length out.old }
     ensures { Wrote out.old at (vertex_words (rings_of row.now)) out.new result }
 {
     let mut to = at;
@@ -76,19 +74,6 @@ fn write_rings(out: &mut [u32], at: usize, row: &[u32]) -> usize
     write_ring(out, to, &inner[0..1])
 }
 
-fn sum(x: u32, y: u32) -> u32
-    ensures { result ≡ (x + y) % 4294967296 }
-{
-    ((x as u64 + y as u64) % 4294967296) as u32
-}
-
-// Returns -x modulo 2^32.
-fn negative(x: u32) -> u32
-    ensures { result ≡ (4294967296 - x) % 4294967296 }
-{
-    ((4294967296 - x as u64) % 4294967296) as u32
-}
-
 // Returns eight points of `base`, three words each, plus p, q and r.
 fn eight(base: &[u32], from: usize, p: u32, q: u32, r: u32) -> [u32; 24]
     requires { from + 24 ≤ length base.now }
@@ -96,14 +81,12 @@ fn eight(base: &[u32], from: usize, p: u32, q: u32, r: u32) -> [u32; 24]
 {
     let mut words = [0u32; 24];
     let mut to = 0usize;
-    let mut i = 0usize;
-    while i < 8 {
+    for i in 0..8 {
         let j = from + 3 * i;
-        let u = sum(base[j], p);
-        let v = sum(base[j + 1], q);
-        let w = sum(base[j + 2], r);
+        let u = base[j].wrapping_add(p);
+        let v = base[j + 1].wrapping_add(q);
+        let w = base[j + 2].wrapping_add(r);
         to = buffer::put3(&mut words, to, u, v, w);
-        i += 1;
     }
     words
 }
@@ -117,8 +100,8 @@ fn write_eight(
     q: u32,
     r: u32,
 ) -> usize
-    requires fact_1 { from + 24 ≤ length base.now }
-    requires fact_2 { at + 24 ≤ length out.old }
+    requires source { from + 24 ≤ length base.now }
+    requires room { at + 24 ≤ length out.old }
     ensures { Wrote out.old at (flat (sums base.now from p q r) 0 8) out.new result }
 {
     let words = eight(base, from, p, q, r);
@@ -135,15 +118,13 @@ fn write_eights(
     q: u32,
     r: u32,
 ) -> usize
-    requires fact_1 { from + 24 * k ≤ length base.now }
-    requires fact_2 { at + 24 * k ≤ length out.old }
+    requires source { from + 24 * k ≤ length base.now }
+    requires room { at + 24 * k ≤ length out.old }
     ensures { Wrote out.old at (flat (sums base.now from p q r) 0 (8 * k)) out.new result }
 {
     let mut to = at;
-    let mut i = 0usize;
-    while i < k {
+    for i in 0..k {
         to = write_eight(out, to, base, from + 24 * i, p, q, r);
-        i += 1;
     }
     to
 }
@@ -160,8 +141,8 @@ fn write_run(
     q: u32,
     r: u32,
 ) -> usize
-    requires fact_1 { (8 ≤ n) × (from + 3 * n ≤ length base.now) }
-    requires fact_2 { at + 3 * n ≤ length out.old }
+    requires source { (8 ≤ n) × (from + 3 * n ≤ length base.now) }
+    requires room { at + 3 * n ≤ length out.old }
     ensures { Wrote out.old at (flat (sums base.now from p q r) 0 n) out.new result }
 {
     let k = (n - 1) / 8;
@@ -180,15 +161,15 @@ fn write_wide_ring(
     from: usize,
     row: &[u32],
 ) -> usize
-    requires fact_1 { 9 ≤ length row.now }
-    requires fact_2 { Laid base.now other.now from row.now }
-    requires fact_3 { ClearOfEnds (place_in (take (length row.now - 1) row.now) 0) (listed (take (length row.now - 1) row.now)) }
-    requires fact_4 { at + 3 * length (ring_points (take (length row.now - 1) row.now)) ≤ length out.old }
+    requires long { 9 ≤ length row.now }
+    requires laid { Laid base.now other.now from row.now }
+    requires clear { ClearOfEnds (place_in (take (length row.now - 1) row.now) 0) (listed (take (length row.now - 1) row.now)) }
+    requires room { at + 3 * length (ring_points (take (length row.now - 1) row.now)) ≤ length out.old }
     ensures { Wrote out.old at (vertex_words (ring_points (take (length row.now - 1) row.now))) out.new result }
 {
     let n = row.len() - 1;
     let d = row[0];
-    let less = negative(d);
+    let less = d.wrapping_neg();
     let more = 2 * d;
     let w = write_run(out, at, base, from, n, more, less, less);
     let w = write_run(out, w, other, from, n, less, more, less);
@@ -197,9 +178,9 @@ fn write_wide_ring(
 
 // Writes the same rings as `write_rings`; where edges have eight segments or more, eight points at a time.
 fn write_laid_rings(out: &mut [u32], at: usize, base: &[u32], other: &[u32], row: &[u32]) -> usize
-    requires fact_1 { Inward row.now }
-    requires fact_2 { Laid base.now other.now 0 row.now }
-    requires fact_3 { at + 3 * length (rings_of row.now) ≤ length out.old }
+    requires inward { Inward row.now }
+    requires laid { Laid base.now other.now 0 row.now }
+    requires room { at + 3 * length (rings_of row.now) ≤ length out.old }
     ensures { Wrote out.old at (vertex_words (rings_of row.now)) out.new result }
 {
     let mut to = at;
@@ -215,8 +196,8 @@ fn write_laid_rings(out: &mut [u32], at: usize, base: &[u32], other: &[u32], row
 }
 
 fn write_wide_rings(out: &mut [u32], at: usize, row: &[u32]) -> usize
-    requires fact_1 { Inward row.now × (length row.now ≤ 65) }
-    requires fact_2 { at + 3 * length (rings_of row.now) ≤ length out.old }
+    requires inward { Inward row.now × (length row.now ≤ 65) }
+    requires room { at + 3 * length (rings_of row.now) ≤ length out.old }
     ensures { Wrote out.old at (vertex_words (rings_of row.now)) out.new result }
 {
     let mut base = [0u32; 195];
@@ -231,19 +212,17 @@ fn write_all_rings(out: &mut [u32], at: usize, row: &[u32]) -> usize
     requires { (Inward row.now) × (at + 3 * length (rings_of row.now) ≤ length out.old) }
     ensures { Wrote out.old at (vertex_words (rings_of row.now)) out.new result }
 {
-    if row.len() < 16 {
-        return write_rings(out, at, row);
+    if row.len() < 16 || 65 < row.len() {
+        write_rings(out, at, row)
+    } else {
+        write_wide_rings(out, at, row)
     }
-    if 65 < row.len() {
-        return write_rings(out, at, row);
-    }
-    write_wide_rings(out, at, row)
 }
 
 // Writes the outline; each row has the places of an edge, its end included.
 pub fn write_outline(out: &mut [u32], at: usize, e0: &[u32], e1: &[u32], e2: &[u32]) -> usize
-    requires fact_1 { GoodRow e0.now × GoodRow e1.now × GoodRow e2.now }
-    requires fact_2 { at + 3 * length (triangle_outline (whole_edge e0.now) (whole_edge e1.now) (whole_edge e2.now)) ≤ length out.old }
+    requires rows { GoodRow e0.now × GoodRow e1.now × GoodRow e2.now }
+    requires room { at + 3 * length (triangle_outline (whole_edge e0.now) (whole_edge e1.now) (whole_edge e2.now)) ≤ length out.old }
     ensures { Wrote out.old at (vertex_words (triangle_outline (whole_edge e0.now) (whole_edge e1.now) (whole_edge e2.now))) out.new result }
 {
     let n0 = e0.len() - 1;
@@ -254,8 +233,8 @@ pub fn write_outline(out: &mut [u32], at: usize, e0: &[u32], e1: &[u32], e2: &[u
 
 // The rings inside the outline, or the centre.
 pub fn write_inside(out: &mut [u32], at: usize, row: &[u32]) -> usize
-    requires fact_1 { GoodRow row.now × (3 ≤ length row.now) }
-    requires fact_2 { at + 3 * length (triangle_inside (whole_edge row.now)) ≤ length out.old }
+    requires good { GoodRow row.now × (3 ≤ length row.now) }
+    requires room { at + 3 * length (triangle_inside (whole_edge row.now)) ≤ length out.old }
     ensures { Wrote out.old at (vertex_words (triangle_inside (whole_edge row.now))) out.new result }
 {
     let n = row.len() - 1;
@@ -264,8 +243,8 @@ pub fn write_inside(out: &mut [u32], at: usize, row: &[u32]) -> usize
 
 // The same point by point, which is faster for small rings.
 pub fn write_small_inside(out: &mut [u32], at: usize, row: &[u32]) -> usize
-    requires fact_1 { GoodRow row.now × (3 ≤ length row.now) }
-    requires fact_2 { at + 3 * length (triangle_inside (whole_edge row.now)) ≤ length out.old }
+    requires good { GoodRow row.now × (3 ≤ length row.now) }
+    requires room { at + 3 * length (triangle_inside (whole_edge row.now)) ≤ length out.old }
     ensures { Wrote out.old at (vertex_words (triangle_inside (whole_edge row.now))) out.new result }
 {
     let n = row.len() - 1;

@@ -10,10 +10,8 @@ fn write_row(out: &mut [u32], at: usize, columns: &[u32], v: u32) -> usize
     ensures { Wrote out.old at (vertex_words (row_points columns.now v)) out.new result }
 {
     let mut to = at;
-    let mut c = 0usize;
-    while c < columns.len() {
-        to = buffer::put3(out, to, columns[c], v, 0);
-        c += 1;
+    for u in columns {
+        to = buffer::put3(out, to, *u, v, 0);
     }
     to
 }
@@ -23,10 +21,8 @@ fn raise(row: &mut [u32], n: usize, v: u32)
     requires { 3 * n ≤ length row.old }
     ensures { row.new ≡ with_second v (take (3 * n) row.old) ++ drop (3 * n) row.old }
 {
-    let mut i = 0usize;
-    while i < n {
+    for i in 0..n {
         row[3 * i + 1] = v;
-        i += 1;
     }
 }
 
@@ -36,18 +32,16 @@ pub fn write_each(out: &mut [u32], at: usize, rows: &[u32], columns: &[u32]) -> 
     ensures { Wrote out.old at (vertex_words (grid_points rows.now columns.now)) out.new result }
 {
     let mut to = at;
-    let mut r = 0usize;
-    while r < rows.len() {
-        to = write_row(out, to, columns, rows[r]);
-        r += 1;
+    for v in rows {
+        to = write_row(out, to, columns, *v);
     }
     to
 }
 
 // The same from one row, of which only the heights change.
 fn write_raised(out: &mut [u32], at: usize, rows: &[u32], columns: &[u32]) -> usize
-    requires fact_1 { length columns.now ≤ 65 }
-    requires fact_2 { at + 3 * (length rows.now * length columns.now) ≤ length out.old }
+    requires short { length columns.now ≤ 65 }
+    requires room { at + 3 * (length rows.now * length columns.now) ≤ length out.old }
     ensures { Wrote out.old at (vertex_words (grid_points rows.now columns.now)) out.new result }
 {
     let n = columns.len();
@@ -55,11 +49,9 @@ fn write_raised(out: &mut [u32], at: usize, rows: &[u32], columns: &[u32]) -> us
     let mut row = [0u32; 195];
     write_row(&mut row, 0, columns, 0);
     let mut to = at;
-    let mut r = 0usize;
-    while r < rows.len() {
-        raise(&mut row, n, rows[r]);
-        to = buffer::put_all(out, to, &row[0..words]);
-        r += 1;
+    for v in rows {
+        raise(&mut row, n, *v);
+        to = buffer::put_all(out, to, &row[..words]);
     }
     to
 }
@@ -70,14 +62,9 @@ pub fn write_grid(out: &mut [u32], at: usize, rows: &[u32], columns: &[u32]) -> 
     ensures { Wrote out.old at (vertex_words (grid_points rows.now columns.now)) out.new result }
 {
     let n = columns.len();
-    if n < 16 {
-        return write_each(out, at, rows, columns);
+    if n < 16 || 65 < n || rows.len() < 8 {
+        write_each(out, at, rows, columns)
+    } else {
+        write_raised(out, at, rows, columns)
     }
-    if 65 < n {
-        return write_each(out, at, rows, columns);
-    }
-    if rows.len() < 8 {
-        return write_each(out, at, rows, columns);
-    }
-    write_raised(out, at, rows, columns)
 }

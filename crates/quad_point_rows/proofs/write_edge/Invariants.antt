@@ -1,12 +1,8 @@
-use Prim.Native.Nat.{◌-◌}
 use lib.ListN.{length}
 use Rattle.mesh_geometry.specs.QuadPoints.{quad_place}
 use Rattle.vertices.specs.Rows.{place_in}
 use Rattle.vertices.proofs.Loops.{Points}
 use Rattle.quad_point_rows.proofs.write_edge.Given as goal
 
-abbrev pub invariant-loop-i : goal.invariant-loop-i
-invariant-loop-i l = Points (λ n. quad_place l.k (place_in l.row n) 0) l.i (length l.row) l.out l.to l.initial.out l.at
-
-abbrev pub decreases-loop-i : goal.decreases-loop-i
-decreases-loop-i l = length l.row - l.i
+abbrev pub invariant-loop-x : goal.invariant-loop-x
+invariant-loop-x l = Points (λ n. quad_place l.k (place_in l.row n) 0) l.x-index (length l.row) l.out l.to l.initial.out l.at

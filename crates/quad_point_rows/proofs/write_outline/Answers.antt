@@ -1,14 +1,14 @@
 use Rattle.quad_point_rows.proofs.Quads.{edges_ready, outline_written}
 use Rattle.quad_point_rows.proofs.write_outline.Goals as goal
 
-pub write_edges-requires-clause-fact_1 : goal.write_edges-requires-clause-fact_1
-write_edges-requires-clause-fact_1 c =
-    (edges_ready c.requires.fact_1 c.args.out.now c.args.at c.requires.fact_2).0
+pub write_edges-requires-clause-clear : goal.write_edges-requires-clause-clear
+write_edges-requires-clause-clear c =
+    (edges_ready c.requires.rows c.args.out.now c.args.at c.requires.room).0
 
-pub write_edges-requires-clause-fact_2 : goal.write_edges-requires-clause-fact_2
-write_edges-requires-clause-fact_2 c =
-    (edges_ready c.requires.fact_1 c.args.out.now c.args.at c.requires.fact_2).1
+pub write_edges-requires-clause-room : goal.write_edges-requires-clause-room
+write_edges-requires-clause-room c =
+    (edges_ready c.requires.rows c.args.out.now c.args.at c.requires.room).1
 
 pub returns : goal.returns
 returns c =
-    outline_written c.requires.fact_1 c.args.out.now c.args.at c.requires.fact_2 c.write_edges.ensures
+    outline_written c.requires.rows c.args.out.now c.args.at c.requires.room c.write_edges.ensures

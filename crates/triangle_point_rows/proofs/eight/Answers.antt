@@ -13,12 +13,7 @@ put3-to-requires c = count_room c.loop-i.invariant (omega arith) (λ j. refl)
 
 pub loop-i-preserved : goal.loop-i-preserved
 loop-i-preserved c =
-    count_step (omega arith) (rw (
-      ← c.sum-u.ensures,
-      ← c.sum-v.ensures,
-      ← c.sum-w.ensures,
-    ) c.put3-to.ensures)
-    c.loop-i.invariant
+    count_step (omega arith) c.put3-to.ensures c.loop-i.invariant
 
 pub returns : goal.returns
 returns c =

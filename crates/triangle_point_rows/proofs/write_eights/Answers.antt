@@ -9,8 +9,8 @@ loop-i-init c =
     let a = c.args in
     count_begin 24 (λ j. sums_size a.base.now (a.from + 24 * j) a.p a.q a.r 0 8) (omega arith)
 
-pub write_eight-to-requires-clause-fact_2 : goal.write_eight-to-requires-clause-fact_2
-write_eight-to-requires-clause-fact_2 c =
+pub write_eight-to-requires-clause-room : goal.write_eight-to-requires-clause-room
+write_eight-to-requires-clause-room c =
     let a = c.args in count_room c.loop-i.invariant (omega arith) (λ j. sums_size a.base.now (a.from + 24 * j) a.p a.q a.r 0 8)
 
 pub loop-i-preserved : goal.loop-i-preserved

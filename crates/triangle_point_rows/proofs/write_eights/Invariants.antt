@@ -6,6 +6,3 @@ use Rattle.triangle_point_rows.proofs.write_eights.Given as goal
 
 abbrev pub invariant-loop-i : goal.invariant-loop-i
 invariant-loop-i l = Counting (λ j. flat (sums l.base (l.from + 24 * j) l.p l.q l.r) 0 8) l.i l.k l.out l.to l.initial.out l.at
-
-abbrev pub decreases-loop-i : goal.decreases-loop-i
-decreases-loop-i l = l.k - l.i

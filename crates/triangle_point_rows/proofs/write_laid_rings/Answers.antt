@@ -11,18 +11,18 @@ use Rattle.triangle_point_rows.proofs.Wide.{laid_next}
 use Rattle.triangle_point_rows.proofs.write_laid_rings.Goals as goal
 
 pub loop-inner-init : goal.loop-inner-init
-loop-inner-init c = (c.requires.fact_1, c.requires.fact_2, left_all refl (omega (arith, words_length (rings_of c.args.row.now))))
+loop-inner-init c = (c.requires.inward, c.requires.laid, left_all refl (omega (arith, words_length (rings_of c.args.row.now))))
 
-pub write_wide_ring-to-requires-clause-fact_3 : goal.write_wide_ring-to-requires-clause-fact_3
-write_wide_ring-to-requires-clause-fact_3 c =
+pub write_wide_ring-to-requires-clause-clear : goal.write_wide_ring-to-requires-clause-clear
+write_wide_ring-to-requires-clause-clear c =
     let l = c.loop-inner in
     let inner = l.inner.now in
     let n = length inner - 1 in
     let fits = left_fits (vertex_words (ring_points (take n inner))) _ (ring_then inner n (omega arith) (omega arith) (omega arith)) l.invariant.2 in
     ring_clear inner n (omega arith) (omega arith) l.invariant.0
 
-pub write_wide_ring-to-requires-clause-fact_4 : goal.write_wide_ring-to-requires-clause-fact_4
-write_wide_ring-to-requires-clause-fact_4 c =
+pub write_wide_ring-to-requires-clause-room : goal.write_wide_ring-to-requires-clause-room
+write_wide_ring-to-requires-clause-room c =
     let l = c.loop-inner in
     let inner = l.inner.now in
     let n = length inner - 1 in
@@ -38,6 +38,6 @@ loop-inner-preserved c =
       left_step c.write_wide_ring-to.ensures (ring_then inner (length inner - 1) (omega arith) (omega arith) (omega arith)) l.invariant.2,
     )
 
-pub write_rings-requires-clause-fact_2 : goal.write_rings-requires-clause-fact_2
-write_rings-requires-clause-fact_2 c =
+pub write_rings-requires-clause-room : goal.write_rings-requires-clause-room
+write_rings-requires-clause-room c =
     let l = c.loop-inner in omega (arith, words_length (rings_of l.inner.now), l.invariant.2.place, l.invariant.2.room)

@@ -10,18 +10,18 @@ use Rattle.triangle_point_rows.proofs.Rings.{ring_then, ring_last, ring_clear, c
 use Rattle.triangle_point_rows.proofs.write_rings.Goals as goal
 
 pub loop-inner-init : goal.loop-inner-init
-loop-inner-init c = (c.requires.fact_1, left_all refl (omega (arith, words_length (rings_of c.args.row.now))))
+loop-inner-init c = (c.requires.inward, left_all refl (omega (arith, words_length (rings_of c.args.row.now))))
 
-pub write_ring-to-requires-clause-fact_2 : goal.write_ring-to-requires-clause-fact_2
-write_ring-to-requires-clause-fact_2 c =
+pub write_ring-to-requires-clause-clear : goal.write_ring-to-requires-clause-clear
+write_ring-to-requires-clause-clear c =
     let l = c.loop-inner in
     let inner = l.inner.now in
     let n = length inner - 1 - 0 in
     let ring = take n inner in
     let fits = left_fits (vertex_words (ring_points ring)) _ (ring_then inner n (omega arith) (omega arith) (omega arith)) l.invariant.1 in ring_clear inner n (omega arith) (omega arith) l.invariant.0
 
-pub write_ring-to-requires-clause-fact_3 : goal.write_ring-to-requires-clause-fact_3
-write_ring-to-requires-clause-fact_3 c =
+pub write_ring-to-requires-clause-room : goal.write_ring-to-requires-clause-room
+write_ring-to-requires-clause-room c =
     let l = c.loop-inner in
     let inner = l.inner.now in
     let n = length inner - 1 - 0 in
@@ -44,8 +44,8 @@ returns-then-inner-eq1 c =
     let l = c.loop-inner in
     left_last c.put3.ensures (centre_last l.inner.now (omega arith)) l.invariant.1
 
-pub write_ring-requires-clause-fact_3 : goal.write_ring-requires-clause-fact_3
-write_ring-requires-clause-fact_3 c =
+pub write_ring-requires-clause-room : goal.write_ring-requires-clause-room
+write_ring-requires-clause-room c =
     let l = c.loop-inner in
     let inner = l.inner.now in
     let last = ap length (ring_last inner 1 (omega arith) (omega arith) (omega arith)) in omega (arith, words_length (ring_points (take 1 inner)))

@@ -7,8 +7,8 @@ pub loop-c-init : goal.loop-c-init
 unfolding row_words
 loop-c-init c = search (cell_length, counting)
 
-pub write_cell-to-requires-clause-fact_2 : goal.write_cell-to-requires-clause-fact_2
-write_cell-to-requires-clause-fact_2 c = search (cell_length, counting)
+pub write_cell-to-requires-clause-room : goal.write_cell-to-requires-clause-room
+write_cell-to-requires-clause-room c = search (cell_length, counting)
 
 pub loop-c-preserved : goal.loop-c-preserved
 loop-c-preserved c = search counting

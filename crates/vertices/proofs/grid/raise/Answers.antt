@@ -9,13 +9,12 @@ use Rattle.vertices.proofs.grid.raise.Goals as goal
 pub loop-i-init : goal.loop-i-init
 unfolding with_second
 loop-i-init c =
-    (omega arith, refl, refl)
+    (refl, refl)
 
 pub loop-i-preserved : goal.loop-i-preserved
 loop-i-preserved c =
     let a = c.args in
     let l = c.loop-i in (
-      omega arith,
-      length-set l.row (3 * l.i + 1) a.v ∙ l.invariant.1,
-      ap (λ xs. set xs (3 * l.i + 1) a.v) l.invariant.2 ∙ raised_more a.v l.i a.row.now (omega arith),
+      length-set l.row (3 * l.i + 1) a.v ∙ l.invariant.0,
+      ap (λ xs. set xs (3 * l.i + 1) a.v) l.invariant.1 ∙ raised_more a.v l.i a.row.now (omega arith),
     )
