@@ -4,15 +4,13 @@ ghost use Rattle.buffer.specs.Over.{Wrote};
 ghost use Rattle.mesh_topology.specs.Lines.{dots};
 
 pub fn write_dots(out: &mut [u16], at: usize, p: u32) -> usize
-    requires fact_1 { p < 65536 }
-    requires fact_2 { at + p ≤ length out.old }
+    requires small { p < 65536 }
+    requires room { at + p ≤ length out.old }
     ensures { Wrote out.old at (dots p) out.new result }
 {
     let mut to = at;
-    let mut i = 0u32;
-    while i < p {
+    for i in 0..p {
         to = buffer::put(out, to, i as u16);
-        i += 1;
     }
     to
 }

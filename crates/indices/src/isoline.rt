@@ -6,24 +6,22 @@ ghost use Rattle.indices.specs.Isolines.{line_words};
 
 // Writes one isoline of n segments, from vertex `first` on.
 fn write_line(out: &mut [u16], at: usize, first: u32, n: u32) -> usize
-    requires fact_1 { first + n < 65536 }
-    requires fact_2 { at + 2 * n ≤ length out.old }
+    requires small { first + n < 65536 }
+    requires room { at + 2 * n ≤ length out.old }
     ensures { Wrote out.old at (line_words first n) out.new result }
 {
     let mut to = at;
-    let mut c = 0u32;
-    while c < n {
+    for c in 0..n {
         let x = first + c;
         to = buffer::put2(out, to, x as u16, (x + 1) as u16);
-        c += 1;
     }
     to
 }
 
 // Writes m isolines of n segments each. Each is the first one, shifted by the number of vertices before it.
 pub fn write_isolines(out: &mut [u16], at: usize, m: u32, n: u32) -> usize
-    requires fact_1 { (m ≤ 64) × (n ≤ 64) }
-    requires fact_2 { at + 2 * (m * n) ≤ length out.old }
+    requires sizes { (m ≤ 64) × (n ≤ 64) }
+    requires room { at + 2 * (m * n) ≤ length out.old }
     ensures { Wrote out.old at (isolines m n) out.new result }
 {
     if m == 0 {

@@ -28,8 +28,8 @@ fn write_plain_quad(out: &mut [u16], positive: bool) -> usize
 
 // Writes the triangles, in the orientation asked for, or the lines.
 fn write_primitives(out: &mut [u16], cut: Subdivision, positive: bool) -> usize
-    requires fact_1 { ValidCut cut }
-    requires fact_2 { length (primitives positive cut) ≤ length out.old }
+    requires valid { ValidCut cut }
+    requires room { length (primitives positive cut) ≤ length out.old }
     ensures { Wrote out.old 0 (primitives positive cut) out.new result }
 {
     match cut {
@@ -79,9 +79,9 @@ fn write_primitives(out: &mut [u16], cut: Subdivision, positive: bool) -> usize
 
 // Writes dots in point mode, else triangles or lines.
 pub fn write_indices(out: &mut [u16], cut: Subdivision, point_mode: bool, positive: bool) -> usize
-    requires fact_1 { ValidCut cut }
-    requires fact_2 { length (points cut) ≤ 65535 }
-    requires fact_3 { length (in_mode point_mode positive cut) ≤ length out.old }
+    requires valid { ValidCut cut }
+    requires few { length (points cut) ≤ 65535 }
+    requires room { length (in_mode point_mode positive cut) ≤ length out.old }
     ensures { Wrote out.old 0 (in_mode point_mode positive cut) out.new result }
 {
     if point_mode {

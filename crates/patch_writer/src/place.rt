@@ -8,8 +8,8 @@ ghost use Rattle.patch_mesh.specs.Valid.{ValidCut};
 use patch::subdivision::Subdivision;
 
 pub fn write_points(out: &mut [u32], cut: Subdivision) -> usize
-    requires fact_1 { ValidCut cut }
-    requires fact_2 { 3 * length (points cut) ≤ length out.old }
+    requires valid { ValidCut cut }
+    requires room { 3 * length (points cut) ≤ length out.old }
     ensures { Wrote out.old 0 (vertex_words (points cut)) out.new result }
 {
     match cut {

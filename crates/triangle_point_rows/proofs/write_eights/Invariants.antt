@@ -1,4 +1,4 @@
-use Prim.Native.Nat.{◌+◌, ◌-◌, ◌*◌}
+use Prim.Native.Nat.{◌+◌, ◌*◌}
 use Rattle.buffer.specs.Over.{flat}
 use Rattle.buffer.proofs.Laws.{Counting}
 use Rattle.triangle_point_rows.specs.Rings.{sums}

@@ -9,31 +9,31 @@ use Rattle.patch_writer.proofs.connect.write_primitives.Goals as goal
 
 pub write_plain_triangle-requires : goal.write_plain_triangle-requires
 unfolding primitive_count
-write_plain_triangle-requires c = omega (arith, count_fits c.args.positive PlainTriangle c.requires.fact_2 c.in-PlainTriangle.is tt)
+write_plain_triangle-requires c = omega (arith, count_fits c.args.positive PlainTriangle c.requires.room c.in-PlainTriangle.is tt)
 
 pub write_nest-requires-clause-fact_2 : goal.write_nest-requires-clause-fact_2
 write_nest-requires-clause-fact_2 c =
     let is = c.in-Triangle in
-    let v = valid_as c.requires.fact_1 is.is in
-    let room = room_as (λ d. length (primitives c.args.positive d)) c.requires.fact_2 is.is in
+    let v = valid_as c.requires.valid is.is in
+    let room = room_as (λ d. length (primitives c.args.positive d)) c.requires.room is.is in
     omega (arith, nest_room c.args.positive is.edge0 is.edge1 is.edge2 is.inside)
 
 pub write_plain_quad-requires : goal.write_plain_quad-requires
 unfolding primitive_count
-write_plain_quad-requires c = omega (arith, count_fits c.args.positive PlainQuad c.requires.fact_2 c.in-PlainQuad.is tt)
+write_plain_quad-requires c = omega (arith, count_fits c.args.positive PlainQuad c.requires.room c.in-PlainQuad.is tt)
 
 pub write_quad-requires-clause-fact_3 : goal.write_quad-requires-clause-fact_3
 write_quad-requires-clause-fact_3 c =
     let is = c.in-Quad in
-    let v = valid_as c.requires.fact_1 is.is in
-    let room = room_as (λ d. length (primitives c.args.positive d)) c.requires.fact_2 is.is in
+    let v = valid_as c.requires.valid is.is in
+    let room = room_as (λ d. length (primitives c.args.positive d)) c.requires.room is.is in
     omega (arith, quad_room c.args.positive is.edge0 is.edge1 is.edge2 is.edge3 is.rows is.columns)
 
-pub write_isolines-requires-clause-fact_2 : goal.write_isolines-requires-clause-fact_2
-write_isolines-requires-clause-fact_2 c =
+pub write_isolines-requires-clause-room : goal.write_isolines-requires-clause-room
+write_isolines-requires-clause-room c =
     let is = c.in-Lines in
-    let v = valid_as c.requires.fact_1 is.is in
-    let room = room_as (λ d. length (primitives c.args.positive d)) c.requires.fact_2 is.is in
+    let v = valid_as c.requires.valid is.is in
+    let room = room_as (λ d. length (primitives c.args.positive d)) c.requires.room is.is in
     omega (arith, lines_room c.args.positive is.lines is.along v)
 
 pub returns-in-Discarded : goal.returns-in-Discarded

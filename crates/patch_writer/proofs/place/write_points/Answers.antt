@@ -10,29 +10,29 @@ use Rattle.patch_writer.proofs.place.write_points.Goals as goal
 
 pub write_plain_triangle-requires : goal.write_plain_triangle-requires
 unfolding points
-write_plain_triangle-requires c = omega (arith, room_as (λ d. 3 * length (points d)) {d = PlainTriangle} c.requires.fact_2 c.in-PlainTriangle.is)
+write_plain_triangle-requires c = omega (arith, room_as (λ d. 3 * length (points d)) {d = PlainTriangle} c.requires.room c.in-PlainTriangle.is)
 
 pub write_drawn_triangle-requires-clause-fact_3 : goal.write_drawn_triangle-requires-clause-fact_3
 unfolding points
 write_drawn_triangle-requires-clause-fact_3 c = let e = c.in-Triangle.is in
-    let v = valid_as c.requires.fact_1 e in
-    let room = room_as (λ d. 3 * length (points d)) c.requires.fact_2 e in omega arith
+    let v = valid_as c.requires.valid e in
+    let room = room_as (λ d. 3 * length (points d)) c.requires.room e in omega arith
 
 pub write_plain_quad-requires : goal.write_plain_quad-requires
 unfolding points
-write_plain_quad-requires c = omega (arith, room_as (λ d. 3 * length (points d)) {d = PlainQuad} c.requires.fact_2 c.in-PlainQuad.is)
+write_plain_quad-requires c = omega (arith, room_as (λ d. 3 * length (points d)) {d = PlainQuad} c.requires.room c.in-PlainQuad.is)
 
 pub write_quad_patch-requires-clause-fact_3 : goal.write_quad_patch-requires-clause-fact_3
 unfolding points
 write_quad_patch-requires-clause-fact_3 c = let e = c.in-Quad.is in
-    let v = valid_as c.requires.fact_1 e in
-    let room = room_as (λ d. 3 * length (points d)) c.requires.fact_2 e in omega arith
+    let v = valid_as c.requires.valid e in
+    let room = room_as (λ d. 3 * length (points d)) c.requires.room e in omega arith
 
 pub write_isolines-requires-clause-fact_2 : goal.write_isolines-requires-clause-fact_2
 unfolding points
 write_isolines-requires-clause-fact_2 c = let e = c.in-Lines.is in
-    let v = valid_as c.requires.fact_1 e in
-    let room = room_as (λ d. 3 * length (points d)) c.requires.fact_2 e in omega arith
+    let v = valid_as c.requires.valid e in
+    let room = room_as (λ d. 3 * length (points d)) c.requires.room e in omega arith
 
 pub returns-in-Discarded : goal.returns-in-Discarded
 unfolding points vertex_words

@@ -38,14 +38,14 @@ row_of-r3-requires c = let a = c.args in
           c.width_of-most.ensures).1.1.1.0,
     )
 
-pub write_outline-w-requires-clause-fact_1 : goal.write_outline-w-requires-clause-fact_1
-write_outline-w-requires-clause-fact_1 c = let a = c.args in (outline_ready a.e0 a.e1 a.e2 a.e3 c.row_of-r0.ensures
+pub write_outline-w-requires-clause-rows : goal.write_outline-w-requires-clause-rows
+write_outline-w-requires-clause-rows c = let a = c.args in (outline_ready a.e0 a.e1 a.e2 a.e3 c.row_of-r0.ensures
     c.row_of-r1.ensures c.row_of-r2.ensures c.row_of-r3.ensures
     (first_four (all_valid a.e0 a.e1 a.e2 a.e3 a.rows a.columns c.requires.fact_1 c.requires.fact_2)) a.out.now a.at
     (first_fits (quad_parts a.e0 a.e1 a.e2 a.e3 a.rows a.columns a.out.now a.at c.requires.fact_3))).0
 
-pub write_outline-w-requires-clause-fact_2 : goal.write_outline-w-requires-clause-fact_2
-write_outline-w-requires-clause-fact_2 c = let a = c.args in (outline_ready a.e0 a.e1 a.e2 a.e3 c.row_of-r0.ensures
+pub write_outline-w-requires-clause-room : goal.write_outline-w-requires-clause-room
+write_outline-w-requires-clause-room c = let a = c.args in (outline_ready a.e0 a.e1 a.e2 a.e3 c.row_of-r0.ensures
     c.row_of-r1.ensures c.row_of-r2.ensures c.row_of-r3.ensures
     (first_four (all_valid a.e0 a.e1 a.e2 a.e3 a.rows a.columns c.requires.fact_1 c.requires.fact_2)) a.out.now a.at
     (first_fits (quad_parts a.e0 a.e1 a.e2 a.e3 a.rows a.columns a.out.now a.at c.requires.fact_3))).1
@@ -66,8 +66,8 @@ row_of-c-requires c = let a = c.args in
           c.width_of-most.ensures).1.1.1.1.1,
     )
 
-pub write_small_inside-requires-clause-fact_1 : goal.write_small_inside-requires-clause-fact_1
-write_small_inside-requires-clause-fact_1 c = let a = c.args in
+pub write_small_inside-requires-clause-rows : goal.write_small_inside-requires-clause-rows
+write_small_inside-requires-clause-rows c = let a = c.args in
     let o = c.write_outline-w in (inside_ready a.rows a.columns c.row_of-r.ensures c.row_of-c.ensures c.requires.fact_2 o.new.out o.result
     (second_fits (quad_parts a.e0 a.e1 a.e2 a.e3 a.rows a.columns a.out.now a.at c.requires.fact_3)
     (outline_written a.e0 a.e1 a.e2 a.e3
@@ -76,8 +76,8 @@ write_small_inside-requires-clause-fact_1 c = let a = c.args in
     c.row_of-r2.ensures
     c.row_of-r3.ensures o.ensures))).0
 
-pub write_small_inside-requires-clause-fact_2 : goal.write_small_inside-requires-clause-fact_2
-write_small_inside-requires-clause-fact_2 c = let a = c.args in
+pub write_small_inside-requires-clause-room : goal.write_small_inside-requires-clause-room
+write_small_inside-requires-clause-room c = let a = c.args in
     let o = c.write_outline-w in (inside_ready a.rows a.columns c.row_of-r.ensures c.row_of-c.ensures c.requires.fact_2 o.new.out o.result
     (second_fits (quad_parts a.e0 a.e1 a.e2 a.e3 a.rows a.columns a.out.now a.at c.requires.fact_3)
     (outline_written a.e0 a.e1 a.e2 a.e3

@@ -13,13 +13,13 @@ row_of-row-requires c = let a = c.args in
           c.width_of-most.ensures).1.1.1,
     )
 
-pub write_small_inside-requires-clause-fact_1 : goal.write_small_inside-requires-clause-fact_1
-write_small_inside-requires-clause-fact_1 c = let a = c.args in
+pub write_small_inside-requires-clause-good : goal.write_small_inside-requires-clause-good
+write_small_inside-requires-clause-good c = let a = c.args in
     let o = c.write_stored_outline-w in (inside_ready a.inside c.row_of-row.ensures c.requires.fact_2.1 c.requires.fact_2.0 o.new.out o.result
     (second_fits (triangle_parts a.e0 a.e1 a.e2 a.inside c.requires.fact_2.1 a.out.now a.at c.requires.fact_3) o.ensures)).0
 
-pub write_small_inside-requires-clause-fact_2 : goal.write_small_inside-requires-clause-fact_2
-write_small_inside-requires-clause-fact_2 c = let a = c.args in
+pub write_small_inside-requires-clause-room : goal.write_small_inside-requires-clause-room
+write_small_inside-requires-clause-room c = let a = c.args in
     let o = c.write_stored_outline-w in (inside_ready a.inside c.row_of-row.ensures c.requires.fact_2.1 c.requires.fact_2.0 o.new.out o.result
     (second_fits (triangle_parts a.e0 a.e1 a.e2 a.inside c.requires.fact_2.1 a.out.now a.at c.requires.fact_3) o.ensures)).1
 

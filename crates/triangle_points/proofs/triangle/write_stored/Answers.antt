@@ -2,25 +2,25 @@ use Rattle.vertices.proofs.Parts.{first_fits, second_fits, both_parts}
 use Rattle.triangle_points.proofs.Triangles.{triangle_parts, first_three, outline_ready, outline_written, inside_ready, inside_written}
 use Rattle.triangle_points.proofs.triangle.write_stored.Goals as goal
 
-pub write_outline-w-requires-clause-fact_1 : goal.write_outline-w-requires-clause-fact_1
-write_outline-w-requires-clause-fact_1 c = let a = c.args in (outline_ready a.e0 a.e1 a.e2 c.row_of-r0.ensures c.row_of-r1.ensures
+pub write_outline-w-requires-clause-rows : goal.write_outline-w-requires-clause-rows
+write_outline-w-requires-clause-rows c = let a = c.args in (outline_ready a.e0 a.e1 a.e2 c.row_of-r0.ensures c.row_of-r1.ensures
     c.row_of-r2.ensures (first_three c.requires.fact_1.0) a.out.now a.at
     (first_fits (triangle_parts a.e0 a.e1 a.e2 a.inside c.requires.fact_1.1 a.out.now a.at c.requires.fact_3))).0
 
-pub write_outline-w-requires-clause-fact_2 : goal.write_outline-w-requires-clause-fact_2
-write_outline-w-requires-clause-fact_2 c = let a = c.args in (outline_ready a.e0 a.e1 a.e2 c.row_of-r0.ensures c.row_of-r1.ensures
+pub write_outline-w-requires-clause-room : goal.write_outline-w-requires-clause-room
+write_outline-w-requires-clause-room c = let a = c.args in (outline_ready a.e0 a.e1 a.e2 c.row_of-r0.ensures c.row_of-r1.ensures
     c.row_of-r2.ensures (first_three c.requires.fact_1.0) a.out.now a.at
     (first_fits (triangle_parts a.e0 a.e1 a.e2 a.inside c.requires.fact_1.1 a.out.now a.at c.requires.fact_3))).1
 
-pub write_inside-requires-clause-fact_1 : goal.write_inside-requires-clause-fact_1
-write_inside-requires-clause-fact_1 c = let a = c.args in
+pub write_inside-requires-clause-good : goal.write_inside-requires-clause-good
+write_inside-requires-clause-good c = let a = c.args in
     let o = c.write_outline-w in (inside_ready a.inside c.row_of-row.ensures c.requires.fact_1.1 c.requires.fact_1.0.1.1.1 o.new.out o.result
     (second_fits (triangle_parts a.e0 a.e1 a.e2 a.inside c.requires.fact_1.1 a.out.now a.at c.requires.fact_3)
     (outline_written a.e0 a.e1 a.e2 c.row_of-r0.ensures
     c.row_of-r1.ensures c.row_of-r2.ensures o.ensures))).0
 
-pub write_inside-requires-clause-fact_2 : goal.write_inside-requires-clause-fact_2
-write_inside-requires-clause-fact_2 c = let a = c.args in
+pub write_inside-requires-clause-room : goal.write_inside-requires-clause-room
+write_inside-requires-clause-room c = let a = c.args in
     let o = c.write_outline-w in (inside_ready a.inside c.row_of-row.ensures c.requires.fact_1.1 c.requires.fact_1.0.1.1.1 o.new.out o.result
     (second_fits (triangle_parts a.e0 a.e1 a.e2 a.inside c.requires.fact_1.1 a.out.now a.at c.requires.fact_3)
     (outline_written a.e0 a.e1 a.e2 c.row_of-r0.ensures
