@@ -1,39 +1,46 @@
 // The text of the answer for one patch.
-ghost use Rattle.std.specs.Prelude.{◌+◌, ◌≤◌, length};
+ghost use Rattle.std.specs.Prelude.{◌≡◌, ◌+◌, ◌≤◌, length, IfOk, IfErr};
 ghost use Rattle.buffer.specs.Over.{Wrote};
-ghost use Rattle.patch_text.specs.Answers.{PointsAtFront, record_text};
+ghost use Rattle.patch_text.specs.Answers.{Printed, refusal_text, record_text};
 ghost use Rattle.patch_text.specs.Room.{room, FullSize};
 
+use decimal_text::{put_discarded, put_refused};
+use measure::size::DrawnCounts;
 use mesh_text::lists::put_mesh;
 use mesh_text::width::width_of;
 use patch::kinds::Patch;
 use patch::settings::Settings;
-use tessellate::answer::{IndicesAnswer, PointsAnswer};
+use tessellate::draw::{draw_indices, draw_points};
+use tessellate::refusal::DrawRefusal;
 
-// Draws the indices of a patch whose points are in `vertices`, and writes the text for both.
-fn put_indexed(
-    out: &mut [u8],
-    at: usize,
+// Draws the points and the indices of a patch into two full-size lists.
+fn draw_both(
     patch: Patch,
     settings: Settings,
-    vertices: &[u32],
-    points: u32,
+    vertices: &mut [u32],
     indices: &mut [u16],
-) -> usize
-    requires fact_1 { PointsAtFront settings patch points vertices.now }
-    requires fact_2 { FullSize (length vertices.now) (length indices.old) }
-    requires fact_3 { at + room ≤ length out.old }
-    ensures { Wrote out.old at (record_text settings patch) out.new result }
+) -> Result<DrawnCounts, DrawRefusal>
+    requires { FullSize (length vertices.old) (length indices.old) }
+    ensures drawn { IfOk result (λ counts. Printed settings patch counts.points counts.indices vertices.new indices.new) }
+    ensures refused { IfErr result (λ refusal. record_text settings patch ≡ refusal_text refusal) }
 {
-    let width = width_of(patch, settings.point_mode);
-    let answer = tessellate::draw::draw_indices(patch, settings, indices);
-    match answer {
-        IndicesAnswer::Drawn { indices: words } => put_mesh(
-            out, at, vertices, indices, width, points, words,
-        ),
-        IndicesAnswer::Discarded => decimal_text::put_discarded(out, at),
-        IndicesAnswer::NoRoomForIndices => decimal_text::put_refused(out, at, 4),
-        IndicesAnswer::BadTop => decimal_text::put_refused(out, at, 11),
+    let points = draw_points(patch, settings, vertices)?;
+    let words = draw_indices(patch, settings, indices)?;
+    Ok(DrawnCounts {
+        points,
+        indices: words,
+    })
+}
+
+fn put_refusal(out: &mut [u8], at: usize, refusal: DrawRefusal) -> usize
+    requires { at + 19 ≤ length out.old }
+    ensures { Wrote out.old at (refusal_text refusal) out.new result }
+{
+    match refusal {
+        DrawRefusal::Discarded => put_discarded(out, at),
+        DrawRefusal::NoRoomForVertices => put_refused(out, at, 3),
+        DrawRefusal::NoRoomForIndices => put_refused(out, at, 4),
+        DrawRefusal::BadTop => put_refused(out, at, 11),
     }
 }
 
@@ -46,17 +53,23 @@ pub fn put_patch(
     vertices: &mut [u32],
     indices: &mut [u16],
 ) -> usize
-    requires fact_1 { FullSize (length vertices.old) (length indices.old) }
-    requires fact_2 { at + room ≤ length out.old }
+    requires full_size { FullSize (length vertices.old) (length indices.old) }
+    requires room_for_text { at + room ≤ length out.old }
     ensures { Wrote out.old at (record_text settings patch) out.new result }
 {
-    let answer = tessellate::draw::draw_points(patch, settings, vertices);
-    match answer {
-        PointsAnswer::Drawn { points } => put_indexed(
-            out, at, patch, settings, vertices, points, indices,
-        ),
-        PointsAnswer::Discarded => decimal_text::put_discarded(out, at),
-        PointsAnswer::NoRoomForVertices => decimal_text::put_refused(out, at, 3),
-        PointsAnswer::BadTop => decimal_text::put_refused(out, at, 11),
+    match draw_both(patch, settings, vertices, indices) {
+        Ok(counts) => {
+            let width = width_of(patch, settings.point_mode);
+            put_mesh(
+                out,
+                at,
+                vertices,
+                indices,
+                width,
+                counts.points,
+                counts.indices,
+            )
+        }
+        Err(refusal) => put_refusal(out, at, refusal),
     }
 }
