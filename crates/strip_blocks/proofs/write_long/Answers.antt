@@ -23,12 +23,12 @@ write_last-requires-clause-fact_5 c =
     let a = c.args in
     let h = a.r / 2 in
     let second = c.write_run-w in
-    omega (arith, second.ensures.next, pairs_size (a.x + (h + 1)) (a.y + h) a.positive 0 (a.r - h - 1), second.auto.out, c.write_run.auto.out)
+    omega (arith, second.ensures.next, pairs_size (a.x + (h + 1)) (a.y + h) a.pattern.now.positive 0 (a.r - h - 1), second.auto.out, c.write_run.auto.out)
 
 pub returns : goal.returns
 returns c =
     let a = c.args in
-    long_wrote (vertex (line_of a.x (a.r + 2) a.e)) (vertex (line_of a.y a.r a.f)) a.positive a.x a.y a.r (omega arith)
+    long_wrote (vertex (line_of a.x (a.r + 2) a.e)) (vertex (line_of a.y a.r a.f)) a.pattern.now.positive a.x a.y a.r (omega arith)
     (λ i h. line_on a.x (a.r + 2) a.e i h) (λ i h. line_on a.y a.r a.f i h)
     (omega arith) c.write_run.ensures (omega arith)
     c.write_run-w.ensures c.write_last.ensures

@@ -5,5 +5,5 @@ use Rattle.strip_blocks.proofs.write_open.Goals as goal
 pub returns : goal.returns
 returns c =
     let a = c.args in
-    open_wrote a.positive a.x a.y a.r (omega arith) (omega arith) c.write_run.ensures
+    open_wrote a.pattern.now.positive a.x a.y a.r (omega arith) (omega arith) c.write_run.ensures
     (omega arith) c.write_run-w.ensures (omega (arith, c.write_run-w.ensures.next))

@@ -15,8 +15,8 @@ use Rattle.mesh_topology.specs.Band.{from}
 use mathlib.Core.Bool.{false}
 use Rattle.ring_indices.proofs.nest.write_long_band.Goals as goal
 
-pub write_open-w-requires-2-clause-fact_3 : goal.write_open-w-requires-2-clause-fact_3
-write_open-w-requires-2-clause-fact_3 c =
+pub write_open-w-requires-2-clause-room : goal.write_open-w-requires-2-clause-room
+write_open-w-requires-2-clause-room c =
     let a = c.args in
     let r = a.r in
     let x0 = a.base in
@@ -24,10 +24,10 @@ write_open-w-requires-2-clause-fact_3 c =
     let y0 = a.base + 3 * (r + 2) in
     let y1 = y0 + r in
     let l = c.write_open-w in
-    omega (arith, open_next a.positive x0 y0 r (omega arith) l.ensures, l.auto.out)
+    omega (arith, open_next a.pattern.now.positive x0 y0 r (omega arith) l.ensures, l.auto.out)
 
-pub write_long-requires-clause-fact_3 : goal.write_long-requires-clause-fact_3
-write_long-requires-clause-fact_3 c =
+pub write_long-requires-clause-room : goal.write_long-requires-clause-room
+write_long-requires-clause-room c =
     let a = c.args in
     let r = a.r in
     let x0 = a.base in
@@ -36,7 +36,7 @@ write_long-requires-clause-fact_3 c =
     let y1 = y0 + r in
     let k = c.write_open-w in
     let l = c.write_open-w-2 in
-    omega (arith, open_next a.positive x0 y0 r (omega arith) k.ensures, k.auto.out, open_next a.positive x1 y1 r (omega arith) l.ensures, l.auto.out)
+    omega (arith, open_next a.pattern.now.positive x0 y0 r (omega arith) k.ensures, k.auto.out, open_next a.pattern.now.positive x1 y1 r (omega arith) l.ensures, l.auto.out)
 
 pub returns : goal.returns
 returns c =
@@ -59,13 +59,13 @@ returns c =
     let s0 = c.write_open-w in
     let s1 = c.write_open-w-2 in
     let s2 = c.write_long in
-    let G0 = indices a.positive (step_triangle (on x0) (on y0) false (r + 2) r ∷ []) in
-    let G1 = indices a.positive (step_triangle (on x1) (on y1) false (r + 2) r ∷ []) in
-    let g0 = indices_length a.positive (step_triangle (on x0) (on y0) false (r + 2) r ∷ []) in
-    let g1 = indices_length a.positive (step_triangle (on x1) (on y1) false (r + 2) r ∷ []) in
-    let n0 = open_next a.positive x0 y0 r (omega arith) s0.ensures in
-    let n1 = open_next a.positive x1 y1 r (omega arith) s1.ensures in
-    three_strips a.positive F p r e0 e1 e2 (on x0) (on y0) (on x1) (on y1) (vertex (line_of x2 p x0)) (vertex (line_of y2 r y0)) G0 G1 (omega arith)
+    let G0 = indices a.pattern.now.positive (step_triangle (on x0) (on y0) false (r + 2) r ∷ []) in
+    let G1 = indices a.pattern.now.positive (step_triangle (on x1) (on y1) false (r + 2) r ∷ []) in
+    let g0 = indices_length a.pattern.now.positive (step_triangle (on x0) (on y0) false (r + 2) r ∷ []) in
+    let g1 = indices_length a.pattern.now.positive (step_triangle (on x1) (on y1) false (r + 2) r ∷ []) in
+    let n0 = open_next a.pattern.now.positive x0 y0 r (omega arith) s0.ensures in
+    let n1 = open_next a.pattern.now.positive x1 y1 r (omega arith) s1.ensures in
+    three_strips a.pattern.now.positive F p r e0 e1 e2 (on x0) (on y0) (on x1) (on y1) (vertex (line_of x2 p x0)) (vertex (line_of y2 r y0)) G0 G1 (omega arith)
     (omega (arith, s0.auto.out)) (omega arith) (omega arith) (omega arith)
     (strip_same (on x0) (from 0 F) (on y0) e0.line p r (λ i h. on_ring base total 0 x0 i (omega arith) (omega arith) (omega arith))
     (λ i h. on_ring inner (3 * r) (0 * r) y0 i (omega arith) (omega arith) (omega arith)))

@@ -10,8 +10,8 @@ long-init c =
     let a = c.args in
     (omega arith, left_all refl (omega (arith, nest_words_length a.positive 0 a.c0 a.c1 a.c2 a.n)))
 
-pub write_wide_band-to-requires-clause-fact_3 : goal.write_wide_band-to-requires-clause-fact_3
-write_wide_band-to-requires-clause-fact_3 c =
+pub write_wide_band-to-requires-clause-fact_2 : goal.write_wide_band-to-requires-clause-fact_2
+write_wide_band-to-requires-clause-fact_2 c =
     let a = c.args in
     let l = c.long in
     let fits = band_fits a.positive l.base l.a l.b l.c l.left (omega arith) l.invariant.1 in
@@ -21,7 +21,7 @@ pub long-preserved : goal.long-preserved
 long-preserved c =
     let a = c.args in
     let l = c.long in
-    (omega arith, band_written a.positive l.base l.a l.b l.c l.left (omega arith) c.write_wide_band-to.ensures l.invariant.1)
+    (omega arith, band_written a.positive l.base l.a l.b l.c l.left (omega arith) (rw c.new-pattern.ensures at c.write_wide_band-to.ensures) l.invariant.1)
 
 pub loop-left-init : goal.loop-left-init
 loop-left-init c =
