@@ -4,7 +4,6 @@ use Rattle.std.specs.Float.{binary32}
 use Rattle.std.specs.Float.Ieee.{is_nan, to_bits}
 use Rattle.patch.specs.declared.settings.Settings.{Settings}
 use Rattle.job_fields.specs.declared.setting.Kind.{Kind}
-use Rattle.job_fields.specs.declared.levels.LevelBits.{LevelBits}
 use Rattle.job_fields.specs.declared.levels.Levels.{Levels}
 use Rattle.job.specs.declared.record.Record.{Record}
 use Rattle.job_fields.specs.Levels.{levels_of}
@@ -14,7 +13,7 @@ abbrev pub level_pattern : Float → ℕ
 level_pattern x = cond (is_nan x) 0x7fc0_0000 (to_bits binary32 x)
 
 -- the pattern of each level
-abbrev pub bits_of : Levels → LevelBits
+abbrev pub bits_of : Levels Float → Levels ℕ
 bits_of x = record {
   outer0 = level_pattern x.outer0;
   outer1 = level_pattern x.outer1;
@@ -25,7 +24,7 @@ bits_of x = record {
 }
 
 -- the six patterns have at most 32 bits
-pub record Patterns (b : LevelBits) : Type 0 where
+pub record Patterns (b : Levels ℕ) : Type 0 where
   pub outer0 : b.outer0 < 256 ^ 4
   pub outer1 : b.outer1 < 256 ^ 4
   pub outer2 : b.outer2 < 256 ^ 4
@@ -38,10 +37,10 @@ abbrev pub Agrees : Record → Type 0
 Agrees r = r.levels ≡ levels_of r.bits
 
 -- r is the record made of f32 levels: its bit patterns are those of the levels, and its levels those of the patterns
-pub record MadeRecord (k : Kind) (s : Settings) (x : Levels) (r : Record) : Type 0 where
+pub record MadeRecord (k : Kind) (s : Settings) (x : Levels Float) (r : Record) : Type 0 where
   pub is : r ≡ record { kind = k; settings = s; levels = x; bits = bits_of x }
   pub agrees : Agrees r
 
 -- the record made of bit patterns: its levels are those of the patterns
-abbrev pub record_of_bits : Kind → Settings → LevelBits → Record
+abbrev pub record_of_bits : Kind → Settings → Levels ℕ → Record
 record_of_bits k s b = record { kind = k; settings = s; levels = levels_of b; bits = b }

@@ -3,7 +3,7 @@ ghost use Rattle.std.specs.Prelude.{◌≡◌};
 ghost use Rattle.job_bytes.specs.Patterns.{level_pattern, bits_of, MadeRecord, record_of_bits};
 
 use job::record::Record;
-use job_fields::levels::{LevelBits, Levels, levels_of};
+use job_fields::levels::{Levels, levels_of};
 use job_fields::setting::Kind;
 use patch::settings::Settings;
 
@@ -11,17 +11,17 @@ use patch::settings::Settings;
 fn bits_of_level(level: f32) -> u32
     ensures { result ≡ level_pattern level }
 {
-    if level != level {
+    if level.is_nan() {
         0x7fc0_0000
     } else {
-        f32::to_bits(level)
+        level.to_bits()
     }
 }
 
-pub(crate) fn bits_of(levels: Levels) -> LevelBits
+pub(crate) fn bits_of(levels: Levels<f32>) -> Levels<u32>
     ensures { result ≡ bits_of levels }
 {
-    LevelBits {
+    Levels {
         outer0: bits_of_level(levels.outer0),
         outer1: bits_of_level(levels.outer1),
         outer2: bits_of_level(levels.outer2),
@@ -32,7 +32,7 @@ pub(crate) fn bits_of(levels: Levels) -> LevelBits
 }
 
 // Returns the record of f32 levels.
-pub fn record_of(kind: Kind, settings: Settings, levels: Levels) -> Record
+pub fn record_of(kind: Kind, settings: Settings, levels: Levels<f32>) -> Record
     ensures { MadeRecord kind settings levels result }
 {
     let bits = bits_of(levels);
@@ -45,7 +45,7 @@ pub fn record_of(kind: Kind, settings: Settings, levels: Levels) -> Record
 }
 
 // Returns the record of bit patterns, as a file or a caller has them; a NaN keeps its own pattern.
-pub fn record_of_bits(kind: Kind, settings: Settings, bits: LevelBits) -> Record
+pub fn record_of_bits(kind: Kind, settings: Settings, bits: Levels<u32>) -> Record
     ensures { result ≡ record_of_bits kind settings bits }
 {
     let levels = levels_of(bits);

@@ -5,23 +5,17 @@ ghost use Rattle.job_fields.specs.Bytes.{low_bytes};
 
 use buffer::put_all;
 
-pub fn put_u16(out: &mut [u8], at: usize, x: u16) -> usize
+pub fn put_u16(out: &mut [u8], at: usize, number: u16) -> usize
     requires { at + 2 ≤ length out.old }
-    ensures { Wrote out.old at (low_bytes 2 x) out.new result }
+    ensures { Wrote out.old at (low_bytes 2 number) out.new result }
 {
-    let bytes = [(x % 256) as u8, (x / 256) as u8];
-    put_all(out, at, &bytes)
+    put_all(out, at, &number.to_le_bytes())
 }
 
-pub(crate) fn put_u32(out: &mut [u8], at: usize, x: u32) -> usize
+pub(crate) fn put_u32(out: &mut [u8], at: usize, pattern: u32) -> usize
     requires { at + 4 ≤ length out.old }
-    ensures { Wrote out.old at (low_bytes 4 x) out.new result }
+    ensures { Wrote out.old at (low_bytes 4 pattern) out.new result }
 {
-    let bytes = [
-        (x % 256) as u8,
-        (x / 256 % 256) as u8,
-        (x / 65536 % 256) as u8,
-        (x / 16777216) as u8,
-    ];
+    let bytes = pattern.to_le_bytes();
     put_all(out, at, &bytes)
 }

@@ -8,10 +8,10 @@ use crate::put::put_u32;
 use crate::setting_bytes::put_settings;
 use crate::top_byte::put_top;
 use job::record::Record;
-use job_fields::levels::LevelBits;
+use job_fields::levels::Levels;
 use job_fields::version::Version;
 
-fn put_levels(out: &mut [u8], at: usize, bits: LevelBits) -> usize
+fn put_levels(out: &mut [u8], at: usize, bits: Levels<u32>) -> usize
     requires { at + 24 ≤ length out.old }
     ensures { Wrote out.old at (level_bytes bits) out.new result }
 {
@@ -29,11 +29,7 @@ pub fn put_record(out: &mut [u8], version: Version, record: Record) -> usize
     requires version_in_bounds { record_size version ≤ length out.old }
     ensures { Wrote out.old 0 (record_bytes version «record») out.new result }
 {
-    let kind = record.kind;
-    let settings = record.settings;
-    let bits = record.bits;
-    let top = settings.top;
-    let after_settings = put_settings(out, 0, kind, settings);
-    let after_top = put_top(out, after_settings, version, top);
-    put_levels(out, after_top, bits)
+    let after_settings = put_settings(out, 0, record.kind, record.settings);
+    let after_top = put_top(out, after_settings, version, record.settings.top);
+    put_levels(out, after_top, record.bits)
 }

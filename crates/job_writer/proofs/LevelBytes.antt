@@ -5,7 +5,7 @@ use native.Mathlib.Omega.{arith}
 use mathlib.Core.Path.{◌≡◌, refl}
 use mathlib.Core.List.{List, ◌++◌}
 use lib.ListN.{length}
-use Rattle.job_fields.specs.declared.levels.LevelBits.{LevelBits}
+use Rattle.job_fields.specs.declared.levels.Levels.{Levels}
 use Rattle.job_fields.specs.Bytes.{word, low_bytes}
 use Rattle.job_fields.specs.Levels.{bits_at}
 use Rattle.job_bytes.specs.Written.{level_bytes}
@@ -23,7 +23,7 @@ module _ {bs : List ℕ} {at : ℕ} (next : ℕ) (e : at + 4 ≡ next) where
   again ys h b p = has_both (low_bytes 4 (word 4 bs at)) ys (has_word bs at 4 (omega arith) b) (rw (low_length 4 (word 4 bs at), e) p)
 
 -- written patterns read back
-pub bits_back : {bs : List ℕ} {at : ℕ} (b : LevelBits) → Patterns b → Has bs at (level_bytes b) → bits_at bs at ≡ b
+pub bits_back : {bs : List ℕ} {at : ℕ} (b : Levels ℕ) → Patterns b → Has bs at (level_bytes b) → bits_at bs at ≡ b
 unfolding level_bytes
 bits_back {bs} {at} b p h =
     let w0 = first (at + 4) refl b.outer0 _ p.outer0 h in

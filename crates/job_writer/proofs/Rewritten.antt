@@ -13,13 +13,12 @@ use Rattle.answer_codes.specs.Drew.{Drew}
 use Rattle.job_fields.specs.declared.version.Version.{Version}
 use Rattle.job.specs.declared.cursor.Cursor.{Cursor}
 use Rattle.job.specs.declared.record.Record.{Record}
-use Rattle.job.specs.declared.header.Header.TheVariants as read-header
-use Rattle.job.specs.declared.next.NextRecord.TheVariants.{Read}
+use Rattle.std.specs.Prelude.{Result, Ok}
 use Rattle.job_fields.specs.Version.{record_size}
 use Rattle.job.specs.Header.{header_of}
-use Rattle.job.specs.Records.{record_at}
-use Rattle.job_writer.specs.declared.answer.HeaderWritten.{HeaderWritten}
-use Rattle.job_writer.specs.declared.answer.RecordWritten.{RecordWritten}
+use Rattle.job.specs.Records.{read, record_at}
+use Rattle.job_writer.specs.declared.answer.NoRoom.{NoRoom}
+use Rattle.job_writer.specs.declared.answer.RecordRefusal.{RecordRefusal}
 use Rattle.job_bytes.specs.Written.{header_bytes, takes_top}
 use Rattle.job_writer.specs.Whole.{Bytes, Reads, records_bytes, file_bytes}
 use Rattle.job_writer.specs.Answers.{wrote, header_code, record_code, bytes_verdict, record_verdict, WroteHeader, WroteRecord}
@@ -36,15 +35,15 @@ front {bytes = bytes} {xs = xs} {size = size} n w e =
     rw (rw zero at w.list) (over_front xs bytes size (sym n))
 
 -- a header that was read, written into a list with room: the answer, and the same 5 bytes
-pub header_rewritten : (v : Version) (bs : List ℕ) (next : Cursor) {xs xs' : List ℕ} {r : HeaderWritten} → Bytes bs → header_of bs ≡ read-header.Read v next
+pub header_rewritten : (v : Version) (bs : List ℕ) (next : Cursor) {xs xs' : List ℕ} {r : Result ℕ NoRoom} → Bytes bs → header_of bs ≡ Ok (record { version = v; next = next })
     → 5 ≤ length xs → WroteHeader v xs xs' r → (header_code r ≡ wrote 5) × (take 5 xs' ≡ take 5 bs)
 header_rewritten v bs next {xs} b e h w =
     let right : bytes_verdict 5 (length xs) ≡ wrote 5 = rw (le-ltb _ _ h) in
     (w.wrote.answer ∙ right, front (header_length v) w.wrote right ∙ sym (header_again v bs next b e))
 
 -- a record that was read, written in its version into a list with room: the answer, and the same 29 or 30 bytes
-pub record_rewritten : (v : Version) (bs : List ℕ) (at : ℕ) (x : Record) (next : Cursor) {xs xs' : List ℕ} {r : RecordWritten} → Bytes bs
-    → record_at v bs at ≡ Read x next → record_size v ≤ length xs → WroteRecord v x xs xs' r
+pub record_rewritten : (v : Version) (bs : List ℕ) (at : ℕ) (x : Record) (next : Cursor) {xs xs' : List ℕ} {r : Result ℕ RecordRefusal} → Bytes bs
+    → record_at v bs at ≡ read x next → record_size v ≤ length xs → WroteRecord v x xs xs' r
     → (record_code r ≡ wrote (record_size v)) × (take (record_size v) xs' ≡ take (record_size v) (drop at bs))
 record_rewritten v bs at x next {xs} b e h w =
     let again = record_again v bs at x next b e in

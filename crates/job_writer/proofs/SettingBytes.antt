@@ -17,7 +17,8 @@ use Rattle.job_fields.specs.declared.setting.Kind.{Kind}
 use Rattle.job_fields.specs.declared.setting.Kind.TheVariants.{Triangles, Quads, Isolines}
 use Rattle.job_fields.specs.Bytes.{byte_at}
 use Rattle.job_fields.specs.Settings.{choices, kind_of, spacing_of, order_of, origin_of, point_mode_of, settings_at, AllBelow}
-use Rattle.job_bytes.specs.Written.{kind_byte, spacing_byte, order_byte, origin_byte, switch_byte, five_bytes}
+use Rattle.job_fields.specs.Settings.{kind_byte, spacing_byte, order_byte, origin_byte, switch_byte}
+use Rattle.job_bytes.specs.Written.{five_bytes}
 use Rattle.job_writer.proofs.Has.{Has, has_byte, has_all}
 
 -- ---- a byte in range is the byte of its meaning

@@ -1,14 +1,12 @@
 -- Whole files: the bytes of a header and of records, joined, and the records that reading finds. Assumes nothing.
-use Rattle.std.specs.Prelude.{ℕ, ◌<◌, ◌≡◌, true, List, [], ◌∷◌, ◌++◌}
+use Rattle.std.specs.Prelude.{ℕ, ◌<◌, ◌≡◌, true, List, [], ◌∷◌, ◌++◌, Ok, None}
 use Rattle.job_fields.specs.declared.version.Version.{Version}
 use Rattle.job.specs.declared.cursor.Cursor.{Cursor}
 use Rattle.job.specs.declared.record.Record.{Record}
-use Rattle.job.specs.declared.header.Header.TheVariants as header
-use Rattle.job.specs.declared.next.NextRecord.TheVariants.{Read, End}
 use Rattle.job_fields.specs.Bytes.{byte_at}
 use Rattle.job_fields.specs.Levels.{levels_of}
 use Rattle.job.specs.Header.{header_of}
-use Rattle.job.specs.Records.{record_at}
+use Rattle.job.specs.Records.{read, record_at}
 use Rattle.job_bytes.specs.Written.{header_bytes, takes_top, record_bytes}
 use Rattle.job_bytes.specs.Patterns.{Patterns, Agrees}
 
@@ -41,11 +39,11 @@ pub data AllWritable (v : Version) : List Record → Type 0 where
 
 -- reading from `at` on returns these records and then the end, with no refusal
 pub data ReadsBack (v : Version) (bs : List ℕ) : ℕ → List Record → Type 0 where
-  ends : {at : ℕ} → record_at v bs at ≡ End → ReadsBack v bs at []
-  reads : {at : ℕ} {r : Record} {rs : List Record} (next : Cursor) → record_at v bs at ≡ Read r next → ReadsBack v bs next.at rs → ReadsBack v bs at (r ∷ rs)
+  ends : {at : ℕ} → record_at v bs at ≡ Ok None → ReadsBack v bs at []
+  reads : {at : ℕ} {r : Record} {rs : List Record} (next : Cursor) → record_at v bs at ≡ read r next → ReadsBack v bs next.at rs → ReadsBack v bs at (r ∷ rs)
 
 -- reading the file returns this version and these records
 pub record Reads (v : Version) (bs : List ℕ) (rs : List Record) : Type 0 where
   pub first : Cursor
-  pub header : header_of bs ≡ header.Read v first
+  pub header : header_of bs ≡ Ok (record { version = v; next = first })
   pub records : ReadsBack v bs first.at rs

@@ -1,15 +1,11 @@
-// The answers of the writers. Unless the answer is `Written`, the list is unchanged.
-#[derive(Clone, Copy, Drop)]
-pub enum HeaderWritten {
-    // The number of bytes at the front.
-    Written { count: u32 },
-    NoRoom,
-}
+// Why a writer refuses. The list is then unchanged.
 
-#[derive(Clone, Copy, Drop)]
-pub enum RecordWritten {
-    // The number of bytes at the front.
-    Written { count: u32 },
+// The list is too short.
+#[derive(Clone, Copy, Debug, PartialEq, Eq, Drop)]
+pub struct NoRoom;
+
+#[derive(Clone, Copy, Debug, PartialEq, Eq, Drop)]
+pub enum RecordRefusal {
     NoRoom,
     // The version cannot hold the top level.
     BadTop,

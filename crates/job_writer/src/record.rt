@@ -1,26 +1,22 @@
 // Writes a record of a job file, or refuses.
 ghost use Rattle.job_writer.specs.Answers.{WroteRecord};
 
-use crate::answer::RecordWritten;
+use crate::answer::RecordRefusal;
 use job::record::Record;
 use job_bytes::record_bytes::put_record;
 use job_bytes::top_byte::takes_top;
 use job_fields::version::{Version, record_size};
 
-// Writes a record; a bad top level comes before a list that is too short.
-pub fn write_record(out: &mut [u8], version: Version, record: Record) -> RecordWritten
+// Writes a record, and returns the number of bytes at the front; a bad top level comes before a list that is too short.
+pub fn write_record(out: &mut [u8], version: Version, record: Record) -> Result<u32, RecordRefusal>
     ensures { WroteRecord version «record» out.old out.new result }
 {
-    let settings = record.settings;
-    let top = settings.top;
-    if !takes_top(version, top) {
-        return RecordWritten::BadTop;
+    if !takes_top(version, record.settings.top) {
+        return Err(RecordRefusal::BadTop);
     }
     if out.len() < record_size(version) {
-        return RecordWritten::NoRoom;
+        return Err(RecordRefusal::NoRoom);
     }
     let count = put_record(out, version, record);
-    RecordWritten::Written {
-        count: count as u32,
-    }
+    Ok(count as u32)
 }

@@ -12,4 +12,4 @@ overflow_cast-result c = omega arith
 
 pub returns : goal.returns
 unfolding header_bytes
-returns c = header_written _ (omega arith) (rw (← c.version_number-number.ensures) (wrote_then zero-le c.put_all-next.ensures c.put_u16-count.ensures))
+returns c = header_written _ (omega arith) (rw (← c.from-number.ensures) (wrote_then zero-le c.put_all-next.ensures c.put_u16-count.ensures))
