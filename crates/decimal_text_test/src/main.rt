@@ -36,15 +36,13 @@ fn put_one(out: &mut [u8], at: usize, x: u32) -> usize
 }
 
 // Writes six numbers.
-fn put_six(out: &mut [u8], at: usize, numbers: [u32; 6]) -> usize
+fn put_six(out: &mut [u8], at: usize, numbers: &[u32; 6]) -> usize
     requires { at + 66 ≤ length out.old }
     ensures { result ≤ at + 66 }
 {
     let mut w = at;
-    let mut i = 0;
-    while i < 6 {
-        w = put_one(out, w, numbers[i]);
-        i += 1;
+    for x in numbers {
+        w = put_one(out, w, *x);
     }
     w
 }
@@ -54,11 +52,11 @@ fn put_numbers(out: &mut [u8], at: usize) -> usize
     requires { at + 132 ≤ length out.old }
     ensures { result ≤ at + 132 }
 {
-    let w = put_six(out, at, [0, 7, 10, 99, 100, 1234]);
+    let w = put_six(out, at, &[0, 7, 10, 99, 100, 1234]);
     put_six(
         out,
         w,
-        [65536, 999999, 1000000, 16777216, 999999999, 4294967295],
+        &[65536, 999999, 1000000, 16777216, 999999999, 4294967295],
     )
 }
 

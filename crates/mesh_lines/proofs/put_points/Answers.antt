@@ -7,8 +7,8 @@ loop-i-init c =
     let a = c.args in
     listed_start 9 33 3 a.vertices.now a.from a.count (λ i. omega (arith, c.type_inv.vertices i)) (omega arith) (omega arith)
 
-pub put_point-w-requires-clause-fact_2 : goal.put_point-w-requires-clause-fact_2
-put_point-w-requires-clause-fact_2 c = search listing
+pub put_point-w-requires-clause-room : goal.put_point-w-requires-clause-room
+put_point-w-requires-clause-room c = search listing
 
 pub loop-i-preserved : goal.loop-i-preserved
 loop-i-preserved c = search listing

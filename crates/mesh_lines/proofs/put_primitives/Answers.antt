@@ -16,8 +16,8 @@ loop-i-init c =
     let a = c.args in
     listed_start 4 18 a.width a.indices.now a.from a.count (λ i. omega (arith, c.type_inv.indices i)) (omega arith) (omega arith)
 
-pub put_primitive-w-requires-clause-fact_2 : goal.put_primitive-w-requires-clause-fact_2
-put_primitive-w-requires-clause-fact_2 c =
+pub put_primitive-w-requires-clause-room : goal.put_primitive-w-requires-clause-room
+put_primitive-w-requires-clause-room c =
     let a = c.args in
     let r = next_row a.width a.from c.loop-i.i a.count (length a.indices.now) (omega arith) (omega arith) (omega arith) in
     search listing
