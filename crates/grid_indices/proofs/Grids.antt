@@ -15,11 +15,11 @@ use Rattle.strip.proofs.Lines.{follows_line}
 use Rattle.strip.proofs.Strips.{indices_length, indices_append}
 use Rattle.mesh_topology.specs.Quad.{grid_at, cell, joined_lists, cells}
 use Rattle.grid_indices.specs.declared.grid.Grid.{Grid}
-use Rattle.grid_indices.specs.Grids.{GridFits, cell_words, row_words}
+use Rattle.grid_indices.specs.Grids.{cell_words, row_words}
 use Rattle.shifted_copies.specs.Copies.{shifted}
 use Rattle.shifted_copies.proofs.Shifts.{flat_shifted, flat_below}
 
-module _ (g : Grid) (fits : GridFits g) where
+module _ (g : Grid) where
   -- the first column downwards: the step counts down modulo 65536
   pub follows_left : Follows (record { first = g.start + g.a * g.width; step = 65536 - g.width; count = g.a; last = g.start })
       (λ k. grid_at g.start g.width (g.a - k) 0) g.a

@@ -1,15 +1,7 @@
 -- The index words of a grid of cells. Assumes nothing.
-use Rattle.std.specs.Prelude.{ℕ, ◌+◌, ◌*◌, ◌≤◌, ◌<◌, ◌≡◌, Bool, List, [], ◌∷◌}
+use Rattle.std.specs.Prelude.{ℕ, ◌+◌, Bool, List, [], ◌∷◌}
 use Rattle.buffer.specs.Over.{flat}
 use Rattle.strip.specs.Triangles.{indices}
-use Rattle.grid_indices.specs.declared.grid.Grid.{Grid}
-
--- the grid has at most 64 rows and columns of cells, and its vertex numbers are below 65535
-pub record GridFits (g : Grid) : Type 0 where
-  pub wide : g.width ≡ g.b + 1
-  pub rows : g.a ≤ 64
-  pub columns : g.b ≤ 64
-  pub small : g.start + g.a * g.width + g.b < 65535
 
 -- the two triangles of a cell with the corners p, p + 1 on one row and q, q + 1 on the next
 abbrev pub cell_words : Bool → ℕ → ℕ → List ℕ

@@ -3,7 +3,7 @@ ghost use Rattle.std.specs.Prelude.{◌+◌, ◌*◌, ◌≤◌, ◌<◌, length
 ghost use Rattle.buffer.specs.Over.{Wrote};
 ghost use Rattle.strip.specs.Triangles.{indices};
 ghost use Rattle.mesh_topology.specs.Quad.{grid_at, cells};
-ghost use Rattle.grid_indices.specs.Grids.{GridFits, cell_words, row_words};
+ghost use Rattle.grid_indices.specs.Grids.{cell_words, row_words};
 
 use crate::grid::Grid;
 use strip::triangle::Triangle;
@@ -44,8 +44,7 @@ fn write_row(out: &mut [u16], at: usize, first: u32, width: u32, b: u32, positiv
 
 // Writes all cells, row by row.
 fn write_each(out: &mut [u16], at: usize, grid: Grid, positive: bool) -> usize
-    requires fits { GridFits grid }
-    requires room { at + 6 * (grid.a * grid.b) ≤ length out.old }
+    requires { at + 6 * (grid.a * grid.b) ≤ length out.old }
     ensures { Wrote out.old at (indices positive (cells (grid_at grid.start grid.width) grid.a grid.b)) out.new result }
 {
     let mut to = at;
@@ -58,8 +57,7 @@ fn write_each(out: &mut [u16], at: usize, grid: Grid, positive: bool) -> usize
 
 // Writes all cells. Each row is the first row, shifted by the row's number times `width`; copying does not pay for fewer than ten cells.
 pub fn write_cells(out: &mut [u16], at: usize, grid: Grid, positive: bool) -> usize
-    requires fits { GridFits grid }
-    requires room { at + 6 * (grid.a * grid.b) ≤ length out.old }
+    requires { at + 6 * (grid.a * grid.b) ≤ length out.old }
     ensures { Wrote out.old at (indices positive (cells (grid_at grid.start grid.width) grid.a grid.b)) out.new result }
 {
     let start = grid.start;

@@ -1,24 +1,27 @@
 // A grid of vertices, and the lines along its border.
-ghost use Rattle.std.specs.Prelude.{◌-◌};
+ghost use Rattle.std.specs.Prelude.{◌≡◌, ◌+◌, ◌-◌, ◌*◌, ◌≤◌, ◌<◌};
 ghost use Rattle.strip.specs.Lines.{Follows};
 ghost use Rattle.mesh_topology.specs.Quad.{grid_at};
-ghost use Rattle.grid_indices.specs.Grids.{GridFits};
 
 use strip::line::Line;
 
-// Rows 0 to a and columns 0 to b of vertices; a row has `width` vertices, and the first vertex is `start`.
+// Rows 0 to a and columns 0 to b of vertices; a row has `width` vertices, and the first vertex is `start`. The grid has at most 64
+// rows and columns of cells, and its vertex numbers are below 65535.
 #[derive(Clone, Copy, Drop)]
 pub struct Grid {
     pub start: u32,
     pub width: u32,
     pub a: u32,
     pub b: u32,
+    pub ghost wide: { width ≡ b + 1 },
+    pub ghost rows: { a ≤ 64 },
+    pub ghost columns: { b ≤ 64 },
+    pub ghost small: { start + a * width + b < 65535 },
 }
 
 impl Grid {
     // The first column, downwards.
     pub fn left(self) -> Line
-        requires { GridFits self }
         ensures { Follows result (λ k. grid_at self.start self.width (self.a - k) 0) self.a }
     {
         let first = self.start + self.a * self.width;
@@ -32,7 +35,6 @@ impl Grid {
 
     // The first row.
     pub fn bottom(self) -> Line
-        requires { GridFits self }
         ensures { Follows result (λ k. grid_at self.start self.width 0 k) self.b }
     {
         Line {
@@ -45,7 +47,6 @@ impl Grid {
 
     // The last column, upwards.
     pub fn right(self) -> Line
-        requires { GridFits self }
         ensures { Follows result (λ k. grid_at self.start self.width k self.b) self.a }
     {
         let first = self.start + self.b;
@@ -59,7 +60,6 @@ impl Grid {
 
     // The last row, backwards.
     pub fn top(self) -> Line
-        requires { GridFits self }
         ensures { Follows result (λ k. grid_at self.start self.width self.a (self.b - k)) self.b }
     {
         let last = self.start + self.a * self.width;

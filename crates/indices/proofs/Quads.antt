@@ -1,9 +1,9 @@
 -- The words of a quad patch: a frame of four strips, then the cells. Assumes nothing.
-use Prim.Native.Nat.{ℕ, ◌+◌, ◌-◌, ◌*◌, ◌≤◌}
+use Prim.Native.Nat.{ℕ, ◌+◌, ◌-◌, ◌*◌}
 use mathlib.Core.Path.{◌≡◌}
 use mathlib.Core.Bool.{Bool}
 use mathlib.Core.List.{List, ◌++◌}
-use native.Mathlib.Nat.{mul-le-mul, zero-add}
+use native.Mathlib.Nat.{zero-add}
 use native.Mathlib.Omega.{arith}
 use lib.ListN.{length, length-append}
 use Rattle.strip.specs.Triangles.{indices}
@@ -11,19 +11,6 @@ use Rattle.strip.proofs.Strips.{strip_length, indices_length, indices_append}
 use Rattle.mesh_topology.specs.Ring.{ring_at}
 use Rattle.mesh_topology.specs.Band.{band_from, band}
 use Rattle.mesh_topology.specs.Quad.{grid_at, cells, grid_edges, quad}
-use Rattle.grid_indices.specs.declared.grid.Grid.{Grid}
-use Rattle.grid_indices.specs.Grids.{GridFits}
-
--- the inner grid of a patch whose outline has `total` points and whose inner levels give m and n
-abbrev pub grid_of : ℕ → ℕ → ℕ → Grid
-grid_of total m n = record { start = total; width = n - 1; a = m - 2; b = n - 2 }
-
--- the vertices of the grid have numbers of 16 bits
-pub grid_fits : (total m n : ℕ) → total ≤ 256 → m ≤ 64 → 2 ≤ n → n ≤ 64 → GridFits (grid_of total m n)
-grid_fits total m n t hm ln hn =
-    let r : m - 2 ≤ 62 = omega arith in
-    let w : n - 1 ≤ 63 = omega arith in
-    record { wide = omega arith; rows = omega arith; columns = omega arith; small = omega (arith, mul-le-mul r w) }
 
 -- the words of the frame
 abbrev pub frame_words : Bool → ℕ → ℕ → ℕ → ℕ → ℕ → ℕ → ℕ → List ℕ

@@ -5,7 +5,6 @@ ghost use Rattle.strip.specs.Triangles.{indices};
 ghost use Rattle.mesh_topology.specs.Ring.{ring_at};
 ghost use Rattle.mesh_topology.specs.Band.{band};
 ghost use Rattle.mesh_topology.specs.Quad.{grid_at, grid_edges, quad, quad_count};
-ghost use Rattle.grid_indices.specs.Grids.{GridFits};
 
 use grid_indices::grid::Grid;
 use ring_indices::ring::Ring;
@@ -21,9 +20,8 @@ fn write_frame(
     grid: Grid,
     positive: bool,
 ) -> usize
-    requires fact_1 { (c0 ≤ 64) × (c1 ≤ 64) × (c2 ≤ 64) × (c3 ≤ 64) }
-    requires fact_2 { GridFits grid }
-    requires fact_3 { at + 3 * (c0 + c1 + c2 + c3 + 2 * grid.a + 2 * grid.b) ≤ length out.old }
+    requires outer { (c0 ≤ 64) × (c1 ≤ 64) × (c2 ≤ 64) × (c3 ≤ 64) }
+    requires room { at + 3 * (c0 + c1 + c2 + c3 + 2 * grid.a + 2 * grid.b) ≤ length out.old }
     ensures { Wrote out.old at (indices positive (band (ring_at 0 (c0 + c1 + c2 + c3))
         (grid_edges (grid_at grid.start grid.width) grid.a grid.b c0 c1 c2 c3))) out.new result }
 {
@@ -49,9 +47,9 @@ pub fn write_quad(
     n: u32,
     positive: bool,
 ) -> usize
-    requires fact_1 { (c0 ≤ 64) × (c1 ≤ 64) × (c2 ≤ 64) × (c3 ≤ 64) }
-    requires fact_2 { (2 ≤ m) × (m ≤ 64) × (2 ≤ n) × (n ≤ 64) }
-    requires fact_3 { at + 3 * quad_count c0 c1 c2 c3 m n ≤ length out.old }
+    requires outer { (c0 ≤ 64) × (c1 ≤ 64) × (c2 ≤ 64) × (c3 ≤ 64) }
+    requires inner { (2 ≤ m) × (m ≤ 64) × (2 ≤ n) × (n ≤ 64) }
+    requires room { at + 3 * quad_count c0 c1 c2 c3 m n ≤ length out.old }
     ensures { Wrote out.old at (indices positive (quad 0 c0 c1 c2 c3 m n)) out.new result }
 {
     let grid = Grid {

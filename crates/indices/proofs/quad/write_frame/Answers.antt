@@ -48,9 +48,9 @@ returns c =
     let l1 = c.bottom in
     let l2 = c.right in
     let l3 = c.top in
-    band_step a.positive F 0 0 e0 l0.result refl l0.ensures (e1 ∷ e2 ∷ e3 ∷ []) (omega (arith, c.requires.fact_3)) c.write_strip-w.ensures
+    band_step a.positive F 0 0 e0 l0.result refl l0.ensures (e1 ∷ e2 ∷ e3 ∷ []) (omega (arith, c.requires.room)) c.write_strip-w.ensures
     (band_step a.positive F a.c0 (0 + a.c0) e1 l1.result (omega arith) l1.ensures (e2 ∷ e3 ∷ [])
-    (omega (arith, c.requires.fact_3, first, c.write_strip-w.auto.out)) c.write_strip-w-2.ensures
+    (omega (arith, c.requires.room, first, c.write_strip-w.auto.out)) c.write_strip-w-2.ensures
     (band_step a.positive F (a.c0 + a.c1) (0 + a.c0 + a.c1) e2 l2.result (omega arith) l2.ensures (e3 ∷ [])
-    (omega (arith, c.requires.fact_3, first, second, c.write_strip-w.auto.out, c.write_strip-w-2.auto.out)) c.write_strip-w-3.ensures
+    (omega (arith, c.requires.room, first, second, c.write_strip-w.auto.out, c.write_strip-w-2.auto.out)) c.write_strip-w-3.ensures
     (band_last a.positive F (a.c0 + a.c1 + a.c2) (0 + a.c0 + a.c1 + a.c2) e3 l3.result (omega arith) l3.ensures c.write_strip.ensures)))

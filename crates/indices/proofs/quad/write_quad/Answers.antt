@@ -4,8 +4,8 @@ use Rattle.buffer.proofs.Laws.{wrote_then}
 use Rattle.indices.proofs.Quads.{frame_length, quad_words}
 use Rattle.indices.proofs.quad.write_quad.Goals as goal
 
-pub write_cells-requires-clause-room : goal.write_cells-requires-clause-room
-write_cells-requires-clause-room c =
+pub write_cells-requires : goal.write_cells-requires
+write_cells-requires c =
     let a = c.args in
     omega (arith, c.write_frame-w.auto.out, frame_length a.positive a.c0 a.c1 a.c2 a.c3 (a.c0 + a.c1 + a.c2 + a.c3) a.m a.n)
 

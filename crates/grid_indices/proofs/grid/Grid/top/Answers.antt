@@ -2,4 +2,4 @@ use Rattle.grid_indices.proofs.Grids.{follows_top}
 use Rattle.grid_indices.proofs.grid.Grid.top.Goals as goal
 
 pub returns : goal.returns
-returns c = follows_top c.args.self c.requires
+returns c = follows_top c.args.self
