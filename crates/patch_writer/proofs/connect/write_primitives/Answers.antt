@@ -22,7 +22,7 @@ pub write_plain_quad-requires : goal.write_plain_quad-requires
 unfolding primitive_count
 write_plain_quad-requires c = omega (arith, count_fits c.args.positive PlainQuad c.requires.room c.in-PlainQuad.is tt)
 
-pub write_quad-requires-clause-room : goal.write_quad-requires-clause-fact_3
+pub write_quad-requires-clause-room : goal.write_quad-requires-clause-room
 write_quad-requires-clause-room c =
     let is = c.in-Quad in
     let v = valid_as c.requires.valid is.is in
