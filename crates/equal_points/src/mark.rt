@@ -28,10 +28,7 @@ pub(crate) fn is_clear(points: &[u32], mark: u16, p: Point) -> bool
 pub(crate) fn mark_after(mark: u16, j: usize) -> u16
     ensures { NewMark mark j result }
 {
-    if mark != 0 {
-        return 65535;
-    }
-    if 65534 <= j {
+    if mark != 0 || 65534 <= j {
         return 65535;
     }
     (j + 1) as u16

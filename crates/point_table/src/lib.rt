@@ -15,8 +15,8 @@ use mesh_geometry::Point;
 // Returns the slot of a point, of `slots` slots.
 pub fn slot_of(p: Point, slots: usize) -> usize
     requires { 0 < slots }
-    ensures fact_1 { result ≡ slot_of slots p }
-    ensures fact_2 { result < slots }
+    ensures slot { result ≡ slot_of slots p }
+    ensures below { result < slots }
 {
     ((p.u as u64 + 65 * (p.v as u64) + 4225 * (p.w as u64)) % (slots as u64)) as usize
 }
@@ -41,9 +41,9 @@ fn turn(p: Point) -> Point
 
 // Returns the place of a point equal to p in the table of the first `count` points, or the empty place for it.
 pub fn seek(points: &[u32], count: usize, table: &[u16], slots: usize, p: Point) -> usize
-    requires fact_1 { PointTable (read_points points.now) slots count table.now }
-    requires fact_2 { count ≤ length points.now / 3 }
-    requires fact_3 { 0 < slots }
+    requires filled { PointTable (read_points points.now) slots count table.now }
+    requires known { count ≤ length points.now / 3 }
+    requires slotted { 0 < slots }
     ensures { PointSought (read_points points.now) slots count table.now p result }
 {
     let mut x = slot_of(p, slots);
@@ -62,22 +62,20 @@ pub fn seek(points: &[u32], count: usize, table: &[u16], slots: usize, p: Point)
 
 // Puts the points into an empty table, up to the first point that equals an earlier point; returns the number of that point, or of all points.
 pub fn fill(points: &[u32], table: &mut [u16], slots: usize) -> usize
-    requires fact_1 { PointTable (read_points points.now) slots 0 table.old }
-    requires fact_2 { 0 < slots }
-    requires fact_3 { slots + 2 * (length points.now / 3) ≤ length table.old }
-    requires fact_4 { length points.now / 3 < 65536 }
-    ensures fact_1 { result ≡ first_repeated (read_points points.now) }
-    ensures fact_2 { PointTable (read_points points.now) slots result table.new }
+    requires empty { PointTable (read_points points.now) slots 0 table.old }
+    requires slotted { 0 < slots }
+    requires room { slots + 2 * (length points.now / 3) ≤ length table.old }
+    requires few { length points.now / 3 < 65536 }
+    ensures first { result ≡ first_repeated (read_points points.now) }
+    ensures filled { PointTable (read_points points.now) slots result table.new }
 {
     let count = points.len() / 3;
-    let mut j = 0;
-    while j < count {
+    for j in 0..count {
         let x = seek(points, j, table, slots, point_at(points, j));
         if table[x] != 0 {
             return j;
         }
         table[x] = (j + 1) as u16;
-        j += 1;
     }
-    j
+    count
 }

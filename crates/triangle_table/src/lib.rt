@@ -17,39 +17,34 @@ use strip::triangle::Triangle;
 
 // Fills the table with all sides, repeated ones included.
 pub fn fill(indices: &[u16], heads: &mut [u16], links: &mut [u32])
-    requires fact_1 { Zeros heads.old }
-    requires fact_2 { AllNumbered (length heads.old) indices.now }
-    requires fact_3 { length indices.now ≤ length links.old }
-    requires fact_4 { length indices.now < 65536 }
+    requires empty { Zeros heads.old }
+    requires numbered { AllNumbered (length heads.old) indices.now }
+    requires room { length indices.now ≤ length links.old }
+    requires few { length indices.now < 65536 }
     ensures { Linked (read_triangles indices.now) (length indices.now / 3 * 3) heads.new links.new }
 {
     let sides = indices.len() / 3 * 3;
-    let mut m = 0;
-    while m < sides {
+    for m in 0..sides {
         add_side(indices, m, heads, links, indices[m], end_at(indices, m));
-        m += 1;
     }
 }
 
 // Whether side m, which starts at t's first corner and has this link, ends at t's second corner, and its triangle is t up to rotation.
 fn is_at(indices: &[u16], m: usize, link: u32, t: Triangle) -> bool
-    requires fact_1 { m < length indices.now / 3 * 3 }
-    requires fact_2 { link % 65536 ≡ side_end (read_triangles indices.now) m }
-    requires fact_3 { side_start (read_triangles indices.now) m ≡ t.a }
+    requires in_range { m < length indices.now / 3 * 3 }
+    requires ends { link % 65536 ≡ side_end (read_triangles indices.now) m }
+    requires starts { side_start (read_triangles indices.now) m ≡ t.a }
     ensures { result ≡ hits (read_triangles indices.now) t m }
 {
-    if end_in(link) != t.b {
-        return false;
-    }
-    same_triangle(triangle_at(indices, m / 3), t)
+    end_in(link) == t.b && same_triangle(triangle_at(indices, m / 3), t)
 }
 
 // Whether one of the first n triangles is t, up to rotation; `from` is one more than the last of their sides that starts at t's
 // first corner, or 0.
 fn walk(indices: &[u16], heads: &[u16], links: &[u32], n: usize, from: usize, t: Triangle) -> bool
-    requires fact_1 { Linked (read_triangles indices.now) (length indices.now / 3 * 3) heads.now links.now }
-    requires fact_2 { n ≤ length indices.now / 3 }
-    requires fact_3 { from ≡ last_from (read_triangles indices.now) (n * 3) t.a }
+    requires linked { Linked (read_triangles indices.now) (length indices.now / 3 * 3) heads.now links.now }
+    requires in_range { n ≤ length indices.now / 3 }
+    requires begins { from ≡ last_from (read_triangles indices.now) (n * 3) t.a }
     ensures { result ≡ some_face (read_triangles indices.now) t n }
 {
     let mut k = from;
@@ -65,8 +60,8 @@ fn walk(indices: &[u16], heads: &[u16], links: &[u32], n: usize, from: usize, t:
 
 // Whether one of the triangles is t, up to rotation.
 pub fn has_triangle(indices: &[u16], heads: &[u16], links: &[u32], t: Triangle) -> bool
-    requires fact_1 { Linked (read_triangles indices.now) (length indices.now / 3 * 3) heads.now links.now }
-    requires fact_2 { t.a < length heads.now }
+    requires linked { Linked (read_triangles indices.now) (length indices.now / 3 * 3) heads.now links.now }
+    requires has_head { t.a < length heads.now }
     ensures { result ≡ some_face (read_triangles indices.now) t (length indices.now / 3) }
 {
     let x = t.a;
@@ -82,9 +77,9 @@ pub fn has_triangle(indices: &[u16], heads: &[u16], links: &[u32], t: Triangle) 
 
 // Whether a triangle before number k is t, up to rotation; t is triangle k.
 pub fn has_earlier(indices: &[u16], heads: &[u16], links: &[u32], k: usize, t: Triangle) -> bool
-    requires fact_1 { Linked (read_triangles indices.now) (length indices.now / 3 * 3) heads.now links.now }
-    requires fact_2 { k < length indices.now / 3 }
-    requires fact_3 { t ≡ triangle_at (read_triangles indices.now) k }
+    requires linked { Linked (read_triangles indices.now) (length indices.now / 3 * 3) heads.now links.now }
+    requires in_range { k < length indices.now / 3 }
+    requires is_triangle { t ≡ triangle_at (read_triangles indices.now) k }
     ensures { result ≡ some_face (read_triangles indices.now) t k }
 {
     walk(indices, heads, links, k, before_in(links[k * 3]), t)

@@ -1,4 +1,3 @@
-use Prim.Native.Nat.{◌-◌, ◌≤◌}
 use mathlib.Core.Path.{◌≡◌}
 use lib.ListN.{length}
 use Rattle.mesh_geometry.specs.Words.{read_points}
@@ -8,7 +7,4 @@ use Rattle.point_table.specs.Trees.{PointTable}
 use Rattle.point_table.proofs.fill.Given as goal
 
 abbrev pub invariant-loop-j : goal.invariant-loop-j
-invariant-loop-j l = (l.j ≤ l.count) × Below (repeats (read_points l.points)) l.j × PointTable (read_points l.points) l.slots l.j l.table × (length l.table ≡ length l.initial.table)
-
-abbrev pub decreases-loop-j : goal.decreases-loop-j
-decreases-loop-j l = l.count - l.j
+invariant-loop-j l = Below (repeats (read_points l.points)) l.j × PointTable (read_points l.points) l.slots l.j l.table × (length l.table ≡ length l.initial.table)

@@ -6,7 +6,7 @@ use Rattle.point_table.proofs.seek.Goals as goal
 pub loop-k-init : goal.loop-k-init
 loop-k-init c =
     let s = c.slot_of-x in
-    (passed_none _ _ _ _ s.result s.ensures.fact_1, refl, omega (arith, s.ensures.fact_2), c.requires.fact_1.most s.result)
+    (passed_none _ _ _ _ s.result s.ensures.slot, refl, omega (arith, s.ensures.below), c.requires.filled.most s.result)
 
 pub returns-then-lies_at : goal.returns-then-lies_at
 returns-then-lies_at c =
@@ -16,7 +16,7 @@ returns-then-lies_at c =
 pub loop-k-preserved : goal.loop-k-preserved
 loop-k-preserved c =
     let l = c.loop-k in
-    let g = c.requires.fact_1 in
+    let g = c.requires.filled in
     let b = c.next_bit in (
       passed_more _ _ _ _ l.k b.result l.invariant.0 l.invariant.1 (omega arith)
           (sym c.lies_at.ensures ∙ c.if-lies_at.false) c.turn-rest.ensures b.ensures.0,
@@ -28,4 +28,4 @@ loop-k-preserved c =
 pub returns : goal.returns
 returns c =
     let l = c.loop-k in
-    sought_empty l.invariant.0 l.invariant.2 c.requires.fact_1 (omega (arith, l.invariant.1))
+    sought_empty l.invariant.0 l.invariant.2 c.requires.filled (omega (arith, l.invariant.1))

@@ -12,7 +12,7 @@ unfolding first_repeated
 returns-then-repeats_earlier c =
     let l = c.loop-j in
     let xs = c.args.points.now in
-    sym (first_at _ _ l.j (omega (arith, points_count xs)) l.invariant.1 (sym c.repeats_earlier.ensures ∙ c.if-repeats_earlier.true))
+    sym (first_at _ _ l.j (omega (arith, points_count xs)) l.invariant.0 (sym c.repeats_earlier.ensures ∙ c.if-repeats_earlier.true))
 
 pub returns : goal.returns
 unfolding first_repeated
@@ -20,4 +20,4 @@ returns c =
     let l = c.loop-j in
     let xs = c.args.points.now in
     let e : l.j ≡ length (read_points xs) = omega (arith, points_count xs) in
-    e ∙ sym (first_none _ _ (rw e at l.invariant.1))
+    sym (points_count xs) ∙ sym (first_none _ _ (rw e at l.invariant.0))

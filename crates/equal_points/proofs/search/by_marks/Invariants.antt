@@ -1,4 +1,3 @@
-use Prim.Native.Nat.{◌-◌, ◌≤◌}
 use mathlib.Core.Path.{◌≡◌}
 use lib.ListN.{length}
 use Rattle.mesh_geometry.specs.Words.{read_points}
@@ -8,7 +7,4 @@ use Rattle.equal_points.specs.Marks.{Marks}
 use Rattle.equal_points.proofs.search.by_marks.Given as goal
 
 abbrev pub invariant-loop-j : goal.invariant-loop-j
-invariant-loop-j l = (l.j ≤ l.count) × Below (repeats (read_points l.points)) l.j × Marks (read_points l.points) l.slots l.j l.marks × (length l.marks ≡ l.slots)
-
-abbrev pub decreases-loop-j : goal.decreases-loop-j
-decreases-loop-j l = l.count - l.j
+invariant-loop-j l = Below (repeats (read_points l.points)) l.j × Marks (read_points l.points) l.slots l.j l.marks × (length l.marks ≡ l.slots)
