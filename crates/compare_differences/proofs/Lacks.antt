@@ -1,7 +1,7 @@
 -- Each return of the tests for a difference. Assumes nothing.
 use Prim.Native.Nat.{ℕ, ◌/◌, ◌≤◌, ◌<◌}
 use mathlib.Core.Path.{◌≡◌, refl, sym, ap, ◌∙◌}
-use mathlib.Core.Bool.{Bool, true, false, not}
+use mathlib.Core.Bool.{Bool, true, false, not, true≢false}
 use mathlib.Core.List.{List}
 use native.Mathlib.Omega.{arith}
 use lib.ListN.{length, get_or}
@@ -17,8 +17,7 @@ use Rattle.check_searches.proofs.First.{some_here, some_none}
 use Rattle.check_searches.proofs.Read.{points_count, triangles_count}
 use Rattle.strip.specs.declared.triangle.Triangle.{Triangle}
 use Rattle.check_searches.specs.Indices.{AllNumbered}
-use Rattle.compare_differences.specs.declared.corners.Match.{Match}
-use Rattle.compare_differences.specs.declared.corners.Match.TheVariants.{Corners, Missing}
+use Rattle.std.specs.Prelude.{Option, Some, None, IfSome, is_some, unwrap_or}
 use Rattle.compare_differences.specs.Lacking.{Row, among, lacks}
 use Rattle.compare_differences.specs.Meshes.{NoneRepeated, DistinctAndNumbered, point_row, face_row, same_face}
 use Rattle.compare_differences.specs.Found.{PointFound, Matched, is_match, some_triangle, InPlace}
@@ -42,6 +41,15 @@ module _ (pw ow : List ℕ) (k : ℕ) where
       none : among same_point (point_row ow) (point_row ow).count (at (read_points pw) k) ≡ false
       none = rw (← e) (some_none (λ i. same_point (at (read_points ow) i) p) (length (read_points ow)) (λ i n. h.none (omega (arith, h.most)) i (omega (arith, points_count ow))))
 
+  -- what a search for it found tells whether it is lacked
+  pub point_told : (p : Point) (o : Option ℕ) (b : Bool) → p ≡ at (read_points pw) k → NoneRepeated pw → k < length pw / 3
+      → PointFound (read_points ow) (length ow / 3) p (unwrap_or o (length ow / 3)) → IfSome o (λ r. r < length ow / 3) → is_some o ≡ not b
+      → b ≡ lacks same_point (point_row pw) (point_row ow) k
+  point_told p (Some r) true e s m h l q = absurd (true≢false q)
+  point_told p (Some r) false e s m h l q = sym (point_found p r e h l)
+  point_told p None true e s m h l q = sym (point_missing p (length ow / 3) e s m h (omega arith))
+  point_told p None false e s m h l q = absurd (true≢false (sym q))
+
 -- the other mesh has the triangle at the same number
 pub in_place_found : (xs ys : Row Face) (k : ℕ) → InPlace xs ys k → lacks same_face xs ys k ≡ false
 in_place_found xs ys k h = lacks_found same_face xs ys k (some_here (λ i. same_face (ys.entry i) (xs.entry k)) ys.count k h.number (in_order (ys.entry k) (xs.entry k) h.same))
@@ -56,17 +64,17 @@ pub held_near : (ts : List Triangle) (t : Triangle) (from to : ℕ) (r : Bool) �
 held_near ts t from to r h l e = let w = h.yes e in sym (some_here (λ i. same_triangle (triangle_at ts i) t) (length ts) w.0 (omega (arith, w.1)) w.2)
 
 -- searching a mesh's triangles by number for a match
-pub among_match : (pw iw : List ℕ) → AllNumbered (length (read_points pw)) iw → ((k : ℕ) → get_or iw k 0 < 65536) → (f : Face) (m : Match) → Matched (read_points pw) f m
+pub among_match : (pw iw : List ℕ) → AllNumbered (length (read_points pw)) iw → ((k : ℕ) → get_or iw k 0 < 65536) → (f : Face) (m : Option Triangle) → Matched (read_points pw) f m
     → some_below (λ i. is_match m (triangle_at (read_triangles iw) i)) (length (read_triangles iw)) ≡ among same_face (face_row pw iw) (face_row pw iw).count f
 among_match pw iw h small f m w = some_same _ _ _ (λ i l. sym (w.each (triangle_at (read_triangles iw) i) (cornered pw iw h small i (omega (arith, triangles_count iw)))))
 
-pub has_found : (pw iw : List ℕ) → AllNumbered (length (read_points pw)) iw → ((k : ℕ) → get_or iw k 0 < 65536) → (f : Face) (m : Match) (s : Triangle) (r : Bool) → Matched (read_points pw) f m
-    → m ≡ Corners s → r ≡ some_triangle (read_triangles iw) s → r ≡ among same_face (face_row pw iw) (face_row pw iw).count f
-has_found pw iw h small f m s r w e t = t ∙ among_match pw iw h small f (Corners s) (rw e at w)
+pub has_found : (pw iw : List ℕ) → AllNumbered (length (read_points pw)) iw → ((k : ℕ) → get_or iw k 0 < 65536) → (f : Face) (m : Option Triangle) (s : Triangle) (r : Bool) → Matched (read_points pw) f m
+    → m ≡ Some s → r ≡ some_triangle (read_triangles iw) s → r ≡ among same_face (face_row pw iw) (face_row pw iw).count f
+has_found pw iw h small f m s r w e t = t ∙ among_match pw iw h small f (Some s) (rw e at w)
 
-pub has_missing : (pw iw : List ℕ) → AllNumbered (length (read_points pw)) iw → ((k : ℕ) → get_or iw k 0 < 65536) → (f : Face) (m : Match) → Matched (read_points pw) f m
-    → m ≡ Missing → false ≡ among same_face (face_row pw iw) (face_row pw iw).count f
-has_missing pw iw h small f m w e = sym (some_none (λ i. false) (length (read_triangles iw)) (λ i l. refl)) ∙ among_match pw iw h small f Missing (rw e at w)
+pub has_missing : (pw iw : List ℕ) → AllNumbered (length (read_points pw)) iw → ((k : ℕ) → get_or iw k 0 < 65536) → (f : Face) (m : Option Triangle) → Matched (read_points pw) f m
+    → m ≡ None → false ≡ among same_face (face_row pw iw) (face_row pw iw).count f
+has_missing pw iw h small f m w e = sym (some_none (λ i. false) (length (read_triangles iw)) (λ i l. refl)) ∙ among_match pw iw h small f None (rw e at w)
 
 -- searching a mesh's earlier triangles for one of its own
 pub among_own : (pw iw : List ℕ) → DistinctAndNumbered pw iw → ((k : ℕ) → get_or iw k 0 < 65536) → (k : ℕ) → k < length iw / 3

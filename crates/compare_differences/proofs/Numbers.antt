@@ -20,7 +20,7 @@ use Rattle.check_searches.proofs.Read.{points_count, triangle_read}
 use Rattle.check_searches.proofs.Equal.{same_is, is_same}
 use Rattle.strip.specs.declared.triangle.Triangle.{Triangle}
 use Rattle.check_searches.specs.Indices.{AllNumbered}
-use Rattle.compare_differences.specs.declared.corners.Match.TheVariants.{Corners, Missing}
+use Rattle.std.specs.Prelude.{Some, None}
 use Rattle.compare_differences.specs.Meshes.{NoneRepeated, same_face}
 use Rattle.compare_differences.specs.Found.{PointFound, Cornered, Matched}
 
@@ -89,7 +89,7 @@ module _ (pw : List ℕ) (count : ℕ) (f : Face) where
   -- all three corners are found
   pub match_found : (p q r : Point) (x y z : ℕ) → NoneRepeated pw → count ≤ length pw / 3 → count ≤ 65536 → PointFound (read_points pw) count p x
       → PointFound (read_points pw) count q y → PointFound (read_points pw) count r z → p ≡ f.p → q ≡ f.q → r ≡ f.r → x < count → y < count → z < count
-      → Matched (read_points pw) f (Corners (record { a = x; b = y; c = z }))
+      → Matched (read_points pw) f (Some (record { a = x; b = y; c = z }))
   match_found p q r x y z s least small hx hy hz ep eq er lx ly lz =
       let n = points_count pw in
       record {
@@ -103,13 +103,13 @@ module _ (pw : List ℕ) (count : ℕ) (f : Face) where
     none : (q : Point) → p ≡ q → (i : ℕ) → i < length (read_points pw) → i < 65536 → same_point (at (read_points pw) i) q ≡ false
     none q e i m k = rw (← e) (h.none (omega (arith, h.most)) i (cap i (omega (arith, points_count pw)) k))
 
-    pub missing_p : p ≡ f.p → Matched (read_points pw) f Missing
+    pub missing_p : p ≡ f.p → Matched (read_points pw) f None
     missing_p e = record { each = λ t m. simp (none f.p e t.a m.a m.small_a, none f.p e t.b m.b m.small_b, none f.p e t.c m.c m.small_c, and-false) }
 
-    pub missing_q : p ≡ f.q → Matched (read_points pw) f Missing
+    pub missing_q : p ≡ f.q → Matched (read_points pw) f None
     missing_q e = record { each = λ t m. simp (none f.q e t.a m.a m.small_a, none f.q e t.b m.b m.small_b, none f.q e t.c m.c m.small_c, and-false) }
 
-    pub missing_r : p ≡ f.r → Matched (read_points pw) f Missing
+    pub missing_r : p ≡ f.r → Matched (read_points pw) f None
     missing_r e = record { each = λ t m. simp (none f.r e t.a m.a m.small_a, none f.r e t.b m.b m.small_b, none f.r e t.c m.c m.small_c, and-false) }
 
 -- the triangle's corners are below n

@@ -1,5 +1,5 @@
 -- What the searches for a point and for a triangle establish. Assumes nothing.
-use Rattle.std.specs.Prelude.{ℕ, ◌≤◌, ◌<◌, ◌≡◌, Bool, true, false, List, length}
+use Rattle.std.specs.Prelude.{ℕ, ◌≤◌, ◌<◌, ◌≡◌, Bool, true, false, List, Option, Some, None, length}
 use Rattle.mesh_geometry.specs.declared.Point.{Point}
 use Rattle.mesh_geometry.specs.Cover.{Face}
 use Rattle.mesh_geometry.specs.Faces.{at, face_of}
@@ -8,8 +8,6 @@ use Rattle.check_searches.specs.Points.{same_point}
 use Rattle.check_searches.specs.Triangles.{triangle_at}
 use Rattle.check_side_searches.specs.Same.{same_triangle}
 use Rattle.strip.specs.declared.triangle.Triangle.{Triangle}
-use Rattle.compare_differences.specs.declared.corners.Match.{Match}
-use Rattle.compare_differences.specs.declared.corners.Match.TheVariants.{Corners, Missing}
 use Rattle.compare_differences.specs.Lacking.{Row}
 use Rattle.compare_differences.specs.Meshes.{same_corners, same_face}
 
@@ -36,12 +34,12 @@ pub record Cornered (n : ℕ) (t : Triangle) : Type 0 where
   pub small_c : t.c < 65536
 
 -- whether t is the triangle with these corners; false for every t if a corner is missing
-abbrev pub is_match : Match → Triangle → Bool
-is_match (Corners s) t = same_triangle t s
-is_match Missing t = false
+abbrev pub is_match : Option Triangle → Triangle → Bool
+is_match (Some s) t = same_triangle t s
+is_match None t = false
 
 -- m gives the corners of f among the points ps: a triangle by number is f exactly if it matches m
-pub record Matched (ps : List Point) (f : Face) (m : Match) : Type 0 where
+pub record Matched (ps : List Point) (f : Face) (m : Option Triangle) : Type 0 where
   pub each : (t : Triangle) → Cornered (length ps) t → same_face (face_of (at ps) t) f ≡ is_match m t
 
 -- whether one of the triangles is t, up to rotation

@@ -2,6 +2,7 @@
 #![tactic(auto)]
 
 mod corners;
+pub mod mesh;
 mod place;
 mod point;
 pub mod side;

@@ -5,13 +5,7 @@ ghost use Rattle.std.specs.Prelude.{◌≤◌};
 pub(crate) fn window_start(near: usize, count: usize) -> usize
     ensures { result ≤ count }
 {
-    if near < 64 {
-        return 0;
-    }
-    if near - 64 < count {
-        return near - 64;
-    }
-    count
+    near.saturating_sub(64).min(count)
 }
 
 // Returns the end of the window: 128 after its start, or `count`.
@@ -19,8 +13,5 @@ pub(crate) fn window_end(start: usize, count: usize) -> usize
     requires { start ≤ count }
     ensures { (start ≤ result) × (result ≤ count) }
 {
-    if 128 < count - start {
-        return start + 128;
-    }
-    count
+    start.saturating_add(128).min(count)
 }

@@ -5,6 +5,8 @@ ghost use Rattle.compare_differences.specs.Lacking.{lacks};
 ghost use Rattle.compare_differences.specs.Meshes.{NoneRepeated, DistinctAndNumbered, point_row, face_row, same_face};
 ghost use Rattle.compare_table_flags.specs.Flags.{PointFlags, FaceFlags};
 
+use compare_differences::mesh::SoundMesh;
+
 pub(crate) fn lacks_point(
     points: &[u32],
     k: usize,
@@ -41,5 +43,10 @@ pub(crate) fn lacks_face(
     if known {
         return flags[k] == 1;
     }
-    compare_differences::side::lacks_face(points, indices, k, other_points, other_indices)
+    let mesh = SoundMesh { points, indices };
+    let other = SoundMesh {
+        points: other_points,
+        indices: other_indices,
+    };
+    compare_differences::side::lacks_face(mesh, k, other)
 }

@@ -22,7 +22,7 @@ use Rattle.strip.specs.declared.triangle.Triangle.{Triangle}
 use Rattle.check_searches.specs.Indices.{AllNumbered}
 use Rattle.point_table.specs.Trees.{PointTable}
 use Rattle.triangle_table.specs.Hits.{some_face}
-use Rattle.compare_differences.specs.declared.corners.Match.TheVariants.{Corners, Missing}
+use Rattle.std.specs.Prelude.{Some, None}
 use Rattle.compare_differences.specs.Lacking.{among}
 use Rattle.compare_differences.specs.Meshes.{NoneRepeated, DistinctAndNumbered, face_row, same_face}
 use Rattle.compare_differences.specs.Found.{PointFound, Cornered}
@@ -125,22 +125,22 @@ module _ (pw ow jw ms : List ℕ) (g : DistinctAndNumbered ow jw) (small : (k : 
   face = face_of (at (read_points pw)) t
 
   pub corner_missing_a : length ow / 3 ≤ get_or ms t.a 0 → false ≡ among same_face (face_row ow jw) (face_row ow jw).count (face_of (at (read_points pw)) t)
-  corner_missing_a l = has_missing ow jw g.numbered small (face_of (at (read_points pw)) t) Missing
+  corner_missing_a l = has_missing ow jw g.numbered small (face_of (at (read_points pw)) t) None
       (missing_p ow (length ow / 3) (face_of (at (read_points pw)) t) (λ i k j. k) (at (read_points pw) t.a) (get_or ms t.a 0) (p.all.each t.a m.a) l refl) refl
 
   pub corner_missing_b : length ow / 3 ≤ get_or ms t.b 0 → false ≡ among same_face (face_row ow jw) (face_row ow jw).count (face_of (at (read_points pw)) t)
-  corner_missing_b l = has_missing ow jw g.numbered small (face_of (at (read_points pw)) t) Missing
+  corner_missing_b l = has_missing ow jw g.numbered small (face_of (at (read_points pw)) t) None
       (missing_q ow (length ow / 3) (face_of (at (read_points pw)) t) (λ i k j. k) (at (read_points pw) t.b) (get_or ms t.b 0) (p.all.each t.b m.b) l refl) refl
 
   pub corner_missing_c : length ow / 3 ≤ get_or ms t.c 0 → false ≡ among same_face (face_row ow jw) (face_row ow jw).count (face_of (at (read_points pw)) t)
-  corner_missing_c l = has_missing ow jw g.numbered small (face_of (at (read_points pw)) t) Missing
+  corner_missing_c l = has_missing ow jw g.numbered small (face_of (at (read_points pw)) t) None
       (missing_r ow (length ow / 3) (face_of (at (read_points pw)) t) (λ i k j. k) (at (read_points pw) t.c) (get_or ms t.c 0) (p.all.each t.c m.c) l refl) refl
 
   pub corners_found : (x y z : ℕ) (r : Bool) → x ≡ get_or ms t.a 0 → y ≡ get_or ms t.b 0 → z ≡ get_or ms t.c 0 → x < length ow / 3 → y < length ow / 3 → z < length ow / 3
       → length ow / 3 ≤ 65536 → r ≡ some_face (read_triangles jw) (record { a = x; b = y; c = z }) (length jw / 3)
       → r ≡ among same_face (face_row ow jw) (face_row ow jw).count (face_of (at (read_points pw)) t)
   corners_found x y z r ex ey ez lx ly lz few h =
-      has_found ow jw g.numbered small (face_of (at (read_points pw)) t) (Corners (record { a = x; b = y; c = z })) (record { a = x; b = y; c = z }) r
+      has_found ow jw g.numbered small (face_of (at (read_points pw)) t) (Some (record { a = x; b = y; c = z })) (record { a = x; b = y; c = z }) r
       (match_found ow (length ow / 3) (face_of (at (read_points pw)) t) (at (read_points pw) t.a) (at (read_points pw) t.b) (at (read_points pw) t.c) x y z g.single (omega arith) few
       (rw ex (p.all.each t.a m.a)) (rw ey (p.all.each t.b m.b)) (rw ez (p.all.each t.c m.c)) refl refl refl lx ly lz)
       refl (rw (triangles_count jw) h)
