@@ -22,9 +22,9 @@ pub fn write_strip(out: &mut [u16], at: usize, outer: Line, inner: Line, positiv
     let r = inner.count;
     if p == r + 2 {
         if positive {
-            return alternate::write_plain(out, at, outer, inner);
+            return alternate::write_alternating::<true>(out, at, outer, inner);
         }
-        return alternate::write_turned(out, at, outer, inner);
+        return alternate::write_alternating::<false>(out, at, outer, inner);
     }
     strip_walk::write_walk(out, at, outer, inner, positive)
 }
