@@ -30,9 +30,9 @@ write_indices-requires c =
     let v = cut_valid a.settings a.patch is in
     let count = mode_count a.settings.point_mode c.turns_positive-positive.result c.in_ok-cut.cut v in
     record {
-      fact_1 = v;
-      fact_2 = cut_few a.settings a.patch is;
-      fact_3 = omega (arith, c.if-indices-words.false, c.index_count-words.ensures, count);
+      valid = v;
+      few = cut_few a.settings a.patch is;
+      room = omega (arith, c.if-indices-words.false, c.index_count-words.ensures, count);
     }
 
 pub returns : goal.returns

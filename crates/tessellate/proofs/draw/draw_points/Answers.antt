@@ -26,7 +26,7 @@ returns-then-vertices-points c =
 pub write_points-requires : goal.write_points-requires
 write_points-requires c =
     let v = cut_valid c.args.settings c.args.patch c.in_ok-cut.ensures in
-    record { fact_1 = v; fact_2 = omega (arith, c.if-vertices-points.false, c.point_count-points.ensures, point_count_lem c.in_ok-cut.cut v) }
+    record { valid = v; room = omega (arith, c.if-vertices-points.false, c.point_count-points.ensures, point_count_lem c.in_ok-cut.cut v) }
 
 pub returns : goal.returns
 returns c =
