@@ -8,24 +8,14 @@ use native.Mathlib.Decide.{dec_le}
 use lib.Dec.{eqb}
 use lib.ListN.{length}
 use borrow.Author.Tests.{eq-eqb, ne_eqb}
+use Rattle.std.specs.List.{list_any}
 use Rattle.patch.specs.Every.{some, every}
 
-module _ {A : Type 0} (test : A → Bool) (x : A) (xs : List A) (r : Bool) (e : r ≡ test x) where
-  -- the first element passes
-  pub some_first : r ≡ true → true ≡ some test (x ∷ xs)
-  unfolding some
-  some_first h = rw (← e, h)
-
-  -- the first element fails, and the others decide
-  pub some_rest : (s : Bool) → r ≡ false → s ≡ some test xs → s ≡ some test (x ∷ xs)
-  unfolding some
-  some_rest s h k = rw (← e, h) k
-
--- the last element decides
-pub some_last : {A : Type 0} (test : A → Bool) (x : A) (r : Bool) → r ≡ test x → r ≡ some test (x ∷ [])
+-- the library's word for the same
+pub some_any : {A : Type 0} (test : A → Bool) (xs : List A) → list_any test xs ≡ some test xs
 unfolding some
-some_last test x true e = rw (← e)
-some_last test x false e = rw (← e)
+some_any test [] = refl
+some_any test (x ∷ xs) = rw (some_any test xs)
 
 -- ---- all counts are 1 exactly if their sum is their number
 unfoldable pub total : {A : Type 0} → (A → ℕ) → List A → ℕ

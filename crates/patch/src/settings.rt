@@ -30,14 +30,10 @@ pub struct Settings {
 pub fn turns_positive(order: VertexOrder, origin: DomainOrigin) -> bool
     ensures { result ≡ positive order origin }
 {
-    match order {
-        VertexOrder::Clockwise => match origin {
-            DomainOrigin::UpperLeft => true,
-            DomainOrigin::LowerLeft => false,
-        },
-        VertexOrder::CounterClockwise => match origin {
-            DomainOrigin::UpperLeft => false,
-            DomainOrigin::LowerLeft => true,
-        },
+    match (order, origin) {
+        (VertexOrder::Clockwise, DomainOrigin::UpperLeft) => true,
+        (VertexOrder::Clockwise, DomainOrigin::LowerLeft) => false,
+        (VertexOrder::CounterClockwise, DomainOrigin::UpperLeft) => false,
+        (VertexOrder::CounterClockwise, DomainOrigin::LowerLeft) => true,
     }
 }

@@ -1,6 +1,5 @@
 // From the levels of a patch to the segments of its outer edges and inner levels.
 ghost use Rattle.std.specs.Prelude.{◌≡◌, [], ◌∷◌};
-ghost use Rattle.level.specs.Clamp.{lowest, highest};
 ghost use Rattle.level.specs.Discard.{discarded};
 ghost use Rattle.level.specs.Top.{Top};
 ghost use Rattle.patch.specs.Every.{some};
@@ -38,26 +37,7 @@ pub enum Subdivision {
 pub fn is_discarded(cut: Subdivision) -> bool
     ensures { result ≡ is_discarded cut }
 {
-    match cut {
-        Subdivision::Discarded => true,
-        Subdivision::PlainTriangle => false,
-        Subdivision::Triangle {
-            edge0: _,
-            edge1: _,
-            edge2: _,
-            inside: _,
-        } => false,
-        Subdivision::PlainQuad => false,
-        Subdivision::Quad {
-            edge0: _,
-            edge1: _,
-            edge2: _,
-            edge3: _,
-            rows: _,
-            columns: _,
-        } => false,
-        Subdivision::Lines { lines: _, along: _ } => false,
-    }
+    matches!(cut, Subdivision::Discarded)
 }
 
 // Returns the segments of each edge; levels are clamped to `top`, or one less for odd spacing.
@@ -85,68 +65,28 @@ pub fn subdivide(patch: Patch, spacing: Spacing, top: u32) -> Subdivision
 }
 
 // Whether one of the outer levels discards the patch.
-fn discards2(a: f32, b: f32) -> bool
-    ensures { result ≡ some discarded (a ∷ b ∷ []) }
+fn discards_any(outer: &[f32]) -> bool
+    ensures { result ≡ some discarded outer.now }
 {
-    if level::discards(a) {
-        true
-    } else {
-        level::discards(b)
-    }
+    outer.iter().any(|level| level::discards(*level))
 }
 
-fn discards3(a: f32, b: f32, c: f32) -> bool
-    ensures { result ≡ some discarded (a ∷ b ∷ c ∷ []) }
+// Returns the segments of a level.
+fn segments_in(level: f32, range: Range) -> Segments
+    ensures { Counted range.spacing range.top level result }
 {
-    if level::discards(a) {
-        true
-    } else {
-        discards2(b, c)
-    }
-}
-
-fn discards4(a: f32, b: f32, c: f32, d: f32) -> bool
-    ensures { result ≡ some discarded (a ∷ b ∷ c ∷ d ∷ []) }
-{
-    if level::discards(a) {
-        true
-    } else {
-        discards3(b, c, d)
-    }
-}
-
-// Returns the segments of a level whose spacing has the given range.
-fn segments_in(level: f32, spacing: Spacing, top: u32, range: Range) -> Segments
-    requires fact_1 { Top top }
-    requires fact_2 { range ≡ record { lowest = lowest spacing; highest = highest spacing top } }
-    ensures { Counted spacing top level result }
-{
-    let clamped = level::segments_in(level, spacing, top, range);
-    clamped.segments
+    range.segments_of(level).segments
 }
 
 // The same, given that the level `other` has the segments `own`: equal levels, which are common, are not computed twice.
-fn segments_beside(
-    level: f32,
-    other: f32,
-    own: Segments,
-    spacing: Spacing,
-    top: u32,
-    range: Range,
-) -> Segments
-    requires fact_1 { Top top }
-    requires fact_2 { range ≡ record { lowest = lowest spacing; highest = highest spacing top } }
-    requires fact_3 { Counted spacing top other own }
-    ensures { Counted spacing top level result }
+fn segments_beside(level: f32, other: f32, own: Segments, range: Range) -> Segments
+    requires { Counted range.spacing range.top other own }
+    ensures { Counted range.spacing range.top level result }
 {
-    if level > 0.0 {
-        if other > 0.0 {
-            if f32::to_bits(level) == f32::to_bits(other) {
-                return own;
-            }
-        }
+    if level > 0.0 && other > 0.0 && level.to_bits() == other.to_bits() {
+        return own;
     }
-    segments_in(level, spacing, top, range)
+    segments_in(level, range)
 }
 
 // Each count is at least 1, so all are 1 exactly if their sum is the number of counts.
@@ -161,14 +101,14 @@ fn triangle(
     requires { Top top }
     ensures { result ≡ subdivision spacing top (Patch.Triangles outer0 outer1 outer2 inner0) }
 {
-    if discards3(outer0, outer1, outer2) {
+    if discards_any(&[outer0, outer1, outer2]) {
         return Subdivision::Discarded;
     }
     let range = level::range_of(spacing, top);
-    let edge0 = segments_in(outer0, spacing, top, range);
-    let edge1 = segments_beside(outer1, outer0, edge0, spacing, top, range);
-    let edge2 = segments_beside(outer2, outer0, edge0, spacing, top, range);
-    let inner = segments_beside(inner0, outer0, edge0, spacing, top, range);
+    let edge0 = segments_in(outer0, range);
+    let edge1 = segments_beside(outer1, outer0, edge0, range);
+    let edge2 = segments_beside(outer2, outer0, edge0, range);
+    let inner = segments_beside(inner0, outer0, edge0, range);
     if edge0.count + edge1.count + edge2.count + inner.count == 4 {
         return Subdivision::PlainTriangle;
     }
@@ -194,16 +134,16 @@ fn quad(
     requires { Top top }
     ensures { result ≡ subdivision spacing top (Patch.Quads outer0 outer1 outer2 outer3 inner0 inner1) }
 {
-    if discards4(outer0, outer1, outer2, outer3) {
+    if discards_any(&[outer0, outer1, outer2, outer3]) {
         return Subdivision::Discarded;
     }
     let range = level::range_of(spacing, top);
-    let edge0 = segments_in(outer0, spacing, top, range);
-    let edge1 = segments_beside(outer1, outer0, edge0, spacing, top, range);
-    let edge2 = segments_beside(outer2, outer0, edge0, spacing, top, range);
-    let edge3 = segments_beside(outer3, outer0, edge0, spacing, top, range);
-    let inner_rows = segments_beside(inner0, outer0, edge0, spacing, top, range);
-    let inner_columns = segments_beside(inner1, outer0, edge0, spacing, top, range);
+    let edge0 = segments_in(outer0, range);
+    let edge1 = segments_beside(outer1, outer0, edge0, range);
+    let edge2 = segments_beside(outer2, outer0, edge0, range);
+    let edge3 = segments_beside(outer3, outer0, edge0, range);
+    let inner_rows = segments_beside(inner0, outer0, edge0, range);
+    let inner_columns = segments_beside(inner1, outer0, edge0, range);
     let outline = edge0.count + edge1.count + edge2.count + edge3.count;
     if outline + inner_rows.count + inner_columns.count == 6 {
         return Subdivision::PlainQuad;
@@ -224,12 +164,12 @@ fn isolines(spacing: Spacing, top: u32, outer0: f32, outer1: f32) -> Subdivision
     requires { Top top }
     ensures { result ≡ subdivision spacing top (Patch.Isolines outer0 outer1) }
 {
-    if discards2(outer0, outer1) {
+    if discards_any(&[outer0, outer1]) {
         return Subdivision::Discarded;
     }
     let whole = level::range_of(Spacing::Equal, top);
     let range = level::range_of(spacing, top);
-    let lines = segments_in(outer0, Spacing::Equal, top, whole);
-    let along = segments_in(outer1, spacing, top, range);
+    let lines = segments_in(outer0, whole);
+    let along = segments_in(outer1, range);
     Subdivision::Lines { lines, along }
 }

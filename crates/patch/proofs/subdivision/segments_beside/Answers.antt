@@ -13,4 +13,4 @@ same x y h k e = sym (of_bits-to_bits binary32 y (passes (fits binary32 y) k)) �
 pub returns-then-level-other : goal.returns-then-level-other
 returns-then-level-other c =
     let a = c.args in
-    subst (λ (x : Float). Counted a.spacing a.top x a.own) (same a.level a.other c.well_formed.0.1 c.well_formed.1.0.1 c.if-level-other.true) c.requires.fact_3
+    subst (λ (x : Float). Counted a.range.spacing a.range.top x a.own) (same a.level a.other c.well_formed.0.1 c.well_formed.1.0.1 c.if-level-other.true) c.requires

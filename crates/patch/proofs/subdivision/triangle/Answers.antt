@@ -6,9 +6,9 @@ use Rattle.patch.proofs.Every.{total}
 use Rattle.patch.proofs.Counts.{all_one, not_all_one}
 use Rattle.patch.proofs.subdivision.triangle.Goals as goal
 
-pub returns-then-discards3 : goal.returns-then-discards3
+pub returns-then-discards_any : goal.returns-then-discards_any
 unfolding subdivision
-returns-then-discards3 c = rw (← c.discards3.ensures, c.if-discards3.true)
+returns-then-discards_any c = rw (← c.discards_any.ensures, c.if-discards_any.true)
 
 -- the code's sum of counts is `total`
 pub returns-then-edge0-edge1-eq4 : goal.returns-then-edge0-edge1-eq4
@@ -16,13 +16,15 @@ unfolding subdivision total
 returns-then-edge0-edge1-eq4 c =
     let a = c.args in
     let xs : List Float = a.outer0 ∷ a.outer1 ∷ a.outer2 ∷ a.inner0 ∷ [] in
-    rw (← c.discards3.ensures, c.if-discards3.false, all_one a.spacing a.top c.requires xs (omega arith) c.if-edge0-edge1-eq4.true)
+    let r = c.range_of-range.result in
+    rw (← c.discards_any.ensures, c.if-discards_any.false, ← c.range_of-range.ensures.spacing, ← c.range_of-range.ensures.top, all_one r.spacing r.top r.is_top xs (omega arith) c.if-edge0-edge1-eq4.true)
 
 pub returns : goal.returns
 unfolding subdivision total
 returns c =
     let a = c.args in
     let xs : List Float = a.outer0 ∷ a.outer1 ∷ a.outer2 ∷ a.inner0 ∷ [] in
-    rw (← c.discards3.ensures, c.if-discards3.false, not_all_one a.spacing a.top c.requires xs (omega arith) c.if-edge0-edge1-eq4.false)
+    let r = c.range_of-range.result in
+    rw (← c.discards_any.ensures, c.if-discards_any.false, ← c.range_of-range.ensures.spacing, ← c.range_of-range.ensures.top, not_all_one r.spacing r.top r.is_top xs (omega arith) c.if-edge0-edge1-eq4.false)
     (rw (← c.segments_in-edge0.ensures.all, ← c.segments_beside-edge1.ensures.all)
-    (rw (← c.segments_beside-edge2.ensures.all, ← c.segments_beside-inner.ensures.all, ← c.as_inner-inside.ensures)))
+    (rw (← c.segments_beside-edge2.ensures.all, ← c.segments_beside-inner.ensures.all, c.range_of-range.ensures.spacing, ← c.as_inner-inside.ensures)))
