@@ -7,4 +7,4 @@ mod number;
 
 pub use head::{put_discarded, put_drawn, put_refused, put_title};
 pub use line::{put_ended, put_line1, put_line3};
-pub use number::put_long;
+pub use number::put_number;

@@ -11,9 +11,8 @@ pub fn put_ended(out: &mut [u8], at: usize, x: u32, end: u8) -> usize
     requires { at + length (digits x) + 1 ≤ length out.old }
     ensures { Wrote out.old at (digits x ++ (end ∷ [])) out.new result }
 {
-    let w = put_number(out, at, x);
-    out[w] = end;
-    w + 1
+    let w = put_number(out, at, x as u64);
+    buffer::put(out, w, end)
 }
 
 // Writes one number as a line.
