@@ -12,13 +12,13 @@ use Rattle.answer_codes.specs.AnswerCode.{AnswerCode}
 use Rattle.patch.specs.declared.settings.Settings.{Settings}
 use Rattle.job.specs.declared.cursor.Cursor.{Cursor}
 use Rattle.job.specs.declared.record.Record.{Record}
-use Rattle.job.specs.declared.next.NextRecord.{NextRecord}
-use Rattle.job.specs.declared.next.NextRecord.TheVariants.{Read, End, CutRecord, UnknownSetting}
+use Rattle.std.specs.Prelude.{Ok, Err, Some, None, Float}
+use Rattle.job.specs.declared.next.RecordError.TheVariants.{CutRecord, UnknownSetting}
 use Rattle.job_fields.specs.declared.setting.Kind.{Kind}
 use Rattle.job_fields.specs.declared.levels.Levels.{Levels}
 use Rattle.job_fields.specs.Settings.{choices, settings_at}
 use Rattle.job_fields.specs.Version.{record_size}
-use Rattle.job.specs.Records.{record_at}
+use Rattle.job.specs.Records.{Answer, read, record_at}
 use Rattle.job_fields.proofs.Limits.{first_none}
 use Rattle.job_bytes.specs.Written.{five_bytes, takes_top, record_bytes}
 use Rattle.job_bytes.specs.Patterns.{Agrees, record_of_bits}
@@ -40,23 +40,23 @@ pub record WasRead (n : ℕ) (bs : List ℕ) (at : ℕ) : Type 0 where
   pub x : Record
   pub next : Cursor
   pub known : is_version n ≡ true
-  pub is : record_at (version_of_number n) bs at ≡ Read x next
+  pub is : record_at (version_of_number n) bs at ≡ read x next
   pub settings : (found_at n bs at).settings ≡ settings_out x
   pub patterns : (found_at n bs at).patterns ≡ patterns_out x.bits
 
 module _ (n : ℕ) (bs : List ℕ) (at : ℕ) where
-  by_record : (r : NextRecord) → is_version n ≡ true → record_at (version_of_number n) bs at ≡ r → found_at n bs at ≡ found_of (length bs) r → (found_at n bs at).number ≡ 0 → WasRead n bs at
-  by_record (Read x next) k e f z = record {
-    x = x;
-    next = next;
+  by_record : (r : Answer) → is_version n ≡ true → record_at (version_of_number n) bs at ≡ r → found_at n bs at ≡ found_of (length bs) r → (found_at n bs at).number ≡ 0 → WasRead n bs at
+  by_record (Ok (Some there)) k e f z = record {
+    x = there.«record»;
+    next = there.next;
     known = k;
     is = e;
     settings = ap (λ (y : Found). y.settings) f;
     patterns = ap (λ (y : Found). y.patterns) f;
   }
-  by_record End k e f z = absurd (omega (arith, ap (λ (y : Found). y.number) f))
-  by_record CutRecord k e f z = absurd (omega (arith, ap (λ (y : Found). y.number) f))
-  by_record (UnknownSetting place next) k e f z = absurd (omega (arith, ap (λ (y : Found). y.number) f))
+  by_record (Ok None) k e f z = absurd (omega (arith, ap (λ (y : Found). y.number) f))
+  by_record (Err CutRecord) k e f z = absurd (omega (arith, ap (λ (y : Found). y.number) f))
+  by_record (Err (UnknownSetting place next)) k e f z = absurd (omega (arith, ap (λ (y : Found). y.number) f))
 
   by_version_lem : (b : Bool) → is_version n ≡ b → at < length bs → (found_at n bs at).number ≡ 0 → WasRead n bs at
   by_version_lem false e h z = absurd (omega (arith, ap (λ (y : Found). y.number) (found_other n bs at h e)))
@@ -79,7 +79,7 @@ module _ (x : Record) where
       let settings = five_settings x.kind x.settings five in
       ap (λ (k : Kind). record_of_bits k (settings_at (settings_out x) 0 x.settings.top) x.bits) kind
       ∙ ap (λ (s : Settings). record_of_bits x.kind s x.bits) settings
-      ∙ ap (λ (y : Levels). record { kind = x.kind; settings = x.settings; levels = y; bits = x.bits }) (sym a)
+      ∙ ap (λ (y : Levels Float). record { kind = x.kind; settings = x.settings; levels = y; bits = x.bits }) (sym a)
 
   copied : (n : ℕ) {k k' c' : List ℕ} {r : ℕ} → record_size (version_of_number n) ≤ length k → is_version n ≡ true → takes_top (version_of_number n) x.settings.top ≡ true → Agrees x
       → RecordCalled n (settings_out x) (patterns_out x.bits) k k' c' r → (r ≡ 0) × (take (record_size (version_of_number n)) k' ≡ record_bytes (version_of_number n) x)

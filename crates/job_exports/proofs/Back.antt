@@ -12,8 +12,10 @@ use Rattle.answer_codes.specs.AnswerCode.{AnswerCode, refused, drew}
 use Rattle.call_answers.specs.Replies.{unknown_setting, bad_top, one_word}
 use Rattle.call_inputs.specs.Inputs.{top_in}
 use Rattle.job.specs.declared.header.Header.{Header}
-use Rattle.job.specs.declared.header.Header.TheVariants.{Read, NotAJob, UnknownVersion}
-use Rattle.job.specs.declared.next.NextRecord.TheVariants as next-record
+use Rattle.std.specs.Prelude.{Result, Ok, Err}
+use Rattle.job.specs.declared.header.HeaderError.{HeaderError}
+use Rattle.job.specs.declared.header.HeaderError.TheVariants.{NotAJob, UnknownVersion}
+use Rattle.job.specs.Records as records
 use Rattle.job_fields.specs.declared.version.Version.{Version}
 use Rattle.job_fields.specs.declared.version.Version.TheVariants.{One, Two}
 use Rattle.job_fields.specs.Settings.{choices, AllBelow, first_unknown_setting}
@@ -120,10 +122,10 @@ header_copied l {c'} b a {k} {k'} {d'} {r} room c = go (header_of l) refl (sym a
         let z : r ≡ 0 = c.says.number ∙ ap (λ (t : AnswerCode). t.number) right in
         (z, rw (rw (z, is) at c.list) (over_front k (header_bytes v) 5 (sym (header_length v))) ∙ sym again)
 
-    go : (h : Header) → header_of l ≡ h → (read_code (header_of l)).number ≡ 0 → c' ≡ one_word (read_code (header_of l)).values → (r ≡ 0) × (take 5 k' ≡ take 5 l)
-    go (Read v next) e z w = written v (header_again v l next b e) (ap (λ (x : List ℕ). get_or x 0 0) (w ∙ ap (λ (h : Header). one_word (read_code h).values) e))
-    go NotAJob e z w = let f = ap (λ (h : Header). (read_code h).number) e in absurd (omega arith)
-    go UnknownVersion e z w = let f = ap (λ (h : Header). (read_code h).number) e in absurd (omega arith)
+    go : (h : Result Header HeaderError) → header_of l ≡ h → (read_code (header_of l)).number ≡ 0 → c' ≡ one_word (read_code (header_of l)).values → (r ≡ 0) × (take 5 k' ≡ take 5 l)
+    go (Ok header) e z w = written header.version (header_again header.version l header.next b e) (ap (λ (x : List ℕ). get_or x 0 0) (w ∙ ap (λ (h : Result Header HeaderError). one_word (read_code h).values) e))
+    go (Err NotAJob) e z w = let f = ap (λ (h : Result Header HeaderError). (read_code h).number) e in absurd (omega arith)
+    go (Err UnknownVersion) e z w = let f = ap (λ (h : Result Header HeaderError). (read_code h).number) e in absurd (omega arith)
 
 -- ---- records
 -- six bytes or six words, as a C caller passes them
@@ -168,8 +170,8 @@ record_read_back n bs ps n6 h {l} {l'} {c'} c file at e a =
     let there : take (record_size v) (drop at file) ≡ record_bytes v x =
     ap (λ (k : ℕ). take k (drop at file)) (sym count) ∙ e ∙ ap (λ (k : ℕ). take k l') count ∙ ap (take (record_size v)) c.list
     ∙ over_front l (record_bytes v x) (record_size v) (sym (record_length v x)) in
-    let read : record_at v file at ≡ next-record.Read x (cursor_after v at) = record_back v file at x (record { top = w.top; patterns = patterns_small ps h }) there in
-    let found : found_at n file at ≡ found_of (length file) (next-record.Read x (cursor_after v at)) =
+    let read : record_at v file at ≡ records.read x (cursor_after v at) = record_back v file at x (record { top = w.top; patterns = patterns_small ps h }) there in
+    let found : found_at n file at ≡ found_of (length file) (records.read x (cursor_after v at)) =
     found_here n file at (left_there file at (record_size v) (record_bytes v x) (omega arith) (record_length v x) there) w.known ∙ ap (found_of (length file)) read in
     record {
       number = a.number ∙ ap (λ (f : Found). f.number) found;

@@ -10,12 +10,14 @@ use lib.Dec.{eqb}
 use lib.ListN.{length, get_or}
 use Rattle.call_answers.specs.Replies.{one_word}
 use Rattle.job.specs.declared.header.Header.{Header}
-use Rattle.job.specs.declared.header.Header.TheVariants.{Read, NotAJob, UnknownVersion}
-use Rattle.job.specs.declared.next.NextRecord.{NextRecord}
-use Rattle.job.specs.declared.next.NextRecord.TheVariants as next-record
+use Rattle.std.specs.Prelude.{Result, Ok, Err, Some, None}
+use Rattle.job.specs.declared.header.HeaderError.{HeaderError}
+use Rattle.job.specs.declared.header.HeaderError.TheVariants.{NotAJob, UnknownVersion}
+use Rattle.job.specs.declared.next.RecordError.TheVariants.{CutRecord, UnknownSetting}
+use Rattle.job.specs.Records as records
 use Rattle.job_fields.specs.declared.version.Version.{Version}
-use Rattle.job.specs.Header.{first_record, header_of}
-use Rattle.job.specs.Records.{record_at, record_of, cursor_after}
+use Rattle.job.specs.Header.{first_record, header_with, header_of}
+use Rattle.job.specs.Records.{Answer, record_at, record_of, cursor_after}
 use Rattle.job.proofs.Headers.{header_exactly}
 use Rattle.job.proofs.Records.{record_exactly}
 use Rattle.job_words.specs.declared.found.Found.{Found}
@@ -29,21 +31,21 @@ use Rattle.job_exports.specs.Exactly.{HeaderExactly, ReadThere, RecordExactly}
 use Rattle.job_exports.proofs.Back.{version_number_lem}
 
 -- ---- headers
-abbrev header_number : Header → ℕ
+abbrev header_number : Result Header HeaderError → ℕ
 header_number h = (read_code h).number
 
-abbrev header_words : Header → List ℕ
+abbrev header_words : Result Header HeaderError → List ℕ
 header_words h = one_word (read_code h).values
 
-abbrev header_in : ℕ → List ℕ → Header
-header_in n c = cond (eqb n 0) (Read (version_of_number (get_or c 0 0)) first_record) (cond (eqb n 5) NotAJob UnknownVersion)
+abbrev header_in : ℕ → List ℕ → Result Header HeaderError
+header_in n c = cond (eqb n 0) (Ok (header_with (version_of_number (get_or c 0 0)))) (cond (eqb n 5) (Err NotAJob) (Err UnknownVersion))
 
-header_same : (l : List ℕ) (h : Header) → header_of l ≡ h → header_in (header_number h) (header_words h) ≡ h
-header_same l (Read v next) e =
-    let first : next ≡ first_record = ((header_exactly l (Read v next)).0 e).3 in
-    rw ((version_number_lem v).1, first)
-header_same l NotAJob e = refl
-header_same l UnknownVersion e = refl
+header_same : (l : List ℕ) (h : Result Header HeaderError) → header_of l ≡ h → header_in (header_number h) (header_words h) ≡ h
+header_same l (Ok header) e =
+    let first : header.next ≡ first_record = ((header_exactly l (Ok header)).0 e).3 in
+    rw ((version_number_lem header.version).1, ← first)
+header_same l (Err NotAJob) e = refl
+header_same l (Err UnknownVersion) e = refl
 
 pub header_call_exactly : (l : List ℕ) {c' : List ℕ} {r : ℕ} → HeaderAsked l c' r → HeaderExactly l c' r
 header_call_exactly l a =
@@ -51,7 +53,7 @@ header_call_exactly l a =
     let same = header_same l (header_of l) refl in
     record {
       read = λ v.
-          let e = reported_exactly header_in same told (header_exactly l) (Read v first_record) (rw (version_number_lem v).1) in
+          let e = reported_exactly header_in same told (header_exactly l) (Ok (header_with v)) (rw (version_number_lem v).1) in
           ((λ h. e.0 (record { number = h.0; words = h.1 })), λ m. ((e.1 m).number, (e.1 m).words));
       not_a_job = number_exactly header_in same told (header_exactly l) 5 refl;
       unknown_version = number_exactly header_in same told (header_exactly l) 6 refl;
@@ -62,7 +64,7 @@ header_call_exactly l a =
 data Stands : Type 0 where
   ended : Stands
   other : Stands
-  here : NextRecord → Stands
+  here : Answer → Stands
 
 module _ (n : ℕ) (l : List ℕ) (at : ℕ) where
   abbrev v : Version
@@ -82,8 +84,8 @@ module _ (n : ℕ) (l : List ℕ) (at : ℕ) where
   stands_in k p =
       cond (eqb k 255) ended
       (cond (eqb k 6) other
-      (cond (eqb k 0) (here (next-record.Read (record_of v l at) (cursor_after v at)))
-      (cond (eqb k 7) (here next-record.CutRecord) (here (next-record.UnknownSetting (get_or p 0 0) (cursor_after v at))))))
+      (cond (eqb k 0) (here (records.read (record_of v l at) (cursor_after v at)))
+      (cond (eqb k 7) (here (Err CutRecord)) (here (Err (UnknownSetting (get_or p 0 0) (cursor_after v at)))))))
 
   abbrev Means : Stands → Type 0
   Means ended = length l ≤ at
@@ -139,14 +141,14 @@ module _ (n : ℕ) (l : List ℕ) (at : ℕ) where
       back other m = absurd (true≢false (sym e ∙ m.1))
       back (here x) m = ap here ((record_exactly v l at x).1 m.means)
 
-      read : (x : NextRecord) → record_at v l at ≡ x → stands_in (found_for (here x)) (places_for (here x)) ≡ here x
-      read (next-record.Read x next) f =
-          let m = (record_exactly v l at (next-record.Read x next)).0 f in
+      read : (x : Answer) → record_at v l at ≡ x → stands_in (found_for (here x)) (places_for (here x)) ≡ here x
+      read (Ok (Some there)) f =
+          let m = (record_exactly v l at (Ok (Some there))).0 f in
           rw (← m.2, ← m.3)
-      read next-record.End f = absurd (omega (arith, (record_exactly v l at next-record.End).0 f))
-      read next-record.CutRecord f = refl
-      read (next-record.UnknownSetting place next) f =
-          let m = (record_exactly v l at (next-record.UnknownSetting place next)).0 f in
+      read (Ok None) f = absurd (omega (arith, (record_exactly v l at (Ok None)).0 f))
+      read (Err CutRecord) f = refl
+      read (Err (UnknownSetting place next)) f =
+          let m = (record_exactly v l at (Err (UnknownSetting place next))).0 f in
           rw (← m.2)
 
   tells : {after : RecordMemory} {r : ℕ} (a : Stands) → Right a → RecordAsked n l at after r → RecordExactly n l at after.place r
@@ -157,7 +159,7 @@ module _ (n : ℕ) (l : List ℕ) (at : ℕ) where
         unknown_version = number_exactly stands_in t.same told t.exactly 6 refl;
         cut_record = number_exactly stands_in t.same told t.exactly 7 refl;
         unknown_setting_lem = λ place.
-            let e = reported_exactly stands_in t.same told t.exactly (here (next-record.UnknownSetting place (cursor_after v at))) refl in
+            let e = reported_exactly stands_in t.same told t.exactly (here (Err (UnknownSetting place (cursor_after v at)))) refl in
             ((λ h. e.0 (record { number = h.0; words = h.1 })), λ m. ((e.1 m).number, (e.1 m).words));
         end = number_exactly stands_in t.same told t.exactly 255 refl;
       }

@@ -1,12 +1,13 @@
 -- What a call answers and leaves, for every input: n is the version's number, bs are the setting bytes, ps the bit patterns, l
 -- and l' the list of bytes at entry and at exit, c' the count at exit. Assumes nothing.
-use Rattle.std.specs.Prelude.{ℕ, ◌≡◌, cond, List, [], ◌∷◌, ltb, length}
+use Rattle.std.specs.Prelude.{ℕ, ◌≡◌, cond, List, [], ◌∷◌, ltb, length, Result, Ok, Err}
 use Rattle.answer_codes.specs.AnswerCode.{AnswerCode, refused, drew}
 use Rattle.draw_exports.specs.Calls.{ListCalled}
 use Rattle.call_answers.specs.Replies.{unknown_setting, bad_top, one_word, Says}
 use Rattle.call_inputs.specs.Inputs.{top_in}
 use Rattle.job.specs.declared.header.Header.{Header}
-use Rattle.job.specs.declared.header.Header.TheVariants.{Read, NotAJob, UnknownVersion}
+use Rattle.job.specs.declared.header.HeaderError.{HeaderError}
+use Rattle.job.specs.declared.header.HeaderError.TheVariants.{NotAJob, UnknownVersion}
 use Rattle.job_fields.specs.Settings.{first_unknown_setting}
 use Rattle.job_fields.specs.Version.{version_number, record_size}
 use Rattle.job.specs.Header.{header_of}
@@ -38,10 +39,10 @@ abbrev pub RecordCalled : ℕ → List ℕ → List ℕ → List ℕ → List �
 RecordCalled n bs ps l l' c' r = ListCalled (record_says n bs (length l)) (record_bytes (version_of_number n) (record_in bs ps)) l l' c' r
 
 -- the answer to reading a header: 0 with the version's number, 5 or 6
-abbrev pub read_code : Header → AnswerCode
-read_code (Read v next) = drew (version_number v)
-read_code NotAJob = refused 5
-read_code UnknownVersion = refused 6
+abbrev pub read_code : Result Header HeaderError → AnswerCode
+read_code (Ok header) = drew (version_number header.version)
+read_code (Err NotAJob) = refused 5
+read_code (Err UnknownVersion) = refused 6
 
 -- the contract of reading a header from the bytes l
 abbrev pub HeaderAsked : List ℕ → List ℕ → ℕ → Type 0

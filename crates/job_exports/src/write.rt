@@ -7,7 +7,7 @@ use call_inputs::input::top_in;
 use job_bytes::top_byte::takes_top;
 use job_fields::setting::first_unknown;
 use job_words::input::record_in;
-use job_words::version::{is_version, version_in};
+use job_words::version::known_version;
 use job_writer::header::write_header;
 use job_writer::record::write_record;
 
@@ -19,12 +19,10 @@ pub extern "C" fn yoktvarim_write_header(
 ) -> u32
     ensures { HeaderCalled version bytes.old bytes.new count.new result }
 {
-    if !is_version(version) {
+    let Some(known) = known_version(version) else {
         return say_one(refusal(6), count);
-    }
-    let known = version_in(version);
-    let answer = write_header(bytes, known);
-    say_one(of_written_header(answer), count)
+    };
+    say_one(of_written_header(write_header(bytes, known)), count)
 }
 
 #[unsafe(no_mangle)]
@@ -37,10 +35,9 @@ pub extern "C" fn yoktvarim_write_record(
 ) -> u32
     ensures { RecordCalled version settings.now patterns.now bytes.old bytes.new count.new result }
 {
-    if !is_version(version) {
+    let Some(known) = known_version(version) else {
         return say_one(refusal(6), count);
-    }
-    let known = version_in(version);
+    };
     if !takes_top(known, top_in(settings)) {
         return say_one(bad_top(), count);
     }
@@ -49,6 +46,5 @@ pub extern "C" fn yoktvarim_write_record(
         return say_one(unknown_setting(place), count);
     }
     let record = record_in(settings, patterns);
-    let answer = write_record(bytes, known, record);
-    say_one(of_written_record(answer), count)
+    say_one(of_written_record(write_record(bytes, known, record)), count)
 }

@@ -2,7 +2,7 @@
 use Prim.Native.Nat.{ℕ, ◌≤◌, ◌<◌}
 use native.Mathlib.Omega.{arith}
 use mathlib.Core.Path.{◌≡◌, refl, ap}
-use mathlib.Core.Bool.{Bool, true, false}
+use mathlib.Core.Bool.{Bool, true, false, cond}
 use mathlib.Core.List.{List}
 use mathlib.Core.Logic.{◌↔◌}
 use native.Mathlib.Decide.{dec_le}
@@ -11,28 +11,44 @@ use lib.ListN.{length}
 use Rattle.job_fields.specs.declared.version.Version.{Version}
 use Rattle.job_fields.specs.declared.version.Version.TheVariants.{One, Two}
 use Rattle.job.specs.declared.cursor.Cursor.{Cursor}
-use Rattle.job.specs.declared.next.NextRecord.{NextRecord}
-use Rattle.job.specs.declared.next.NextRecord.TheVariants.{Read, End, CutRecord, UnknownSetting}
+use Rattle.std.specs.Prelude.{Ok, Err, Some, None}
+use Rattle.job.specs.declared.next.RecordError.TheVariants.{CutRecord, UnknownSetting}
 use Rattle.job_fields.specs.Version.{setting_bytes}
-use Rattle.job.specs.Records.{record_at}
+use Rattle.job.specs.Records.{Answer, read, record_at}
 use Rattle.job_fields.proofs.Tops.{first_place}
 use Rattle.job.proofs.Records.{record_exactly, top_allowed}
 use Rattle.job_bytes.proofs.Lengths.{top_small}
 use Rattle.job_words.specs.declared.found.Found.{Found}
-use Rattle.job_words.specs.Inputs.{is_version, version_of_number}
+use Rattle.job_words.specs.Inputs.{is_version, version_of_number, known_version}
 use Rattle.job_words.specs.Found.{end_number, nothing, found_of, found_at, number_in}
+
+-- a version with a number is the version of that number, and none is there for an unknown one
+module _ (n : ℕ) where
+  pub known_some : {v : Version} → Some v ≡ known_version n → (is_version n ≡ true) × (v ≡ version_of_number n)
+  known_some {v} e = go (is_version n) refl e
+    where
+      go : (b : Bool) → is_version n ≡ b → Some v ≡ cond b (Some (version_of_number n)) None → (is_version n ≡ true) × (v ≡ version_of_number n)
+      go true k e = (k, cc)
+      go false k e = absurd (let z : ◌≡◌ {A = ℕ} 0 1 = cc in omega arith)
+
+  pub known_none : None ≡ known_version n → is_version n ≡ false
+  known_none e = go (is_version n) refl e
+    where
+      go : (b : Bool) → is_version n ≡ b → None ≡ cond b (Some (version_of_number n)) None → is_version n ≡ false
+      go true k e = absurd (let z : ◌≡◌ {A = ℕ} 0 1 = cc in omega arith)
+      go false k e = k
 
 settings_few : (v : Version) → setting_bytes v ≤ 6
 settings_few One = omega arith
 settings_few Two = omega arith
 
 -- the top level of a record fits into a byte, and so does a place
-pub number_small : (v : Version) (bs : List ℕ) (at : ℕ) (r : NextRecord) → record_at v bs at ≡ r → number_in r < 256
-number_small v bs at (Read x next) e = omega (arith, top_small x.settings.top (top_allowed v bs at refl x next e))
-number_small v bs at End e = omega arith
-number_small v bs at CutRecord e = omega arith
-number_small v bs at (UnknownSetting place next) e =
-    omega (arith, (first_place bs at v place ((record_exactly v bs at (UnknownSetting place next)).0 e).1).1, settings_few v)
+pub number_small : (v : Version) (bs : List ℕ) (at : ℕ) (r : Answer) → record_at v bs at ≡ r → number_in r < 256
+number_small v bs at (Ok (Some there)) e = omega (arith, top_small there.«record».settings.top (top_allowed v bs at refl there.«record» there.next e))
+number_small v bs at (Ok None) e = omega arith
+number_small v bs at (Err CutRecord) e = omega arith
+number_small v bs at (Err (UnknownSetting place next)) e =
+    omega (arith, (first_place bs at v place ((record_exactly v bs at (Err (UnknownSetting place next))).0 e).1).1, settings_few v)
 
 module _ (n : ℕ) (bs : List ℕ) (at : ℕ) where
   pub found_end : length bs ≤ at → found_at n bs at ≡ nothing end_number 0 (length bs)
@@ -48,13 +64,13 @@ module _ (n : ℕ) (bs : List ℕ) (at : ℕ) where
     unfolding found_at
     found_here e = rw (lt-leb (length bs) at h, e)
 
-    on : (v : Version) (r : NextRecord) → record_at v bs at ≡ r
+    on : (v : Version) (r : Answer) → record_at v bs at ≡ r
         → ((found_of (length bs) r).number ≡ end_number → ⊥) × (at < (found_of (length bs) r).next)
-    on v (Read x next) e = (λ i. absurd (omega arith), omega (arith, ap (λ (k : Cursor). k.at) ((record_exactly v bs at (Read x next)).0 e).3))
-    on v End e = absurd (omega (arith, (record_exactly v bs at End).0 e))
-    on v CutRecord e = (λ i. absurd (omega arith), h)
-    on v (UnknownSetting place next) e =
-        (λ i. absurd (omega arith), omega (arith, ap (λ (k : Cursor). k.at) ((record_exactly v bs at (UnknownSetting place next)).0 e).2))
+    on v (Ok (Some there)) e = (λ i. absurd (omega arith), omega (arith, ap (λ (k : Cursor). k.at) ((record_exactly v bs at (Ok (Some there))).0 e).3))
+    on v (Ok None) e = absurd (omega (arith, (record_exactly v bs at (Ok None)).0 e))
+    on v (Err CutRecord) e = (λ i. absurd (omega arith), h)
+    on v (Err (UnknownSetting place next)) e =
+        (λ i. absurd (omega arith), omega (arith, ap (λ (k : Cursor). k.at) ((record_exactly v bs at (Err (UnknownSetting place next))).0 e).2))
 
     -- if a byte is left, the answer is not the end, and reading continues further on
     pub moves_on : ((found_at n bs at).number ≡ end_number → ⊥) × (at < (found_at n bs at).next)

@@ -2,12 +2,12 @@
 ghost use Rattle.std.specs.Prelude.{◌≡◌, ◌<◌};
 ghost use Rattle.job_words.specs.Found.{settings_out, patterns_out, nothing, found_of, found_at, number_in};
 
-use crate::version::{is_version, version_in};
+use crate::version::known_version;
 use job::cursor::Cursor;
-use job::next::{NextRecord, read_record};
+use job::next::{RecordError, read_record};
 use job::record::Record;
-use job_bytes::setting_bytes::{kind_byte, order_byte, origin_byte, spacing_byte};
-use job_fields::levels::LevelBits;
+use job_fields::levels::Levels;
+use job_fields::setting::SettingByte;
 
 // All but `number` and `next` is 0, unless a record was read or a setting is unknown.
 #[derive(Clone, Copy, Drop)]
@@ -23,24 +23,18 @@ fn settings_out(record: Record) -> [u8; 6]
     requires { «record».settings.top < 256 }
     ensures { result ≡ settings_out «record» }
 {
-    let kind = record.kind;
     let settings = record.settings;
-    let spacing = settings.spacing;
-    let order = settings.order;
-    let origin = settings.origin;
-    let point_mode = settings.point_mode;
-    let top = settings.top;
     [
-        kind_byte(kind),
-        spacing_byte(spacing),
-        order_byte(order),
-        origin_byte(origin),
-        point_mode as u8,
-        top as u8,
+        record.kind.byte(),
+        settings.spacing.byte(),
+        settings.order.byte(),
+        settings.origin.byte(),
+        settings.point_mode.byte(),
+        settings.top as u8,
     ]
 }
 
-fn patterns_out(bits: LevelBits) -> [u32; 6]
+fn patterns_out(bits: Levels<u32>) -> [u32; 6]
     ensures { result ≡ patterns_out bits }
 {
     [
@@ -69,27 +63,26 @@ fn whole_record(record: Record, next: usize) -> Found
     requires { «record».settings.top < 256 }
     ensures { result ≡ record { number = 0; place = 0; next = next; settings = settings_out «record»; patterns = patterns_out «record».bits } }
 {
-    let settings = settings_out(record);
-    let bits = record.bits;
-    let patterns = patterns_out(bits);
     Found {
         number: 0,
         place: 0,
         next,
-        settings,
-        patterns,
+        settings: settings_out(record),
+        patterns: patterns_out(record.bits),
     }
 }
 
-fn found_of(end: usize, found: NextRecord) -> Found
+fn found_of(end: usize, found: Result<Option<job::next::Found>, RecordError>) -> Found
     requires { number_in found < 256 }
     ensures { result ≡ found_of end found }
 {
     match found {
-        NextRecord::Read { record, next } => whole_record(record, next.at),
-        NextRecord::End => nothing_read(255, 0, end),
-        NextRecord::CutRecord => nothing_read(7, 0, end),
-        NextRecord::UnknownSetting { place, next } => nothing_read(8, place as u32, next.at),
+        Ok(Some(there)) => whole_record(there.record, there.next.at),
+        Ok(None) => nothing_read(255, 0, end),
+        Err(RecordError::CutRecord) => nothing_read(7, 0, end),
+        Err(RecordError::UnknownSetting { place, next }) => {
+            nothing_read(8, place as u32, next.at)
+        }
     }
 }
 
@@ -101,9 +94,8 @@ pub fn found_at(bytes: &[u8], version: u32, at: usize) -> Found
     if end <= at {
         return nothing_read(255, 0, end);
     }
-    if !is_version(version) {
-        return nothing_read(6, 0, end);
+    match known_version(version) {
+        Some(known) => found_of(end, read_record(bytes, known, Cursor { at })),
+        None => nothing_read(6, 0, end),
     }
-    let found = read_record(bytes, version_in(version), Cursor { at });
-    found_of(end, found)
 }

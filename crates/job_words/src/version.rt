@@ -1,21 +1,13 @@
 // A version by its number.
 ghost use Rattle.std.specs.Prelude.{◌≡◌};
-ghost use Rattle.job_words.specs.Inputs.{is_version, version_of_number};
+ghost use Rattle.job_words.specs.Inputs.{known_version};
 
 use job_fields::version::Version;
 
-pub fn is_version(number: u32) -> bool
-    ensures { result ≡ is_version number }
+// Returns the version with the number 1 or 2.
+#[tactic(auto, unfolding(crate::specs::Inputs::is_version, crate::specs::Inputs::version_of_number))]
+pub fn known_version(number: u32) -> Option<Version>
+    ensures { result ≡ known_version number }
 {
-    (number == 1) | (number == 2)
-}
-
-// Returns the version with the number 1 or 2; any other number gives version 2.
-pub fn version_in(number: u32) -> Version
-    ensures { result ≡ version_of_number number }
-{
-    match number {
-        1 => Version::One,
-        _ => Version::Two,
-    }
+    Version::try_from(number).ok()
 }
