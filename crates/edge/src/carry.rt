@@ -10,8 +10,8 @@ pub struct Carry {
 
 // Divides x by l.
 pub(crate) fn divide(x: u64, l: u32) -> Carry
-    requires fact_1 { x ≤ 4294967296 }
-    requires fact_2 { 65536 ≤ l }
+    requires dividend { x ≤ 4294967296 }
+    requires divisor { 65536 ≤ l }
     ensures { Divides x l result }
 {
     let d = l as u64;
@@ -26,17 +26,17 @@ pub(crate) fn sum(a: Carry, b: Carry, l: u32) -> Carry
     requires { ((a.quotient ≤ 4194304) × (b.quotient ≤ 4194304)) × ((a.remainder < l) × (b.remainder < l) × (l ≤ 4194304)) }
     ensures { Divides (a.quotient * l + a.remainder + (b.quotient * l + b.remainder)) l result }
 {
-    let q = a.quotient + b.quotient;
-    let r = a.remainder + b.remainder;
-    if r < l {
+    let quotient = a.quotient + b.quotient;
+    let remainder = a.remainder + b.remainder;
+    if remainder < l {
         Carry {
-            quotient: q,
-            remainder: r,
+            quotient,
+            remainder,
         }
     } else {
         Carry {
-            quotient: q + 1,
-            remainder: r - l,
+            quotient: quotient + 1,
+            remainder: remainder - l,
         }
     }
 }

@@ -3,7 +3,7 @@
 
 mod carry;
 
-ghost use Rattle.std.specs.Prelude.{◌≡◌, ◌+◌, ◌≤◌, ◌<◌, min, length};
+ghost use Rattle.std.specs.Prelude.{◌≡◌, ◌+◌, ◌≤◌, ◌<◌, length};
 ghost use Rattle.edge.specs.Positions.{entry};
 ghost use Rattle.edge.specs.Rows.{edge_row, RowAt, RowFilled};
 ghost use Rattle.edge.specs.Table.{table};
@@ -11,28 +11,19 @@ ghost use Rattle.level.specs.Segments.{Valid};
 
 use level::Segments;
 
-// Returns k, or half the edge's length if k is more: no point is further from the middle.
-fn at_most_half(k: u32) -> u32
-    ensures { (result ≡ min k 32768) × (result ≤ 32768) }
-{
-    if k < 32768 { k } else { 32768 }
-}
-
 // Writes the row of an edge's positions from word `from` on, two points per turn, from the middle outwards. From turn to turn the distance
 // from the middle grows by one segment, so the dividend grows by the same number, and no turn needs a division.
 pub fn fill_row(rows: &mut [u32], from: usize, s: Segments)
-    requires fact_1 { Valid s.count s.scaled }
-    requires fact_2 { from + s.count < length rows.old }
+    requires valid { Valid s.count s.scaled }
+    requires room { from + s.count < length rows.old }
     ensures { RowFilled rows.old from s.count s.scaled rows.new }
 {
     let n = s.count;
     let l = s.scaled;
     let step = carry::divide(4294967296, l);
     let mut reach = carry::divide(2147483648 * ((n % 2) as u64), l);
-    let mut left = n / 2 + 1;
-    while 0 < left {
-        left -= 1;
-        let k = at_most_half(reach.quotient);
+    for left in (0..n / 2 + 1).rev() {
+        let k = reach.quotient.min(32768);
         rows[from + left as usize] = 32768 - k;
         rows[from + (n - left) as usize] = 32768 + k;
         reach = carry::sum(reach, step, l);

@@ -173,7 +173,7 @@ impl Range {
     }
 
     // Returns the segments of a level, and where it lies. A range serves several levels, so that it is computed once for them.
-    pub fn segments_of(self, level: f32) -> Clamped
+    pub fn segments_for(self, level: f32) -> Clamped
         ensures segments { result.segments ≡ segments_of self.spacing self.top level }
         ensures clamp { result.clamp ≡ clamp_of self.spacing self.top level }
     {
@@ -189,7 +189,7 @@ pub fn segments_of(level: f32, spacing: Spacing, top: u32) -> Clamped
     ensures segments { result.segments ≡ segments_of spacing top level }
     ensures clamp { result.clamp ≡ clamp_of spacing top level }
 {
-    range_of(spacing, top).segments_of(level)
+    range_of(spacing, top).segments_for(level)
 }
 
 // Returns the segments of an inner level whose own n is 1.

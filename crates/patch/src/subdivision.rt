@@ -75,7 +75,7 @@ fn discards_any(outer: &[f32]) -> bool
 fn segments_in(level: f32, range: Range) -> Segments
     ensures { Counted range.spacing range.top level result }
 {
-    range.segments_of(level).segments
+    range.segments_for(level).segments
 }
 
 // The same, given that the level `other` has the segments `own`: equal levels, which are common, are not computed twice.

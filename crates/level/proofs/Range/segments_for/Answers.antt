@@ -2,7 +2,7 @@ use Rattle.level.specs.Clamp.{clamp_of}
 use Rattle.level.specs.Segments.{segments_of}
 use Rattle.level.proofs.Within.{level_from_1_to_64}
 use Rattle.level.proofs.Scale.{level_in_range}
-use Rattle.level.proofs.Range.segments_of.Goals as goal
+use Rattle.level.proofs.Range.segments_for.Goals as goal
 
 pub parts_of-requires : goal.parts_of-requires
 parts_of-requires c =
