@@ -2,7 +2,7 @@
 use Prim.Native.Nat.{ℕ}
 use mathlib.Core.Path.{◌≡◌, sym, ap, ◌∙◌}
 use mathlib.Core.List.{List, [], ◌∷◌}
-use Rattle.answer_codes.specs.AnswerCode.{AnswerCode, drew, drew_both}
+use Rattle.answer_codes.specs.AnswerCode.{AnswerCode}
 use Rattle.call_answers.specs.declared.reply.Reply.{Reply}
 use Rattle.call_answers.specs.Replies.{reply_of, IsReply, two_words, one_word, Says}
 
@@ -16,14 +16,6 @@ reply_of_lem e = record { number = ap (λ (x : Reply). x.number) e; first = ap (
 -- a reply to an answer is one to an equal answer
 pub reply_as : {t s : AnswerCode} {reply : Reply} → t ≡ s → IsReply s reply → IsReply t reply
 reply_as e h = rw e h
-
--- a second value of 0 can be omitted
-pub reply_one : {n : ℕ} {reply : Reply} → IsReply (drew_both n 0) reply → IsReply (drew n) reply
-reply_one h = record { number = h.number; first = h.first; second = h.second }
-
--- values after the second are omitted
-pub reply_more : {p i : ℕ} {vs : List ℕ} {reply : Reply} → IsReply (drew_both p i) reply → IsReply (record { number = 0; values = p ∷ i ∷ vs }) reply
-reply_more h = record { number = h.number; first = h.first; second = h.second }
 
 -- how an answer is reported
 module _ {t : AnswerCode} {reply : Reply} {c' : List ℕ} {r : ℕ} (tells : IsReply t reply) where

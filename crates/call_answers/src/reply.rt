@@ -1,15 +1,17 @@
 // Answers as a number with two values, and how they are written to the caller's memory.
 ghost use Rattle.std.specs.Prelude.{◌≡◌, [], ◌∷◌, ◌<◌};
 ghost use Rattle.measure.specs.Sizes.{size_code};
-ghost use Rattle.tessellate.specs.Answers.{points_code, indices_code};
+ghost use Rattle.tessellate.specs.Answers.{draw_code};
+ghost use Rattle.tessellate.specs.Refusals.{refusal_of, refusal_code};
 ghost use Rattle.answer_codes.specs.AnswerCode.{refused, drew_both};
 ghost use Rattle.call_answers.specs.Replies.{IsReply, unknown_setting, bad_top};
 
+use measure::cut::NotDrawn;
 use measure::size::Size;
-use tessellate::answer::{IndicesAnswer, PointsAnswer};
+use tessellate::refusal::DrawRefusal;
 
 // A value that the answer lacks is 0.
-#[derive(Clone, Copy, Drop)]
+#[derive(Clone, Copy, Debug, PartialEq, Eq, Drop)]
 pub struct Reply {
     pub number: u32,
     pub first: u32,
@@ -55,39 +57,43 @@ pub fn unknown_setting(place: usize) -> Reply
     }
 }
 
-pub fn of_points(answer: PointsAnswer) -> Reply
-    ensures { IsReply (points_code answer) result }
-{
-    match answer {
-        PointsAnswer::Drawn { points } => success(points, 0),
-        PointsAnswer::Discarded => refusal(1),
-        PointsAnswer::NoRoomForVertices => refusal(3),
-        PointsAnswer::BadTop => bad_top(),
+impl From<DrawRefusal> for Reply {
+    ghost from_gives = { λ reason reply. IsReply (refusal_code reason) reply };
+
+    fn from(reason: DrawRefusal) -> Reply {
+        match reason {
+            DrawRefusal::Discarded => refusal(1),
+            DrawRefusal::NoRoomForVertices => refusal(3),
+            DrawRefusal::NoRoomForIndices => refusal(4),
+            DrawRefusal::BadTop => bad_top(),
+        }
     }
 }
 
-pub fn of_size(size: Size) -> Reply
-    ensures { IsReply (size_code size) result }
-{
-    match size {
-        Size::Counts {
-            points,
-            indices,
-            clamps: _,
-        } => success(points, indices),
-        Size::Discarded => refusal(1),
-        Size::BadTop => bad_top(),
+impl From<NotDrawn> for Reply {
+    ghost from_gives = { λ reason reply. IsReply (refusal_code (refusal_of reason)) reply };
+
+    fn from(reason: NotDrawn) -> Reply {
+        Reply::from(DrawRefusal::from(reason))
     }
 }
 
-pub fn of_indices(answer: IndicesAnswer) -> Reply
-    ensures { IsReply (indices_code answer) result }
+// The answer of one drawing operation, with the count of its list.
+pub fn of_drawn(answer: Result<u32, DrawRefusal>) -> Reply
+    ensures { IsReply (draw_code answer) result }
 {
     match answer {
-        IndicesAnswer::Drawn { indices } => success(indices, 0),
-        IndicesAnswer::Discarded => refusal(1),
-        IndicesAnswer::NoRoomForIndices => refusal(4),
-        IndicesAnswer::BadTop => bad_top(),
+        Ok(count) => success(count, 0),
+        Err(reason) => Reply::from(reason),
+    }
+}
+
+pub fn of_size(answer: Result<Size, NotDrawn>) -> Reply
+    ensures { IsReply (size_code answer) result }
+{
+    match answer {
+        Ok(size) => success(size.points, size.indices),
+        Err(reason) => Reply::from(reason),
     }
 }
 
