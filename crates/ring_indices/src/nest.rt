@@ -1,5 +1,5 @@
 // The triangles of a triangle patch: bands between nested rings.
-ghost use Rattle.std.specs.Prelude.{◌+◌, ◌*◌, ◌≤◌, ◌<◌, length, ◌≡◌};
+ghost use Rattle.std.specs.Prelude.{◌≡◌, ◌+◌, ◌*◌, ◌≤◌, ◌<◌, length};
 ghost use Rattle.buffer.specs.Over.{Wrote};
 ghost use Rattle.strip.specs.Triangles.{indices};
 ghost use Rattle.mesh_topology.specs.Ring.{ring_at};
@@ -10,37 +10,88 @@ use crate::ring::Ring;
 use strip::triangle::Triangle;
 use strip_blocks::Pattern;
 
-// Writes the three strips from a ring whose edges have c0, c1 and c2 segments to the ring inside, whose edges have r each.
-fn write_band(
-    out: &mut [u16],
-    at: usize,
+// A ring of a triangle patch: its first vertex, and how many segments its three edges have.
+#[derive(Clone, Copy, Drop)]
+struct TriangleRing {
     base: u32,
     c0: u32,
     c1: u32,
     c2: u32,
-    r: u32,
-    positive: bool,
-) -> usize
-    requires fact_1 { (c0 ≤ 64) × (c1 ≤ 64) × (c2 ≤ 64) × (r ≤ 64) × (base < 8192) }
-    requires fact_2 { at + 3 * (c0 + c1 + c2 + 3 * r) ≤ length out.old }
-    ensures { Wrote out.old at (indices positive (band (ring_at base (c0 + c1 + c2)) (ring_edges (base + (c0 + c1 + c2)) r c0 c1 c2))) out.new result }
-{
-    let total = c0 + c1 + c2;
-    let outer = Ring { base, total };
-    let inner = Ring {
-        base: base + total,
-        total: 3 * r,
-    };
-    let w = outer.write_strip(out, at, 0, c0, inner.line(0, r), positive);
-    let w = outer.write_strip(out, w, c0, c1, inner.line(r, r), positive);
-    outer.write_strip(out, w, c0 + c1, c2, inner.line(2 * r, r), positive)
+    ghost few: { (c0 ≤ 64) × (c1 ≤ 64) × (c2 ≤ 64) },
+    ghost small: { base < 8192 },
 }
 
-// The same for long edges of one length per ring, four pairs at a time. Each of the first two strips writes one triangle too
+impl TriangleRing {
+    // Returns the next ring inside, whose edges have r segments each.
+    fn inside(self, r: u32) -> TriangleRing
+        requires few { r ≤ 64 }
+        requires small { self.base + (self.c0 + self.c1 + self.c2) < 8192 }
+        ensures { (result.base ≡ self.base + (self.c0 + self.c1 + self.c2)) × (result.c0 ≡ r) × (result.c1 ≡ r) × (result.c2 ≡ r) }
+    {
+        TriangleRing {
+            base: self.base + (self.c0 + self.c1 + self.c2),
+            c0: r,
+            c1: r,
+            c2: r,
+        }
+    }
+
+    // Returns the triangle of a ring of three vertices.
+    fn triangle(self) -> Triangle
+        ensures { result ≡ record { a = self.base; b = self.base + 1; c = self.base + 2 } }
+    {
+        Triangle {
+            a: self.base as u16,
+            b: (self.base + 1) as u16,
+            c: (self.base + 2) as u16,
+        }
+    }
+
+    // Writes the three strips from this ring to the ring inside, whose edges have r segments each.
+    fn write_band(self, out: &mut [u16], at: usize, r: u32, positive: bool) -> usize
+        requires few { r ≤ 64 }
+        requires room { at + 3 * (self.c0 + self.c1 + self.c2 + 3 * r) ≤ length out.old }
+        ensures { Wrote out.old at (indices positive (band (ring_at self.base (self.c0 + self.c1 + self.c2))
+            (ring_edges (self.base + (self.c0 + self.c1 + self.c2)) r self.c0 self.c1 self.c2))) out.new result }
+    {
+        let c0 = self.c0;
+        let c1 = self.c1;
+        let c2 = self.c2;
+        let total = c0 + c1 + c2;
+        let outer = Ring {
+            base: self.base,
+            total,
+        };
+        let inner = Ring {
+            base: self.base + total,
+            total: 3 * r,
+        };
+        let w = outer.write_strip(out, at, 0, c0, inner.line(0, r), positive);
+        let w = outer.write_strip(out, w, c0, c1, inner.line(r, r), positive);
+        outer.write_strip(out, w, c0 + c1, c2, inner.line(2 * r, r), positive)
+    }
+
+    // The same, by `write_long_band` where that applies.
+    fn write_wide_band(self, out: &mut [u16], at: usize, r: u32, pattern: &Pattern) -> usize
+        requires wide { (10 ≤ r) × (r ≤ 62) }
+        requires room { at + 3 * (self.c0 + self.c1 + self.c2 + 3 * r) ≤ length out.old }
+        ensures { Wrote out.old at (indices pattern.now.positive (band (ring_at self.base (self.c0 + self.c1 + self.c2))
+            (ring_edges (self.base + (self.c0 + self.c1 + self.c2)) r self.c0 self.c1 self.c2))) out.new result }
+    {
+        let p = r + 2;
+        if self.c0 == p && self.c1 == p && self.c2 == p {
+            write_long_band(out, at, self.base, r, pattern)
+        } else {
+            self.write_band(out, at, r, pattern.positive)
+        }
+    }
+}
+
+// Writes the band from a ring whose edges have r + 2 segments to the ring inside, four pairs at a time. Each of the first two strips writes one triangle too
 // many, and the next strip overwrites it.
 fn write_long_band(out: &mut [u16], at: usize, base: u32, r: u32, pattern: &Pattern) -> usize
-    requires fact_1 { (10 ≤ r) × (r ≤ 62) × (base < 8192) }
-    requires fact_2 { at + 3 * (3 * (r + 2) + 3 * r) ≤ length out.old }
+    requires wide { (10 ≤ r) × (r ≤ 62) × (base < 8192) }
+    requires room { at + 3 * (3 * (r + 2) + 3 * r) ≤ length out.old }
     ensures { Wrote out.old at (indices pattern.now.positive (band (ring_at base (r + 2 + (r + 2) + (r + 2)))
         (ring_edges (base + (r + 2 + (r + 2) + (r + 2))) r (r + 2) (r + 2) (r + 2)))) out.new result }
 {
@@ -57,32 +108,6 @@ fn write_long_band(out: &mut [u16], at: usize, base: u32, r: u32, pattern: &Patt
     strip_blocks::write_long(out, w, x2, y2, x0, y0, r, pattern)
 }
 
-// The same, by `write_long_band` where that applies.
-fn write_wide_band(
-    out: &mut [u16],
-    at: usize,
-    base: u32,
-    c0: u32,
-    c1: u32,
-    c2: u32,
-    r: u32,
-    pattern: &Pattern,
-) -> usize
-    requires fact_1 { (c0 ≤ 64) × (c1 ≤ 64) × (c2 ≤ 64) × (10 ≤ r) × (r ≤ 62) × (base < 8192) }
-    requires fact_2 { at + 3 * (c0 + c1 + c2 + 3 * r) ≤ length out.old }
-    ensures { Wrote out.old at (indices pattern.now.positive (band (ring_at base (c0 + c1 + c2)) (ring_edges (base + (c0 + c1 + c2)) r c0 c1 c2))) out.new result }
-{
-    let p = r + 2;
-    if c0 == p {
-        if c1 == p {
-            if c2 == p {
-                return write_long_band(out, at, base, r, pattern);
-            }
-        }
-    }
-    write_band(out, at, base, c0, c1, c2, r, pattern.positive)
-}
-
 // Writes band after band inwards; for odd n the innermost ring is one more triangle.
 pub fn write_nest(
     out: &mut [u16],
@@ -93,44 +118,33 @@ pub fn write_nest(
     n: u32,
     positive: bool,
 ) -> usize
-    requires fact_1 { (c0 ≤ 64) × (c1 ≤ 64) × (c2 ≤ 64) × (n ≤ 64) }
-    requires fact_2 { at + 3 * count c0 c1 c2 n ≤ length out.old }
+    requires sizes { (c0 ≤ 64) × (c1 ≤ 64) × (c2 ≤ 64) × (n ≤ 64) }
+    requires room { at + 3 * count c0 c1 c2 n ≤ length out.old }
     ensures { Wrote out.old at (indices positive (nest 0 c0 c1 c2 n)) out.new result }
 {
     let mut to = at;
-    let mut base = 0u32;
-    let mut a = c0;
-    let mut b = c1;
-    let mut c = c2;
+    let mut ring = TriangleRing {
+        base: 0,
+        c0,
+        c1,
+        c2,
+    };
     let mut left = n;
     if 12 <= n {
         let pattern = Pattern::new(positive);
         'long: while 12 <= left {
-            let r = left - 2;
-            to = write_wide_band(out, to, base, a, b, c, r, &pattern);
-            base += a + b + c;
-            a = r;
-            b = r;
-            c = r;
-            left = r;
+            left -= 2;
+            to = ring.write_wide_band(out, to, left, &pattern);
+            ring = ring.inside(left);
         }
     }
     while 2 <= left {
-        let r = left - 2;
-        to = write_band(out, to, base, a, b, c, r, positive);
-        base = base + (a + b + c);
-        a = r;
-        b = r;
-        c = r;
-        left = r;
+        left -= 2;
+        to = ring.write_band(out, to, left, positive);
+        ring = ring.inside(left);
     }
     if left == 0 {
         return to;
     }
-    let innermost = Triangle {
-        a: base as u16,
-        b: (base + 1) as u16,
-        c: (base + 2) as u16,
-    };
-    strip::triangle::put_triangle(out, to, innermost, positive)
+    strip::triangle::put_triangle(out, to, ring.triangle(), positive)
 }

@@ -14,13 +14,13 @@ use strip::line::Line;
 pub struct Ring {
     pub base: u32,
     pub total: u32,
+    pub ghost small: { base + total < 65536 },
 }
 
 impl Ring {
     // Returns the line of n segments from the ring's vertex o on; it ends at the first vertex if it runs to the ring's end.
     pub(crate) fn line(self, o: u32, n: u32) -> Line
-        requires fact_1 { o + n ≤ self.total }
-        requires fact_2 { self.base + self.total < 65536 }
+        requires { o + n ≤ self.total }
         ensures { Follows result (from o (ring_at self.base self.total)) n }
     {
         let base = self.base;
@@ -52,8 +52,8 @@ impl Ring {
         inner: Line,
         positive: bool,
     ) -> usize
-        requires fact_1 { (p ≤ 64) × (inner.count ≤ 64) × (o + p ≤ self.total) × (self.base + self.total < 65536) }
-        requires fact_2 { at + 3 * (p + inner.count) ≤ length out.old }
+        requires few { (p ≤ 64) × (inner.count ≤ 64) × (o + p ≤ self.total) }
+        requires room { at + 3 * (p + inner.count) ≤ length out.old }
         ensures { Wrote out.old at (indices positive (strip (from o (ring_at self.base self.total)) (vertex inner) p inner.count)) out.new result }
     {
         let outer = self.line(o, p);

@@ -8,23 +8,23 @@ use Rattle.mesh_topology.specs.Quad.{grid_at}
 use Rattle.ring_indices.proofs.Bands.{side_next, band_step, band_last}
 use Rattle.indices.proofs.quad.write_frame.Goals as goal
 
-pub write_strip-w-requires-2-clause-fact_2 : goal.write_strip-w-requires-2-clause-fact_2
-write_strip-w-requires-2-clause-fact_2 c =
+pub write_strip-w-requires-2-clause-room : goal.write_strip-w-requires-2-clause-room
+write_strip-w-requires-2-clause-room c =
     let a = c.args in
     let F = ring_at 0 (a.c0 + a.c1 + a.c2 + a.c3) in
     let first = rw c.left.ensures.count at (side_next a.positive (from 0 F) a.c0 c.left.result c.write_strip-w.ensures) in
     omega (arith, c.requires, first, c.write_strip-w.auto.out, c.bottom.ensures.count)
 
-pub write_strip-w-requires-3-clause-fact_2 : goal.write_strip-w-requires-3-clause-fact_2
-write_strip-w-requires-3-clause-fact_2 c =
+pub write_strip-w-requires-3-clause-room : goal.write_strip-w-requires-3-clause-room
+write_strip-w-requires-3-clause-room c =
     let a = c.args in
     let F = ring_at 0 (a.c0 + a.c1 + a.c2 + a.c3) in
     let first = rw c.left.ensures.count at (side_next a.positive (from 0 F) a.c0 c.left.result c.write_strip-w.ensures) in
     let second = rw c.bottom.ensures.count at (side_next a.positive (from a.c0 F) a.c1 c.bottom.result c.write_strip-w-2.ensures) in
     omega (arith, c.requires, first, c.write_strip-w.auto.out, second, c.write_strip-w-2.auto.out, c.right.ensures.count)
 
-pub write_strip-requires-clause-fact_2 : goal.write_strip-requires-clause-fact_2
-write_strip-requires-clause-fact_2 c =
+pub write_strip-requires-clause-room : goal.write_strip-requires-clause-room
+write_strip-requires-clause-room c =
     let a = c.args in
     let F = ring_at 0 (a.c0 + a.c1 + a.c2 + a.c3) in
     let first = rw c.left.ensures.count at (side_next a.positive (from 0 F) a.c0 c.left.result c.write_strip-w.ensures) in

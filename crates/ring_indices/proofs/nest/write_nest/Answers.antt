@@ -10,55 +10,57 @@ long-init c =
     let a = c.args in
     (omega arith, left_all refl (omega (arith, nest_words_length a.positive 0 a.c0 a.c1 a.c2 a.n)))
 
-pub write_wide_band-to-requires-clause-fact_2 : goal.write_wide_band-to-requires-clause-fact_2
-write_wide_band-to-requires-clause-fact_2 c =
+pub write_wide_band-to-requires-clause-room : goal.write_wide_band-to-requires-clause-room
+write_wide_band-to-requires-clause-room c =
     let a = c.args in
     let l = c.long in
-    let fits = band_fits a.positive l.base l.a l.b l.c l.left (omega arith) l.invariant.1 in
+    let fits = band_fits a.positive l.ring.0 l.ring.1.0 l.ring.1.1.0 l.ring.1.1.1.0 l.left (omega arith) l.invariant.1 in
     fits
 
 pub long-preserved : goal.long-preserved
 long-preserved c =
     let a = c.args in
     let l = c.long in
-    (omega arith, band_written a.positive l.base l.a l.b l.c l.left (omega arith) (rw c.new-pattern.ensures at c.write_wide_band-to.ensures) l.invariant.1)
+    let i = c.inside-ring.ensures in
+    (omega arith, rw (i.0, i.1, i.2, i.3) (band_written a.positive l.ring.0 l.ring.1.0 l.ring.1.1.0 l.ring.1.1.1.0 l.left (omega arith) (rw c.new-pattern.ensures at c.write_wide_band-to.ensures) l.invariant.1))
 
 pub loop-left-init : goal.loop-left-init
 loop-left-init c =
     let a = c.args in
     elim c.if-n-ge12.branch [
-      | then-n-ge12+else-long-test w ↦ rw (w.out-is, w.to-is, w.base-is, w.a-is, w.b-is, w.c-is, w.left-is) w.long.invariant
+      | then-n-ge12+else-long-test w ↦ rw (w.out-is, w.to-is, w.ring-is, w.left-is) w.long.invariant
       | else-n-ge12 w ↦
-          rw (w.out-is, w.to-is, w.base-is, w.a-is, w.b-is, w.c-is, w.left-is)
+          rw (w.out-is, w.to-is, w.ring-is, w.left-is)
           (omega arith, left_all refl (omega (arith, nest_words_length a.positive 0 a.c0 a.c1 a.c2 a.n)))
     ]
 
-pub write_band-to-requires-clause-fact_2 : goal.write_band-to-requires-clause-fact_2
-write_band-to-requires-clause-fact_2 c =
+pub write_band-to-requires-clause-room : goal.write_band-to-requires-clause-room
+write_band-to-requires-clause-room c =
     let a = c.args in
     let l = c.loop-left in
-    band_fits a.positive l.base l.a l.b l.c l.left (omega arith) l.invariant.1
+    band_fits a.positive l.ring.0 l.ring.1.0 l.ring.1.1.0 l.ring.1.1.1.0 l.left (omega arith) l.invariant.1
 
 pub loop-left-preserved : goal.loop-left-preserved
 loop-left-preserved c =
     let a = c.args in
     let l = c.loop-left in
-    (omega arith, band_written a.positive l.base l.a l.b l.c l.left (omega arith) c.write_band-to.ensures l.invariant.1)
+    let i = c.inside-ring-in-loop-left.ensures in
+    (omega arith, rw (i.0, i.1, i.2, i.3) (band_written a.positive l.ring.0 l.ring.1.0 l.ring.1.1.0 l.ring.1.1.1.0 l.left (omega arith) c.write_band-to.ensures l.invariant.1))
 
 pub returns-then-left-eq0 : goal.returns-then-left-eq0
 returns-then-left-eq0 c =
     let a = c.args in
     let l = c.loop-left in
-    left_none (nest_none a.positive l.base l.a l.b l.c l.left c.if-left-eq0.true) l.invariant.1
+    left_none (nest_none a.positive l.ring.0 l.ring.1.0 l.ring.1.1.0 l.ring.1.1.1.0 l.left c.if-left-eq0.true) l.invariant.1
 
 pub put_triangle-requires : goal.put_triangle-requires
 put_triangle-requires c =
     let a = c.args in
     let l = c.loop-left in
-    omega (arith, nest_words_length a.positive l.base l.a l.b l.c l.left, one_triangle l.a l.b l.c l.left (omega arith))
+    omega (arith, nest_words_length a.positive l.ring.0 l.ring.1.0 l.ring.1.1.0 l.ring.1.1.1.0 l.left, one_triangle l.ring.1.0 l.ring.1.1.0 l.ring.1.1.1.0 l.left (omega arith))
 
 pub returns : goal.returns
 returns c =
     let a = c.args in
     let l = c.loop-left in
-    left_last c.put_triangle.ensures (nest_one a.positive l.base l.a l.b l.c l.left (omega arith)) l.invariant.1
+    left_last (rw c.triangle.ensures at c.put_triangle.ensures) (nest_one a.positive l.ring.0 l.ring.1.0 l.ring.1.1.0 l.ring.1.1.1.0 l.left (omega arith)) l.invariant.1

@@ -7,50 +7,50 @@ use Rattle.mesh_topology.specs.Band.{from}
 use Rattle.mesh_topology.specs.Nest.{ring_edge}
 use Rattle.ring_indices.proofs.Rings.{follows_from}
 use Rattle.ring_indices.proofs.Bands.{side_next, band_step, band_last}
-use Rattle.ring_indices.proofs.nest.write_band.Goals as goal
+use Rattle.ring_indices.proofs.nest.TriangleRing.write_band.Goals as goal
 
-pub write_strip-w-requires-2-clause-fact_2 : goal.write_strip-w-requires-2-clause-fact_2
-write_strip-w-requires-2-clause-fact_2 c =
+pub write_strip-w-requires-2-clause-room : goal.write_strip-w-requires-2-clause-room
+write_strip-w-requires-2-clause-room c =
     let a = c.args in
     omega (
       arith,
-      side_next a.positive (from 0 (ring_at a.base (a.c0 + a.c1 + a.c2))) a.c0 c.line.result
+      side_next a.positive (from 0 (ring_at a.self.base (a.self.c0 + a.self.c1 + a.self.c2))) a.self.c0 c.line.result
           c.write_strip-w.ensures,
       c.write_strip-w.auto.out,
       c.line.ensures.count,
       c.line-2.ensures.count,
     )
 
-pub write_strip-requires-clause-fact_2 : goal.write_strip-requires-clause-fact_2
-write_strip-requires-clause-fact_2 c =
+pub write_strip-requires-clause-room : goal.write_strip-requires-clause-room
+write_strip-requires-clause-room c =
     let a = c.args in
     omega (
       arith,
-      side_next a.positive (from 0 (ring_at a.base (a.c0 + a.c1 + a.c2))) a.c0
+      side_next a.positive (from 0 (ring_at a.self.base (a.self.c0 + a.self.c1 + a.self.c2))) a.self.c0
           c.line.result
           c.write_strip-w.ensures,
       c.write_strip-w.auto.out,
       c.line.ensures.count,
       side_next a.positive
-          (from a.c0 (ring_at a.base (a.c0 + a.c1 + a.c2))) a.c1 c.line-2.result
+          (from a.self.c0 (ring_at a.self.base (a.self.c0 + a.self.c1 + a.self.c2))) a.self.c1 c.line-2.result
           c.write_strip-w-2.ensures,
       c.write_strip-w-2.auto.out,
       c.line-2.ensures.count,
-      c.requires.fact_1,
-      c.requires.fact_2,
+      c.requires.few,
+      c.requires.room,
       c.line-3.ensures.count,
     )
 
 pub returns : goal.returns
 returns c =
     let a = c.args in
-    let total = a.c0 + a.c1 + a.c2 in
-    let inner = a.base + total in
-    let F = ring_at a.base total in
+    let total = a.self.c0 + a.self.c1 + a.self.c2 in
+    let inner = a.self.base + total in
+    let F = ring_at a.self.base total in
     let G = ring_at inner (3 * a.r) in
-    let e0 = ring_edge inner a.r 0 a.c0 in
-    let e1 = ring_edge inner a.r 1 a.c1 in
-    let e2 = ring_edge inner a.r 2 a.c2 in
+    let e0 = ring_edge inner a.r 0 a.self.c0 in
+    let e1 = ring_edge inner a.r 1 a.self.c1 in
+    let e2 = ring_edge inner a.r 2 a.self.c2 in
     let l0 = c.line in
     let l1 = c.line-2 in
     let l2 = c.line-3 in
@@ -59,15 +59,15 @@ returns c =
     band_step a.positive F 0 0 e0 l0.result refl (follows_from G 0 (0 * a.r) a.r (omega arith) l0.ensures) (e1 ∷ e2 ∷ [])
     (omega (
       arith,
-      c.requires.fact_2,
+      c.requires.room,
     )) s0.ensures
-    (band_step a.positive F a.c0 (0 + a.c0) e1 l1.result (omega arith) (follows_from G a.r (1 * a.r) a.r (omega arith) l1.ensures) (e2 ∷ [])
+    (band_step a.positive F a.self.c0 (0 + a.self.c0) e1 l1.result (omega arith) (follows_from G a.r (1 * a.r) a.r (omega arith) l1.ensures) (e2 ∷ [])
     (omega (
       arith,
-      side_next a.positive (from 0 F) a.c0 l0.result s0.ensures,
+      side_next a.positive (from 0 F) a.self.c0 l0.result s0.ensures,
       s0.auto.out,
       l0.ensures.count,
-      c.requires.fact_2,
+      c.requires.room,
     ))
     s1.ensures
-    (band_last a.positive F (a.c0 + a.c1) (0 + a.c0 + a.c1) e2 l2.result (omega arith) l2.ensures c.write_strip.ensures))
+    (band_last a.positive F (a.self.c0 + a.self.c1) (0 + a.self.c0 + a.self.c1) e2 l2.result (omega arith) l2.ensures c.write_strip.ensures))
