@@ -11,8 +11,8 @@ pub write_plain_triangle-requires : goal.write_plain_triangle-requires
 unfolding primitive_count
 write_plain_triangle-requires c = omega (arith, count_fits c.args.positive PlainTriangle c.requires.room c.in-PlainTriangle.is tt)
 
-pub write_nest-requires-clause-fact_2 : goal.write_nest-requires-clause-fact_2
-write_nest-requires-clause-fact_2 c =
+pub write_nest-requires-clause-room : goal.write_nest-requires-clause-room
+write_nest-requires-clause-room c =
     let is = c.in-Triangle in
     let v = valid_as c.requires.valid is.is in
     let room = room_as (λ d. length (primitives c.args.positive d)) c.requires.room is.is in
