@@ -15,13 +15,11 @@ pub(crate) fn coordinate_of(x: u32, one: u32) -> f32
 
 // Writes the first `count` words as floats to the front of `out`, each divided by `one`.
 pub fn write_coordinates(out: &mut [f32], words: &[u32], count: usize, one: u32)
-    requires fact_1 { (count ≤ length out.old) × (count ≤ length words.now) × (0 < one) × (one ≤ 16777216) }
-    requires fact_2 { Castable count words.now }
+    requires room { (count ≤ length out.old) × (count ≤ length words.now) × (0 < one) × (one ≤ 16777216) }
+    requires castable { Castable count words.now }
     ensures { out.new ≡ over out.old 0 (map (coordinate one) (take count words.now)) }
 {
-    let mut i: usize = 0;
-    while i < count {
+    for i in 0..count {
         out[i] = coordinate_of(words[i], one);
-        i += 1;
     }
 }

@@ -5,7 +5,7 @@
 
 ghost use Rattle.level.specs.Top.{Top};
 
-use level::{Clamp, Segments, Spacing};
+use level::{Clamp, Clamped, Segments, Spacing};
 use std::io::{self, Print, Stdout};
 
 fn main(rt: HostRuntime) -> io::Result<()> {
@@ -13,44 +13,60 @@ fn main(rt: HostRuntime) -> io::Result<()> {
     limits(out)?;
     ends(out)?;
     lower_tops(out)?;
-    each_outer(out, Spacing::Equal)?;
-    each_outer(out, Spacing::FractionalEven)?;
-    each_outer(out, Spacing::FractionalOdd)?;
-    each_inner(out, Spacing::Equal)?;
-    each_inner(out, Spacing::FractionalEven)?;
-    each_inner(out, Spacing::FractionalOdd)?;
+    for spacing in [
+        Spacing::Equal,
+        Spacing::FractionalEven,
+        Spacing::FractionalOdd,
+    ] {
+        each_outer(out, spacing)?;
+    }
+    for spacing in [
+        Spacing::Equal,
+        Spacing::FractionalEven,
+        Spacing::FractionalOdd,
+    ] {
+        each_inner(out, spacing)?;
+    }
     each_top(out)?;
     Ok(())
 }
 
 // Equal at 1 and just above, odd at 63 and 64, even at 0.5, equal at 64 and 1000; then odd just above 1 and even just above 2.
 fn limits(out: Stdout) -> io::Result<()> {
-    outer(out, 0x3f80_0000, Spacing::Equal, 64)?;
-    outer(out, 0x3f80_0001, Spacing::Equal, 64)?;
-    outer(out, 0x427c_0000, Spacing::FractionalOdd, 64)?;
-    outer(out, 0x4280_0000, Spacing::FractionalOdd, 64)?;
-    outer(out, 0x3f00_0000, Spacing::FractionalEven, 64)?;
-    outer(out, 0x4280_0000, Spacing::Equal, 64)?;
-    outer(out, 0x447a_0000, Spacing::Equal, 64)?;
-    outer(out, 0x3f80_0001, Spacing::FractionalOdd, 64)?;
-    outer(out, 0x4000_0001, Spacing::FractionalEven, 64)?;
+    for (bits, spacing) in [
+        (0x3f80_0000, Spacing::Equal),
+        (0x3f80_0001, Spacing::Equal),
+        (0x427c_0000, Spacing::FractionalOdd),
+        (0x4280_0000, Spacing::FractionalOdd),
+        (0x3f00_0000, Spacing::FractionalEven),
+        (0x4280_0000, Spacing::Equal),
+        (0x447a_0000, Spacing::Equal),
+        (0x3f80_0001, Spacing::FractionalOdd),
+        (0x4000_0001, Spacing::FractionalEven),
+    ] {
+        outer(out, bits, spacing, 64)?;
+    }
     Ok(())
 }
 
 // The ends of each range, and the next f32 outside each end.
 fn ends(out: Stdout) -> io::Result<()> {
-    outer(out, 0x3f7f_ffff, Spacing::Equal, 64)?;
-    outer(out, 0x3f80_0000, Spacing::Equal, 64)?;
-    outer(out, 0x4280_0000, Spacing::Equal, 64)?;
-    outer(out, 0x4280_0001, Spacing::Equal, 64)?;
-    outer(out, 0x3fff_ffff, Spacing::FractionalEven, 64)?;
-    outer(out, 0x4000_0000, Spacing::FractionalEven, 64)?;
-    outer(out, 0x4280_0000, Spacing::FractionalEven, 64)?;
-    outer(out, 0x4280_0001, Spacing::FractionalEven, 64)?;
-    outer(out, 0x3f7f_ffff, Spacing::FractionalOdd, 64)?;
-    outer(out, 0x3f80_0000, Spacing::FractionalOdd, 64)?;
-    outer(out, 0x427c_0000, Spacing::FractionalOdd, 64)?;
-    outer(out, 0x427c_0001, Spacing::FractionalOdd, 64)?;
+    for (bits, spacing) in [
+        (0x3f7f_ffff, Spacing::Equal),
+        (0x3f80_0000, Spacing::Equal),
+        (0x4280_0000, Spacing::Equal),
+        (0x4280_0001, Spacing::Equal),
+        (0x3fff_ffff, Spacing::FractionalEven),
+        (0x4000_0000, Spacing::FractionalEven),
+        (0x4280_0000, Spacing::FractionalEven),
+        (0x4280_0001, Spacing::FractionalEven),
+        (0x3f7f_ffff, Spacing::FractionalOdd),
+        (0x3f80_0000, Spacing::FractionalOdd),
+        (0x427c_0000, Spacing::FractionalOdd),
+        (0x427c_0001, Spacing::FractionalOdd),
+    ] {
+        outer(out, bits, spacing, 64)?;
+    }
     Ok(())
 }
 
@@ -79,24 +95,32 @@ fn lower_tops(out: Stdout) -> io::Result<()> {
 
 // Two NaNs, the infinities, both zeros, and the smallest numbers above and below 0.
 fn each_outer(out: Stdout, spacing: Spacing) -> io::Result<()> {
-    outer(out, 0x7fc0_0000, spacing, 64)?;
-    outer(out, 0xff80_0001, spacing, 64)?;
-    outer(out, 0x7f80_0000, spacing, 64)?;
-    outer(out, 0xff80_0000, spacing, 64)?;
-    outer(out, 0x0000_0000, spacing, 64)?;
-    outer(out, 0x8000_0000, spacing, 64)?;
-    outer(out, 0x0000_0001, spacing, 64)?;
-    outer(out, 0x8000_0001, spacing, 64)?;
+    for bits in [
+        0x7fc0_0000,
+        0xff80_0001,
+        0x7f80_0000,
+        0xff80_0000,
+        0x0000_0000,
+        0x8000_0000,
+        0x0000_0001,
+        0x8000_0001,
+    ] {
+        outer(out, bits, spacing, 64)?;
+    }
     Ok(())
 }
 
 // Inner levels: 1 and just above, 0, a NaN, and 2.
 fn each_inner(out: Stdout, spacing: Spacing) -> io::Result<()> {
-    inner(out, 0x3f80_0000, spacing, 64)?;
-    inner(out, 0x3f80_0001, spacing, 64)?;
-    inner(out, 0x0000_0000, spacing, 64)?;
-    inner(out, 0x7fc0_0000, spacing, 64)?;
-    inner(out, 0x4000_0000, spacing, 64)?;
+    for bits in [
+        0x3f80_0000,
+        0x3f80_0001,
+        0x0000_0000,
+        0x7fc0_0000,
+        0x4000_0000,
+    ] {
+        inner(out, bits, spacing, 64)?;
+    }
     Ok(())
 }
 
@@ -104,96 +128,71 @@ fn outer(out: Stdout, bits: u32, spacing: Spacing, top: u32) -> io::Result<()>
     requires { Top top }
 {
     let level = level::level_of_bits(bits);
-    write_input(out, bits, spacing, top)?;
-    if level::discards(level) {
-        out.write_all(b" discarded")?;
+    let fate = if level::discards(level) {
+        "discarded"
     } else {
-        out.write_all(b" kept")?;
-    }
-    let clamped = level::segments_of(level, spacing, top);
-    let clamp = clamped.clamp;
-    write_clamp(out, clamp)?;
-    write_segments(out, clamped.segments)?;
-    Ok(())
+        "kept"
+    };
+    let Clamped { segments, clamp } = level::segments_of(level, spacing, top);
+    write_line(out, bits, spacing, top, fate, clamp, segments)
 }
 
 fn inner(out: Stdout, bits: u32, spacing: Spacing, top: u32) -> io::Result<()>
     requires { Top top }
 {
-    write_input(out, bits, spacing, top)?;
-    out.write_all(b" inner")?;
-    let own = level::segments_of(level::level_of_bits(bits), spacing, top);
-    let clamp = own.clamp;
-    write_clamp(out, clamp)?;
-    write_segments(out, level::as_inner(own.segments, spacing))?;
+    let Clamped { segments, clamp } = level::segments_of(level::level_of_bits(bits), spacing, top);
+    write_line(
+        out,
+        bits,
+        spacing,
+        top,
+        "inner",
+        clamp,
+        level::as_inner(segments, spacing),
+    )
+}
+
+fn write_line(
+    out: Stdout,
+    bits: u32,
+    spacing: Spacing,
+    top: u32,
+    fate: &str,
+    clamp: Clamp,
+    segments: Segments,
+) -> io::Result<()> {
+    let spacing = name_of_spacing(spacing);
+    let clamp = name_of_clamp(clamp);
+    let Segments { count, scaled } = segments;
+    println!(out; "{bits:08x} {spacing} {top} {fate} {clamp} {count} {scaled}")?;
     Ok(())
 }
 
-fn write_input(out: Stdout, bits: u32, spacing: Spacing, top: u32) -> io::Result<()> {
-    print!(out; "{bits:08x}")?;
+fn name_of_spacing(spacing: Spacing) -> &'static str {
     match spacing {
-        Spacing::Equal => {
-            out.write_all(b" equal")?;
-        }
-        Spacing::FractionalEven => {
-            out.write_all(b" even")?;
-        }
-        Spacing::FractionalOdd => {
-            out.write_all(b" odd")?;
-        }
+        Spacing::Equal => "equal",
+        Spacing::FractionalEven => "even",
+        Spacing::FractionalOdd => "odd",
     }
-    out.write_all(b" ")?;
-    print!(out; "{top}")?;
-    Ok(())
 }
 
-fn write_clamp(out: Stdout, clamp: Clamp) -> io::Result<()> {
+fn name_of_clamp(clamp: Clamp) -> &'static str {
     match clamp {
-        Clamp::Below => {
-            out.write_all(b" below")?;
-        }
-        Clamp::Inside => {
-            out.write_all(b" inside")?;
-        }
-        Clamp::Above => {
-            out.write_all(b" above")?;
-        }
+        Clamp::Below => "below",
+        Clamp::Inside => "inside",
+        Clamp::Above => "above",
     }
-    Ok(())
-}
-
-fn write_segments(out: Stdout, segments: Segments) -> io::Result<()> {
-    out.write_all(b" ")?;
-    let count = segments.count;
-    print!(out; "{count}")?;
-    out.write_all(b" ")?;
-    let scaled = segments.scaled;
-    print!(out; "{scaled}")?;
-    out.write_all(b"\n")?;
-    Ok(())
 }
 
 // The numbers next to the least and the greatest top level, two between them, and the largest u32.
 fn each_top(out: Stdout) -> io::Result<()> {
-    write_top(out, 0)?;
-    write_top(out, 1)?;
-    write_top(out, 2)?;
-    write_top(out, 3)?;
-    write_top(out, 4)?;
-    write_top(out, 63)?;
-    write_top(out, 64)?;
-    write_top(out, 65)?;
-    write_top(out, 66)?;
-    write_top(out, 0xffff_ffff)?;
-    Ok(())
-}
-
-fn write_top(out: Stdout, number: u32) -> io::Result<()> {
-    print!(out; "{number}")?;
-    if level::is_top(number) {
-        out.write_all(b" top\n")?;
-    } else {
-        out.write_all(b" no top\n")?;
+    for number in [0, 1, 2, 3, 4, 63, 64, 65, 66, 0xffff_ffff] {
+        let verdict = if level::is_top(number) {
+            "top"
+        } else {
+            "no top"
+        };
+        println!(out; "{number} {verdict}")?;
     }
     Ok(())
 }

@@ -3,8 +3,8 @@ use Rattle.draw_floats.proofs.Lists.{points_over, loop_asks}
 use Rattle.draw_floats.proofs.Draws.{all_written}
 use Rattle.draw_floats.proofs.draw.draw_with_floats.Goals as goal
 
-pub write_coordinates-requires-clause-fact_1 : goal.write_coordinates-requires-clause-fact_1
-write_coordinates-requires-clause-fact_1 c =
+pub write_coordinates-requires-clause-room : goal.write_coordinates-requires-clause-room
+write_coordinates-requires-clause-room c =
     let a = c.args in
     let judge = c.judge-answer in
     let drawn = c.draw_points in
@@ -12,8 +12,8 @@ write_coordinates-requires-clause-fact_1 c =
     c.in-Drawn.is judge.ensures in
     (loop_asks a.settings a.patch fits (points_over a.settings a.patch fits drawn.result drawn.ensures) c.one_of.ensures).0
 
-pub write_coordinates-requires-clause-fact_2 : goal.write_coordinates-requires-clause-fact_2
-write_coordinates-requires-clause-fact_2 c =
+pub write_coordinates-requires-clause-castable : goal.write_coordinates-requires-clause-castable
+write_coordinates-requires-clause-castable c =
     let a = c.args in
     let judge = c.judge-answer in
     let drawn = c.draw_points in
