@@ -74,81 +74,65 @@ fn write_rings(out: &mut [u32], at: usize, row: &[u32]) -> usize
     write_ring(out, to, &inner[0..1])
 }
 
-// Returns eight points of `base`, three words each, plus p, q and r.
-fn eight(base: &[u32], from: usize, p: u32, q: u32, r: u32) -> [u32; 24]
-    requires { from + 24 ≤ length base.now }
-    ensures { result ≡ flat (sums base.now from p q r) 0 8 }
-{
-    let mut words = [0u32; 24];
-    let mut to = 0usize;
-    for i in 0..8 {
-        let j = from + 3 * i;
-        let u = base[j].wrapping_add(p);
-        let v = base[j + 1].wrapping_add(q);
-        let w = base[j + 2].wrapping_add(r);
-        to = buffer::put3(&mut words, to, u, v, w);
+// What is added to the three words of each point of a list, modulo 2^32.
+#[derive(Clone, Copy, Drop)]
+struct Shift {
+    u: u32,
+    v: u32,
+    w: u32,
+}
+
+impl Shift {
+    // Returns eight points of `base`, three words each, shifted.
+    fn eight(self, base: &[u32], from: usize) -> [u32; 24]
+        requires { from + 24 ≤ length base.now }
+        ensures { result ≡ flat (sums base.now from self.u self.v self.w) 0 8 }
+    {
+        let mut words = [0u32; 24];
+        let mut to = 0usize;
+        for i in 0..8 {
+            let j = from + 3 * i;
+            let u = base[j].wrapping_add(self.u);
+            let v = base[j + 1].wrapping_add(self.v);
+            let w = base[j + 2].wrapping_add(self.w);
+            to = buffer::put3(&mut words, to, u, v, w);
+        }
+        words
     }
-    words
-}
 
-fn write_eight(
-    out: &mut [u32],
-    at: usize,
-    base: &[u32],
-    from: usize,
-    p: u32,
-    q: u32,
-    r: u32,
-) -> usize
-    requires source { from + 24 ≤ length base.now }
-    requires room { at + 24 ≤ length out.old }
-    ensures { Wrote out.old at (flat (sums base.now from p q r) 0 8) out.new result }
-{
-    let words = eight(base, from, p, q, r);
-    buffer::put_all(out, at, &words)
-}
-
-fn write_eights(
-    out: &mut [u32],
-    at: usize,
-    base: &[u32],
-    from: usize,
-    k: usize,
-    p: u32,
-    q: u32,
-    r: u32,
-) -> usize
-    requires source { from + 24 * k ≤ length base.now }
-    requires room { at + 24 * k ≤ length out.old }
-    ensures { Wrote out.old at (flat (sums base.now from p q r) 0 (8 * k)) out.new result }
-{
-    let mut to = at;
-    for i in 0..k {
-        to = write_eight(out, to, base, from + 24 * i, p, q, r);
+    fn write_eight(self, out: &mut [u32], at: usize, base: &[u32], from: usize) -> usize
+        requires source { from + 24 ≤ length base.now }
+        requires room { at + 24 ≤ length out.old }
+        ensures { Wrote out.old at (flat (sums base.now from self.u self.v self.w) 0 8) out.new result }
+    {
+        let words = self.eight(base, from);
+        buffer::put_all(out, at, &words)
     }
-    to
-}
 
-// Writes n points of `base`, at least eight, plus p, q and r. It writes the first eight, then blocks of eight that end at the last point; so
-// it writes some points twice, with the same words.
-fn write_run(
-    out: &mut [u32],
-    at: usize,
-    base: &[u32],
-    from: usize,
-    n: usize,
-    p: u32,
-    q: u32,
-    r: u32,
-) -> usize
-    requires source { (8 ≤ n) × (from + 3 * n ≤ length base.now) }
-    requires room { at + 3 * n ≤ length out.old }
-    ensures { Wrote out.old at (flat (sums base.now from p q r) 0 n) out.new result }
-{
-    let k = (n - 1) / 8;
-    let m = n - 8 * k;
-    write_eight(out, at, base, from, p, q, r);
-    write_eights(out, at + 3 * m, base, from + 3 * m, k, p, q, r)
+    fn write_eights(self, out: &mut [u32], at: usize, base: &[u32], from: usize, k: usize) -> usize
+        requires source { from + 24 * k ≤ length base.now }
+        requires room { at + 24 * k ≤ length out.old }
+        ensures { Wrote out.old at (flat (sums base.now from self.u self.v self.w) 0 (8 * k)) out.new result }
+    {
+        let mut to = at;
+        for i in 0..k {
+            to = self.write_eight(out, to, base, from + 24 * i);
+        }
+        to
+    }
+
+    // Writes n points of `base`, at least eight, shifted. It writes the first eight, then blocks of eight that end at the last point; so
+    // it writes some points twice, with the same words.
+    fn write_run(self, out: &mut [u32], at: usize, base: &[u32], from: usize, n: usize) -> usize
+        requires source { (8 ≤ n) × (from + 3 * n ≤ length base.now) }
+        requires room { at + 3 * n ≤ length out.old }
+        ensures { Wrote out.old at (flat (sums base.now from self.u self.v self.w) 0 n) out.new result }
+    {
+        let k = (n - 1) / 8;
+        let m = n - 8 * k;
+        self.write_eight(out, at, base, from);
+        self.write_eights(out, at + 3 * m, base, from + 3 * m, k)
+    }
 }
 
 // Writes an inner ring, each edge without its end, from the points of the outline at the ring's places: `base` holds those of edge 0,
@@ -171,9 +155,24 @@ fn write_wide_ring(
     let d = row[0];
     let less = d.wrapping_neg();
     let more = 2 * d;
-    let w = write_run(out, at, base, from, n, more, less, less);
-    let w = write_run(out, w, other, from, n, less, more, less);
-    write_run(out, w, base, from + 1, n, less, less, more)
+    let first = Shift {
+        u: more,
+        v: less,
+        w: less,
+    };
+    let second = Shift {
+        u: less,
+        v: more,
+        w: less,
+    };
+    let third = Shift {
+        u: less,
+        v: less,
+        w: more,
+    };
+    let w = first.write_run(out, at, base, from, n);
+    let w = second.write_run(out, w, other, from, n);
+    third.write_run(out, w, base, from + 1, n)
 }
 
 // Writes the same rings as `write_rings`; where edges have eight segments or more, eight points at a time.
