@@ -15,16 +15,16 @@ use Rattle.patch.specs.declared.settings.Settings.{Settings}
 use Rattle.patch.specs.Subdivide.{discards}
 use Rattle.level_clamps.specs.Clamps.{clamps_of}
 use Rattle.level_clamps.proofs.Numbers.{clamps_in}
+use Rattle.std.proofs.Common.{Result, Ok, Err}
+use Rattle.measure.specs.declared.cut.NotDrawn.{NotDrawn}
+use Rattle.measure.specs.declared.cut.NotDrawn.TheVariants as reason
 use Rattle.measure.specs.declared.size.Size.{Size}
-use Rattle.measure.specs.declared.size.Size.TheVariants as size
-use Rattle.tessellate.specs.declared.answer.PointsAnswer.{PointsAnswer}
-use Rattle.tessellate.specs.declared.answer.PointsAnswer.TheVariants as points
-use Rattle.tessellate.specs.declared.answer.IndicesAnswer.{IndicesAnswer}
-use Rattle.tessellate.specs.declared.answer.IndicesAnswer.TheVariants as indices
+use Rattle.tessellate.specs.declared.refusal.DrawRefusal.{DrawRefusal}
+use Rattle.tessellate.specs.declared.refusal.DrawRefusal.TheVariants as refusal
 use Rattle.measure.specs.Sizes.{size_code, points_of, indices_of}
-use Rattle.tessellate.specs.Answers.{points_code, indices_code, list_verdict, points_verdict, indices_verdict}
+use Rattle.tessellate.specs.Answers.{draw_code, points_code, indices_code, list_verdict, points_verdict, indices_verdict}
 use Rattle.level.proofs.Top.{top_as, is_top_lem, no_top, top_no}
-use Rattle.measure.proofs.Measured.{measured, measured_told, size_in, size_back}
+use Rattle.measure.proofs.Measured.{measured, measured_told, counts_with, size_in, size_back}
 use Rattle.answer_codes.specs.AnswerCode.{AnswerCode}
 use Rattle.call_answers.specs.Replies.{unknown_setting, bad_top, one_word, Says}
 use Rattle.call_answers.proofs.Replies.{says_as}
@@ -85,94 +85,92 @@ call_exactly bs words told Means right bad back exactly number no_top read is sa
     (says_as (ap (known bs bad_top unknown_setting) is) says)
 
 -- ---- measuring
+abbrev bad_size : Result Size NotDrawn
+bad_size = Err reason.BadTop
+
+abbrev no_size : Result Size NotDrawn
+no_size = Err reason.Discarded
+
 module _ (set : Settings) (p : Patch) where
-  abbrev counts : Size
-  counts = size.Counts (points_of set p) (indices_of set p) (clamps_of set.spacing set.top p)
+  abbrev counts : Result Size NotDrawn
+  counts = Ok (counts_with (points_of set p) (indices_of set p) (clamps_of set.spacing set.top p))
 
   -- measuring needs no room
-  is_choice : measured set p ≡ choice set p 0 0 size.BadTop size.Discarded size.BadTop counts
+  is_choice : measured set p ≡ choice set p 0 0 bad_size no_size bad_size counts
   unfolding measured
   is_choice = refl
 
-  size_means : SizeMeans set p (choice set p 0 0 size.BadTop size.Discarded size.BadTop counts)
+  size_means : SizeMeans set p (choice set p 0 0 bad_size no_size bad_size counts)
   size_means =
-      choice_cases set p 0 0 size.BadTop size.Discarded size.BadTop counts (SizeMeans set p) (λ n. n) (λ d. d) (λ d h. absurd (omega arith)) (λ d h. (d, refl, refl, refl))
+      choice_cases set p 0 0 bad_size no_size bad_size counts (SizeMeans set p) (λ n. n) (λ d. d) (λ d h. absurd (omega arith)) (λ d h. (d, refl, refl, refl))
 
-  means_size : (s : Size) → SizeMeans set p s → choice set p 0 0 size.BadTop size.Discarded size.BadTop counts ≡ s
-  means_size size.BadTop n = is_bad set p 0 0 _ _ size.BadTop counts n
-  means_size size.Discarded d = is_none set p 0 0 size.BadTop _ size.BadTop counts d
-  means_size (size.Counts m k c) (d, e, f, g) = is_done set p 0 0 size.BadTop size.Discarded size.BadTop counts d (omega arith) ∙ rw (e, f, g)
+  means_size : (s : Result Size NotDrawn) → SizeMeans set p s → choice set p 0 0 bad_size no_size bad_size counts ≡ s
+  means_size (Err reason.BadTop) n = is_bad set p 0 0 _ _ bad_size counts n
+  means_size (Err reason.Discarded) d = is_none set p 0 0 bad_size _ bad_size counts d
+  means_size (Ok s) (d, e, f, g) = is_done set p 0 0 bad_size no_size bad_size counts d (omega arith) ∙ rw (← e, ← f, ← g) refl
 
-  size_exactly : (s : Size) → measured set p ≡ s ↔ SizeMeans set p s
+  size_exactly : (s : Result Size NotDrawn) → measured set p ≡ s ↔ SizeMeans set p s
   size_exactly = rw is_choice (both (SizeMeans set p) size_means means_size)
 
 size_readable : Readable measure_words size_code size_in
 size_readable = record { same = same; no_eight = no_eight; place = λ k. refl }
   where
-    same : (s : Size) → size_in (size_code s).number (measure_words (size_code s).values) ≡ s
-    same (size.Counts p i c) = ap (λ (ks : List ℕ). size.Counts p i (clamps_in ks)) (sym (six_numbers p i c)) ∙ size_back (size.Counts p i c)
-    same size.Discarded = refl
-    same size.BadTop = refl
+    same : (s : Result Size NotDrawn) → size_in (size_code s).number (measure_words (size_code s).values) ≡ s
+    same (Ok s) =
+        ap (λ (ks : List ℕ). Ok (counts_with s.points s.indices (clamps_in ks))) (sym (six_numbers s.points s.indices s.clamps)) ∙ size_back (Ok s)
+    same (Err reason.Discarded) = refl
+    same (Err reason.BadTop) = refl
 
-    no_eight : (s : Size) → eqb (size_code s).number 8 ≡ false
-    no_eight (size.Counts p i c) = refl
-    no_eight size.Discarded = refl
-    no_eight size.BadTop = refl
+    no_eight : (s : Result Size NotDrawn) → eqb (size_code s).number 8 ≡ false
+    no_eight (Ok s) = refl
+    no_eight (Err reason.Discarded) = refl
+    no_eight (Err reason.BadTop) = refl
 
 pub measure_call_exactly : (bs : List ℕ) (xs : List Float) {c' k' : List ℕ} {r : ℕ} → MeasureCalled bs xs c' k' r → MeasureExactly bs xs c' k' r
 measure_call_exactly bs xs m =
     let set = settings_in bs in
     let p = patch_in bs xs in
-    call_exactly bs measure_words size_code (SizeMeans set p) (measured set p) size.BadTop size_in (size_exactly set p) refl (λ n. n) size_readable (measured_told set p)
+    call_exactly bs measure_words size_code (SizeMeans set p) (measured set p) bad_size size_in (size_exactly set p) refl (λ n. n) size_readable (measured_told set p)
     (record { number = m.says.number; counts = rw (m.says.counts, m.clamps) })
 
 -- ---- drawing
--- points and indices have answers of the same four forms: `count` of them are drawn into `need` words of a list of `have`
-module _ (set : Settings) (p : Patch) (need count have : ℕ) {A : Type 0} (bad none no_room : A) (drawn : ℕ → A) where
-  abbrev draw_right : A
-  draw_right = choice set p need have bad none no_room (drawn count)
+-- points and indices have answers of the same forms: `count` of them are drawn into `need` words of a list of `have`, and one refusal is never given
+module _ (set : Settings) (p : Patch) (need count have : ℕ) (no_room never : DrawRefusal) where
+  abbrev draw_right : Result ℕ DrawRefusal
+  draw_right = choice set p need have (Err refusal.BadTop) (Err refusal.Discarded) (Err no_room) (Ok count)
 
-  draw_exactly : ((P : A → Type 0) → P bad → P none → P no_room → ((n : ℕ) → P (drawn n)) → (a : A) → P a) → (Means : A → Type 0)
-      → Means bad ↔ (Top set.top → ⊥) → Means none ↔ Discarded set p → Means no_room ↔ Drawable set p × (have < need)
-      → ((n : ℕ) → Means (drawn n) ↔ Drawable set p × (need ≤ have) × (n ≡ count)) → (a : A) → draw_right ≡ a ↔ Means a
-  draw_exactly cases Means is-bad-top is_discarded_lem is-no-room is-drawn =
+  draw_exactly : ((P : Result ℕ DrawRefusal → Type 0) → P (Err refusal.BadTop) → P (Err refusal.Discarded) → P (Err no_room) → P (Err never) → ((n : ℕ) → P (Ok n))
+      → (a : Result ℕ DrawRefusal) → P a) → (Means : Result ℕ DrawRefusal → Type 0)
+      → Means (Err refusal.BadTop) ↔ (Top set.top → ⊥) → Means (Err refusal.Discarded) ↔ Discarded set p → Means (Err no_room) ↔ Drawable set p × (have < need)
+      → (Means (Err never) → ⊥) → ((n : ℕ) → Means (Ok n) ↔ Drawable set p × (need ≤ have) × (n ≡ count))
+      → (a : Result ℕ DrawRefusal) → draw_right ≡ a ↔ Means a
+  draw_exactly cases Means is-bad-top is_discarded_lem is-no-room is-never is-drawn =
       both Means
       (choice_cases set p need have _ _ _ _ Means is-bad-top.1 is_discarded_lem.1 (λ d h. is-no-room.1 (d, h)) (λ d h. (is-drawn count).1 (d, h, refl)))
       (cases (λ a. Means a → draw_right ≡ a)
       (λ m. is_bad set p need have _ _ _ _ (is-bad-top.0 m))
       (λ m. is_none set p need have _ _ _ _ (is_discarded_lem.0 m))
       (λ m. let w = is-no-room.0 m in is_short set p need have _ _ _ _ w.0 w.1)
-      (λ n m. let w = (is-drawn n).0 m in is_done set p need have _ _ _ _ w.0 w.1 ∙ ap drawn (sym w.2)))
+      (λ m. absurd (is-never m))
+      (λ n m. let w = (is-drawn n).0 m in is_done set p need have _ _ _ _ w.0 w.1 ∙ ap Ok (sym w.2)))
 
-points_cases : (P : PointsAnswer → Type 0) → P points.BadTop → P points.Discarded → P points.NoRoomForVertices → ((n : ℕ) → P (points.Drawn n)) → (a : PointsAnswer) → P a
-points_cases P a b c d points.BadTop = a
-points_cases P a b c d points.Discarded = b
-points_cases P a b c d points.NoRoomForVertices = c
-points_cases P a b c d (points.Drawn n) = d n
+draw_cases : (P : Result ℕ DrawRefusal → Type 0) → P (Err refusal.BadTop) → P (Err refusal.Discarded) → P (Err refusal.NoRoomForVertices)
+    → P (Err refusal.NoRoomForIndices) → ((n : ℕ) → P (Ok n)) → (a : Result ℕ DrawRefusal) → P a
+draw_cases P a b c e d (Err refusal.BadTop) = a
+draw_cases P a b c e d (Err refusal.Discarded) = b
+draw_cases P a b c e d (Err refusal.NoRoomForVertices) = c
+draw_cases P a b c e d (Err refusal.NoRoomForIndices) = e
+draw_cases P a b c e d (Ok n) = d n
 
-indices_cases : (P : IndicesAnswer → Type 0) → P indices.BadTop → P indices.Discarded → P indices.NoRoomForIndices → ((n : ℕ) → P (indices.Drawn n)) → (a : IndicesAnswer) → P a
-indices_cases P a b c d indices.BadTop = a
-indices_cases P a b c d indices.Discarded = b
-indices_cases P a b c d indices.NoRoomForIndices = c
-indices_cases P a b c d (indices.Drawn n) = d n
+abbrev drawn_in : ℕ → List ℕ → Result ℕ DrawRefusal
+drawn_in n c =
+    cond (eqb n 0) (Ok (get_or c 0 0))
+    (cond (eqb n 1) (Err refusal.Discarded) (cond (eqb n 3) (Err refusal.NoRoomForVertices) (cond (eqb n 4) (Err refusal.NoRoomForIndices) (Err refusal.BadTop))))
 
-abbrev points_in : ℕ → List ℕ → PointsAnswer
-points_in n c = cond (eqb n 0) (points.Drawn (get_or c 0 0)) (cond (eqb n 1) points.Discarded (cond (eqb n 3) points.NoRoomForVertices points.BadTop))
-
-abbrev indices_in : ℕ → List ℕ → IndicesAnswer
-indices_in n c = cond (eqb n 0) (indices.Drawn (get_or c 0 0)) (cond (eqb n 1) indices.Discarded (cond (eqb n 4) indices.NoRoomForIndices indices.BadTop))
-
-points_readable : Readable one_word points_code points_in
-points_readable = record {
-  same = points_cases (λ a. points_in (points_code a).number (one_word (points_code a).values) ≡ a) refl refl refl (λ n. refl);
-  no_eight = points_cases (λ a. eqb (points_code a).number 8 ≡ false) refl refl refl (λ n. refl);
-  place = λ k. refl;
-}
-
-indices_readable : Readable one_word indices_code indices_in
-indices_readable = record {
-  same = indices_cases (λ a. indices_in (indices_code a).number (one_word (indices_code a).values) ≡ a) refl refl refl (λ n. refl);
-  no_eight = indices_cases (λ a. eqb (indices_code a).number 8 ≡ false) refl refl refl (λ n. refl);
+drawn_readable : Readable one_word draw_code drawn_in
+drawn_readable = record {
+  same = draw_cases (λ a. drawn_in (draw_code a).number (one_word (draw_code a).values) ≡ a) refl refl refl refl (λ n. refl);
+  no_eight = draw_cases (λ a. eqb (draw_code a).number 8 ≡ false) refl refl refl refl (λ n. refl);
   place = λ k. refl;
 }
 
@@ -180,17 +178,19 @@ itself : {X : Type 0} → X ↔ X
 itself = (λ x. x, λ x. x)
 
 module _ (set : Settings) (p : Patch) (have : ℕ) where
-  abbrev points_right : PointsAnswer
-  points_right = draw_right set p (3 * points_of set p) (points_of set p) have points.BadTop points.Discarded points.NoRoomForVertices points.Drawn
+  abbrev points_right : Result ℕ DrawRefusal
+  points_right = draw_right set p (3 * points_of set p) (points_of set p) have refusal.NoRoomForVertices refusal.NoRoomForIndices
 
-  points_exactly : (a : PointsAnswer) → points_right ≡ a ↔ PointsMeans set p have a
-  points_exactly = draw_exactly set p (3 * points_of set p) (points_of set p) have _ _ _ _ points_cases (PointsMeans set p have) itself itself itself (λ n. itself)
+  points_exactly : (a : Result ℕ DrawRefusal) → points_right ≡ a ↔ PointsMeans set p have a
+  points_exactly = draw_exactly set p (3 * points_of set p) (points_of set p) have _ _ draw_cases (PointsMeans set p have) itself itself itself (λ x. x) (λ n. itself)
 
-  abbrev indices_right : IndicesAnswer
-  indices_right = draw_right set p (indices_of set p) (indices_of set p) have indices.BadTop indices.Discarded indices.NoRoomForIndices indices.Drawn
+  abbrev indices_right : Result ℕ DrawRefusal
+  indices_right = draw_right set p (indices_of set p) (indices_of set p) have refusal.NoRoomForIndices refusal.NoRoomForVertices
 
-  indices_exactly : (a : IndicesAnswer) → indices_right ≡ a ↔ IndicesMeans set p have a
-  indices_exactly = draw_exactly set p (indices_of set p) (indices_of set p) have _ _ _ _ indices_cases (IndicesMeans set p have) itself itself itself (λ n. itself)
+  indices_exactly : (a : Result ℕ DrawRefusal) → indices_right ≡ a ↔ IndicesMeans set p have a
+  indices_exactly =
+      draw_exactly set p (indices_of set p) (indices_of set p) have _ _ (λ P a b c e d. draw_cases P a b e c d) (IndicesMeans set p have)
+      itself itself itself (λ x. x) (λ n. itself)
 
   points_told : points_code points_right ≡ points_verdict set p have
   unfolding list_verdict
@@ -204,12 +204,12 @@ pub points_call_exactly : (bs : List ℕ) (xs : List Float) {l l' c' : List ℕ}
 points_call_exactly bs xs {l} d =
     let set = settings_in bs in
     let p = patch_in bs xs in
-    call_exactly bs one_word points_code (PointsMeans set p (length l)) (points_right set p (length l)) points.BadTop points_in (points_exactly set p (length l)) refl (λ n. n) points_readable
-    (points_told set p (length l)) d.says
+    call_exactly bs one_word points_code (PointsMeans set p (length l)) (points_right set p (length l)) (Err refusal.BadTop) drawn_in
+    (points_exactly set p (length l)) refl (λ n. n) drawn_readable (points_told set p (length l)) d.says
 
 pub indices_call_exactly : (bs : List ℕ) (xs : List Float) {l l' c' : List ℕ} {r : ℕ} → IndicesCalled bs xs l l' c' r → IndicesExactly bs xs (length l) c' r
 indices_call_exactly bs xs {l} d =
     let set = settings_in bs in
     let p = patch_in bs xs in
-    call_exactly bs one_word indices_code (IndicesMeans set p (length l)) (indices_right set p (length l)) indices.BadTop indices_in (indices_exactly set p (length l)) refl (λ n. n) indices_readable
-    (indices_told set p (length l)) d.says
+    call_exactly bs one_word indices_code (IndicesMeans set p (length l)) (indices_right set p (length l)) (Err refusal.BadTop) drawn_in
+    (indices_exactly set p (length l)) refl (λ n. n) drawn_readable (indices_told set p (length l)) d.says

@@ -16,8 +16,7 @@ use Rattle.mesh_geometry.specs.Words.{read_points}
 use Rattle.patch_mesh.specs.Demand.{Demand}
 use Rattle.patch_mesh.specs.Inside.{SpotsOnce}
 use Rattle.patch_mesh.specs.Kept.{Alike}
-use Rattle.tessellate.specs.declared.answer.PointsAnswer.TheVariants as points
-use Rattle.tessellate.specs.declared.answer.IndicesAnswer.TheVariants as indices
+use Rattle.std.proofs.Common.{Ok}
 use Rattle.measure.specs.Sizes.{points_of, indices_of}
 use Rattle.tessellate.specs.Answers.{list_verdict, points_verdict, indices_verdict}
 use Rattle.answer_codes.specs.AnswerCode.{AnswerCode, refused, drew}
@@ -79,22 +78,22 @@ module _ (bs : List ℕ) (xs : List Float) where
   indices_called {i} d = zero_drew bs set p 3 I (length i) I d
 
   -- if a call answered 0, its operation answered "drawn" with the count that is in memory
-  pub points_call : {v v' c' : List ℕ} → PointsCalled bs xs v v' c' 0 → DrewPoints set p v v' (points.Drawn (get_or c' 0 0))
+  pub points_call : {v v' c' : List ℕ} → PointsCalled bs xs v v' c' 0 → DrewPoints set p v v' (Ok (get_or c' 0 0))
   points_call d = let k = points_called d in rw k.counted k.drawn
 
-  pub indices_call : {i i' c' : List ℕ} → IndicesCalled bs xs i i' c' 0 → DrewIndices set p i i' (indices.Drawn (get_or c' 0 0))
+  pub indices_call : {i i' c' : List ℕ} → IndicesCalled bs xs i i' c' 0 → DrewIndices set p i i' (Ok (get_or c' 0 0))
   indices_call d = let k = indices_called d in rw k.counted k.drawn
 
   module _ {v v' i i' c' k' : List ℕ} (d : PointsCalled bs xs v v' c' 0) (d' : IndicesCalled bs xs i i' k' 0) where
     pub called_together : Demand set p (read_points (take (3 * get_or c' 0 0) v')) (take (get_or k' 0 0) i')
-    called_together = demand_together set p (points.Drawn (get_or c' 0 0)) (indices.Drawn (get_or k' 0 0)) (points_call d) (indices_call d') refl refl
+    called_together = demand_together set p (Ok (get_or c' 0 0)) (Ok (get_or k' 0 0)) (points_call d) (indices_call d') refl refl
 
     pub called_once : SpotsOnce set p (read_points (take (3 * get_or c' 0 0) v')) (take (get_or k' 0 0) i')
-    called_once = once_together set p (points.Drawn (get_or c' 0 0)) (indices.Drawn (get_or k' 0 0)) (points_call d) (indices_call d') refl refl
+    called_once = once_together set p (Ok (get_or c' 0 0)) (Ok (get_or k' 0 0)) (points_call d) (indices_call d') refl refl
 
 -- patches that are alike get equal indices from any two calls that drew them
 pub called_kept : (bs bs' : List ℕ) (xs xs' : List Float) {i i' c' j j' k' : List ℕ} → Alike (settings_in bs) (settings_in bs') (patch_in bs xs) (patch_in bs' xs')
     → IndicesCalled bs xs i i' c' 0 → IndicesCalled bs' xs' j j' k' 0 → take (get_or c' 0 0) i' ≡ take (get_or k' 0 0) j'
 called_kept bs bs' xs xs' {c' = c'} {k' = k'} a d d' =
-    kept (settings_in bs) (settings_in bs') (patch_in bs xs) (patch_in bs' xs') (indices.Drawn (get_or c' 0 0)) (indices.Drawn (get_or k' 0 0)) a
+    kept (settings_in bs) (settings_in bs') (patch_in bs xs) (patch_in bs' xs') (Ok (get_or c' 0 0)) (Ok (get_or k' 0 0)) a
     (indices_call bs xs d) (indices_call bs' xs' d') refl refl

@@ -1,16 +1,15 @@
 -- When a call that measures or draws gives which answer. Assumes nothing.
-use Rattle.std.specs.Prelude.{ℕ, ◌*◌, ◌≤◌, ◌<◌, ◌≡◌, true, false, List, ◌++◌, Float}
+use Rattle.std.specs.Prelude.{ℕ, ◌*◌, ◌≤◌, ◌<◌, ◌≡◌, true, false, List, ◌++◌, Float, Result, Ok, Err}
 use Rattle.level.specs.Top.{Top}
 use Rattle.patch.specs.declared.kinds.Patch.{Patch}
 use Rattle.patch.specs.declared.settings.Settings.{Settings}
 use Rattle.patch.specs.Subdivide.{discards}
 use Rattle.level_clamps.specs.Clamps.{clamps_of}
+use Rattle.measure.specs.declared.cut.NotDrawn.{NotDrawn}
+use Rattle.measure.specs.declared.cut.NotDrawn.TheVariants as reason
 use Rattle.measure.specs.declared.size.Size.{Size}
-use Rattle.measure.specs.declared.size.Size.TheVariants as size
-use Rattle.tessellate.specs.declared.answer.PointsAnswer.{PointsAnswer}
-use Rattle.tessellate.specs.declared.answer.PointsAnswer.TheVariants as points
-use Rattle.tessellate.specs.declared.answer.IndicesAnswer.{IndicesAnswer}
-use Rattle.tessellate.specs.declared.answer.IndicesAnswer.TheVariants as indices
+use Rattle.tessellate.specs.declared.refusal.DrawRefusal.{DrawRefusal}
+use Rattle.tessellate.specs.declared.refusal.DrawRefusal.TheVariants as refusal
 use Rattle.measure.specs.Sizes.{size_code, points_of, indices_of}
 use Rattle.tessellate.specs.Answers.{points_code, indices_code}
 use Rattle.call_answers.specs.Clamps.{clamp_bytes}
@@ -26,24 +25,26 @@ abbrev pub Drawable : Settings → Patch → Type 0
 Drawable set p = Top set.top × (discards p ≡ false)
 
 -- when each answer of measuring is right
-abbrev pub SizeMeans : Settings → Patch → Size → Type 0
-SizeMeans set p size.BadTop = Top set.top → ⊥
-SizeMeans set p size.Discarded = Discarded set p
-SizeMeans set p (size.Counts m k c) = Drawable set p × (m ≡ points_of set p) × (k ≡ indices_of set p) × (c ≡ clamps_of set.spacing set.top p)
+abbrev pub SizeMeans : Settings → Patch → Result Size NotDrawn → Type 0
+SizeMeans set p (Err reason.BadTop) = Top set.top → ⊥
+SizeMeans set p (Err reason.Discarded) = Discarded set p
+SizeMeans set p (Ok size) = Drawable set p × (size.points ≡ points_of set p) × (size.indices ≡ indices_of set p) × (size.clamps ≡ clamps_of set.spacing set.top p)
 
 -- when each answer of drawing the points into a list of v words is right
-abbrev pub PointsMeans : Settings → Patch → ℕ → PointsAnswer → Type 0
-PointsMeans set p v points.BadTop = Top set.top → ⊥
-PointsMeans set p v points.Discarded = Discarded set p
-PointsMeans set p v points.NoRoomForVertices = Drawable set p × (v < 3 * points_of set p)
-PointsMeans set p v (points.Drawn n) = Drawable set p × (3 * points_of set p ≤ v) × (n ≡ points_of set p)
+abbrev pub PointsMeans : Settings → Patch → ℕ → Result ℕ DrawRefusal → Type 0
+PointsMeans set p v (Err refusal.BadTop) = Top set.top → ⊥
+PointsMeans set p v (Err refusal.Discarded) = Discarded set p
+PointsMeans set p v (Err refusal.NoRoomForVertices) = Drawable set p × (v < 3 * points_of set p)
+PointsMeans set p v (Err refusal.NoRoomForIndices) = ⊥
+PointsMeans set p v (Ok n) = Drawable set p × (3 * points_of set p ≤ v) × (n ≡ points_of set p)
 
 -- when each answer of drawing the indices into a list of i words is right
-abbrev pub IndicesMeans : Settings → Patch → ℕ → IndicesAnswer → Type 0
-IndicesMeans set p i indices.BadTop = Top set.top → ⊥
-IndicesMeans set p i indices.Discarded = Discarded set p
-IndicesMeans set p i indices.NoRoomForIndices = Drawable set p × (i < indices_of set p)
-IndicesMeans set p i (indices.Drawn n) = Drawable set p × (indices_of set p ≤ i) × (n ≡ indices_of set p)
+abbrev pub IndicesMeans : Settings → Patch → ℕ → Result ℕ DrawRefusal → Type 0
+IndicesMeans set p i (Err refusal.BadTop) = Top set.top → ⊥
+IndicesMeans set p i (Err refusal.Discarded) = Discarded set p
+IndicesMeans set p i (Err refusal.NoRoomForVertices) = ⊥
+IndicesMeans set p i (Err refusal.NoRoomForIndices) = Drawable set p × (i < indices_of set p)
+IndicesMeans set p i (Ok n) = Drawable set p × (indices_of set p ≤ i) × (n ≡ indices_of set p)
 
 -- all that measuring writes: two counts, or the place of a setting, and six clamps
 abbrev pub measure_words : List ℕ → List ℕ

@@ -4,23 +4,24 @@ ghost use Rattle.tessellate.specs.Answers.{points_verdict, indices_verdict};
 ghost use Rattle.tessellate.specs.Draws.{point_words, connection_words};
 ghost use Rattle.draw_exports.specs.Calls.{ListCalled, PointsCalled, IndicesCalled};
 
-use call_answers::reply::{of_indices, of_points, say_one};
-use call_inputs::asked::{Asked, read_call};
+use call_answers::reply::{of_drawn, say_one};
+use call_inputs::asked::read_call;
 use patch::kinds::Patch;
 use patch::settings::Settings;
+use tessellate::draw::{draw_indices, draw_points};
 
 fn points_of(patch: Patch, settings: Settings, vertices: &mut [u32], count: &mut [u32; 1]) -> u32
     ensures { ListCalled (points_verdict settings patch (length vertices.old)) (point_words settings patch) vertices.old vertices.new count.new result }
 {
-    let answer = tessellate::draw::draw_points(patch, settings, vertices);
-    say_one(of_points(answer), count)
+    let points = draw_points(patch, settings, vertices);
+    say_one(of_drawn(points), count)
 }
 
 fn indices_of(patch: Patch, settings: Settings, indices: &mut [u16], count: &mut [u32; 1]) -> u32
     ensures { ListCalled (indices_verdict settings patch (length indices.old)) (connection_words settings patch) indices.old indices.new count.new result }
 {
-    let answer = tessellate::draw::draw_indices(patch, settings, indices);
-    say_one(of_indices(answer), count)
+    let words = draw_indices(patch, settings, indices);
+    say_one(of_drawn(words), count)
 }
 
 #[unsafe(no_mangle)]
@@ -33,8 +34,8 @@ pub extern "C" fn yoktvarim_draw_points(
     ensures { PointsCalled settings.now levels.now vertices.old vertices.new count.new result }
 {
     match read_call(settings, levels) {
-        Asked::Refused { reply } => say_one(reply, count),
-        Asked::Known { settings, patch } => points_of(patch, settings, vertices, count),
+        Ok(request) => points_of(request.patch, request.settings, vertices, count),
+        Err(reply) => say_one(reply, count),
     }
 }
 
@@ -48,7 +49,7 @@ pub extern "C" fn yoktvarim_draw_indices(
     ensures { IndicesCalled settings.now levels.now indices.old indices.new count.new result }
 {
     match read_call(settings, levels) {
-        Asked::Refused { reply } => say_one(reply, count),
-        Asked::Known { settings, patch } => indices_of(patch, settings, indices, count),
+        Ok(request) => indices_of(request.patch, request.settings, indices, count),
+        Err(reply) => say_one(reply, count),
     }
 }

@@ -3,7 +3,8 @@ ghost use Rattle.draw_exports.specs.Calls.{MeasureCalled};
 
 use call_answers::clamps::{say_clamps, say_nothing};
 use call_answers::reply::{of_size, say_two};
-use call_inputs::asked::{Asked, read_call};
+use call_inputs::asked::read_call;
+use measure::measure;
 
 #[unsafe(no_mangle)]
 pub extern "C" fn yoktvarim_measure(
@@ -15,17 +16,14 @@ pub extern "C" fn yoktvarim_measure(
     ensures { MeasureCalled settings.now levels.now counts.new clamps.new result }
 {
     match read_call(settings, levels) {
-        Asked::Refused { reply } => {
-            say_nothing(clamps);
-            say_two(reply, counts)
-        }
-        Asked::Known {
-            settings: set,
-            patch,
-        } => {
-            let size = measure::measure(patch, set);
+        Ok(request) => {
+            let size = measure(request.patch, request.settings);
             say_clamps(size, clamps);
             say_two(of_size(size), counts)
+        }
+        Err(reply) => {
+            say_nothing(clamps);
+            say_two(reply, counts)
         }
     }
 }

@@ -1,9 +1,8 @@
-use borrow.Author.Rules.{rules}
 use Rattle.draw_exports.proofs.Calls.{draw_refused, points_known}
 use Rattle.draw_exports.proofs.draw.yoktvarim_draw_points.Goals as goal
 
-pub returns-in-Refused : goal.returns-in-Refused
-returns-in-Refused c = search (draw_refused, rules)
+pub returns-in-Ok : goal.returns-in-Ok
+returns-in-Ok c = points_known c.args.settings.now c.args.levels.now c.in-Ok.ensures c.points_of.ensures
 
-pub returns-in-Known : goal.returns-in-Known
-returns-in-Known c = search (points_known, rules)
+pub returns-in-Err : goal.returns-in-Err
+returns-in-Err c = draw_refused c.args.settings.now c.args.levels.now _ c.in-Err.ensures c.say_one.ensures
