@@ -1,4 +1,3 @@
 -- The laws of `patch_writer`.
-mod Products
 pub mod Cuts
 pub mod Modes

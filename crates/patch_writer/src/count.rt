@@ -12,35 +12,26 @@ struct Counts {
     words: u32,
 }
 
-fn product(x: u32, y: u32) -> u32
-    requires { (x ≤ 65) × (y ≤ 65) }
-    ensures { (result ≡ x * y) × (result ≤ 4225) }
+// Returns the counts of a triangle patch whose outer edges have `outer` segments in all and whose inner level gives n.
+fn triangle_counts(outer: u32, n: u32) -> Counts
+    requires { (outer ≤ 192) × (2 ≤ n) × (n ≤ 64) }
+    ensures { (result.points ≡ outer + inside_points n) × (result.words ≡ 3 * (outer + inside_triangles n)) }
 {
-    x * y
-}
-
-// Returns the counts of a triangle patch whose outer edges have c0, c1 and c2 segments and whose inner level gives n.
-fn triangle_counts(c0: u32, c1: u32, c2: u32, n: u32) -> Counts
-    requires { ((c0 ≤ 64) × (c1 ≤ 64) × (c2 ≤ 64)) × ((2 ≤ n) × (n ≤ 64)) }
-    ensures { (result.points ≡ c0 + c1 + c2 + inside_points n) × (result.words ≡ 3 * (c0 + c1 + c2 + inside_triangles n)) }
-{
-    let outer = c0 + c1 + c2;
-    let p = product(n - 1, n - 1);
-    let q = product(n - 2, n - 2);
+    let p = (n - 1) * (n - 1);
+    let q = (n - 2) * (n - 2);
     Counts {
         points: outer + (3 * p + 1) / 4,
         words: 3 * (outer + (3 * (n - 2) + 3 * q / 2)),
     }
 }
 
-// Returns the counts of a quad patch whose outer edges have c0 to c3 segments and whose inner levels give m and n.
-fn quad_counts(c0: u32, c1: u32, c2: u32, c3: u32, m: u32, n: u32) -> Counts
-    requires { ((c0 ≤ 64) × (c1 ≤ 64) × (c2 ≤ 64) × (c3 ≤ 64)) × ((2 ≤ m) × (m ≤ 64) × (2 ≤ n) × (n ≤ 64)) }
-    ensures { (result.points ≡ c0 + c1 + c2 + c3 + (m - 1) * (n - 1)) × (result.words ≡ 3 * (c0 + c1 + c2 + c3 + 2 * (m - 2) + 2 * (n - 2) + 2 * ((m - 2) * (n - 2)))) }
+// Returns the counts of a quad patch whose outer edges have `outer` segments in all and whose inner levels give m and n.
+fn quad_counts(outer: u32, m: u32, n: u32) -> Counts
+    requires { (outer ≤ 256) × ((2 ≤ m) × (m ≤ 64) × (2 ≤ n) × (n ≤ 64)) }
+    ensures { (result.points ≡ outer + (m - 1) * (n - 1)) × (result.words ≡ 3 * (outer + 2 * (m - 2) + 2 * (n - 2) + 2 * ((m - 2) * (n - 2)))) }
 {
-    let outer = c0 + c1 + c2 + c3;
-    let p = product(m - 1, n - 1);
-    let q = product(m - 2, n - 2);
+    let p = (m - 1) * (n - 1);
+    let q = (m - 2) * (n - 2);
     Counts {
         points: outer + p,
         words: 3 * (outer + 2 * (m - 2) + 2 * (n - 2) + 2 * q),
@@ -52,11 +43,9 @@ fn line_counts(lines: u32, along: u32) -> Counts
     requires { (lines ≤ 64) × (along ≤ 64) }
     ensures { (result.points ≡ lines * (along + 1)) × (result.words ≡ 2 * (lines * along)) }
 {
-    let p = product(lines, along + 1);
-    let q = product(lines, along);
     Counts {
-        points: p,
-        words: 2 * q,
+        points: lines * (along + 1),
+        words: 2 * (lines * along),
     }
 }
 
@@ -78,7 +67,7 @@ fn counts_of(cut: Subdivision) -> Counts
             edge1,
             edge2,
             inside,
-        } => triangle_counts(edge0.count, edge1.count, edge2.count, inside.count),
+        } => triangle_counts(edge0.count + edge1.count + edge2.count, inside.count),
         Subdivision::PlainQuad => Counts {
             points: 4,
             words: 6,
@@ -91,10 +80,7 @@ fn counts_of(cut: Subdivision) -> Counts
             rows,
             columns,
         } => quad_counts(
-            edge0.count,
-            edge1.count,
-            edge2.count,
-            edge3.count,
+            edge0.count + edge1.count + edge2.count + edge3.count,
             rows.count,
             columns.count,
         ),
@@ -106,8 +92,7 @@ pub fn point_count(cut: Subdivision) -> u32
     requires { ValidCut cut }
     ensures { result ≡ point_count cut }
 {
-    let counts = counts_of(cut);
-    counts.points
+    counts_of(cut).points
 }
 
 // Returns the number of indices; point mode has one per point.
