@@ -1,2 +1,3 @@
 -- The laws of `job_record_text`.
 pub mod Never
+pub mod Ends

@@ -6,7 +6,7 @@ ghost use Rattle.patch_text.specs.Answers.{record_text};
 ghost use Rattle.job_record_text.specs.Replies.{record_reply, goes_on};
 ghost use Rattle.patch_text.specs.Room.{room, FullSize};
 
-use job::next::NextRecord;
+use job::next::{Found, RecordError};
 use job::record::Record;
 use patch_text::answer::put_patch;
 
@@ -18,8 +18,8 @@ fn put_record(
     vertices: &mut [u32],
     indices: &mut [u16],
 ) -> usize
-    requires fact_1 { FullSize (length vertices.old) (length indices.old) }
-    requires fact_2 { at + room ≤ length out.old }
+    requires full_size { FullSize (length vertices.old) (length indices.old) }
+    requires room_left { at + room ≤ length out.old }
     ensures { Wrote out.old at (record_text «record».settings (patch_of «record»)) out.new result }
 {
     let patch = job::record::patch_of(record);
@@ -31,30 +31,29 @@ fn put_record(
 pub fn put_reply(
     out: &mut [u8],
     at: usize,
-    found: NextRecord,
+    found: Result<Option<Found>, RecordError>,
     vertices: &mut [u32],
     indices: &mut [u16],
 ) -> usize
-    requires fact_1 { FullSize (length vertices.old) (length indices.old) }
-    requires fact_2 { at + room ≤ length out.old }
+    requires full_size { FullSize (length vertices.old) (length indices.old) }
+    requires room_left { at + room ≤ length out.old }
     ensures { Wrote out.old at (record_reply found) out.new result }
 {
     match found {
-        NextRecord::Read { record, next: _ } => put_record(out, at, record, vertices, indices),
-        NextRecord::End => at,
-        NextRecord::CutRecord => decimal_text::put_refused(out, at, 7),
-        NextRecord::UnknownSetting { place: _, next: _ } => decimal_text::put_refused(out, at, 8),
+        Ok(Some(there)) => put_record(out, at, there.record, vertices, indices),
+        Ok(None) => at,
+        Err(RecordError::CutRecord) => decimal_text::put_refused(out, at, 7),
+        Err(RecordError::UnknownSetting { .. }) => decimal_text::put_refused(out, at, 8),
     }
 }
 
 // Returns where reading continues, in bytes that end at `end`.
-pub fn next_place(found: NextRecord, end: usize) -> usize
+pub fn next_place(found: Result<Option<Found>, RecordError>, end: usize) -> usize
     ensures { result ≡ goes_on end found }
 {
     match found {
-        NextRecord::Read { record: _, next } => next.at,
-        NextRecord::End => end,
-        NextRecord::CutRecord => end,
-        NextRecord::UnknownSetting { place: _, next } => next.at,
+        Ok(Some(there)) => there.next.at,
+        Err(RecordError::UnknownSetting { next, .. }) => next.at,
+        Ok(None) | Err(RecordError::CutRecord) => end,
     }
 }

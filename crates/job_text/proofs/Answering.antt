@@ -6,8 +6,7 @@ use native.Mathlib.Omega.{arith}
 use lib.ListN.{length, take}
 use Rattle.buffer.specs.Over.{Wrote}
 use Rattle.job_fields.specs.declared.version.Version.{Version}
-use Rattle.job.specs.declared.next.NextRecord.{NextRecord}
-use Rattle.job.specs.Records.{record_at}
+use Rattle.job.specs.Records.{Answer, record_at}
 use Rattle.job_record_text.specs.Replies.{record_reply, goes_on}
 use Rattle.job_text.specs.Jobs.{answers_from}
 use Rattle.job_text.proofs.Steps.{goes_on_lem, answers_step}
@@ -25,7 +24,7 @@ module _ (v : Version) (bs : List ℕ) where
   pub answering_start : (from : ℕ) (out : List ℕ) → Answering v bs from out 0 from
   answering_start from out = record { text = refl; fits = omega arith; past = omega arith; on = λ h. omega arith }
 
-  module _ {at next : ℕ} {found : NextRecord} (h : at < length bs) (e : found ≡ record_at v bs at) (n : next ≡ goes_on (length bs) found) where
+  module _ {at next : ℕ} {found : Answer} (h : at < length bs) (e : found ≡ record_at v bs at) (n : next ≡ goes_on (length bs) found) where
     pub answering_next : at < next
     answering_next = omega (arith, ap (goes_on (length bs)) e, goes_on_lem v bs at h)
 

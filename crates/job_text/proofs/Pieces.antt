@@ -12,7 +12,8 @@ use lib.ListN.{length, length-append}
 use Rattle.job_fields.specs.declared.version.Version.{Version}
 use Rattle.job.specs.declared.cursor.Cursor.{Cursor}
 use Rattle.job.specs.declared.header.Header.{Header}
-use Rattle.job.specs.declared.header.Header.TheVariants.{Read, NotAJob, UnknownVersion}
+use Rattle.job.specs.declared.header.HeaderError.{HeaderError}
+use Rattle.std.specs.Prelude.{Result, Ok, Err}
 use Rattle.job_fields.specs.Version.{record_size}
 use Rattle.job.specs.Header.{job_mark, starts_with, header_of, HeaderMeans}
 use Rattle.job.specs.Records.{record_at}
@@ -102,13 +103,12 @@ header_same hs bs h =
     )
 
 -- the text after a header of five bytes, in pieces
-rest_in_pieces : (hs : List ℕ) (cs : List (List ℕ)) → length hs ≡ 5 → (r : Header) → HeaderMeans hs r → WholeAfter (rest_of r) cs
+rest_in_pieces : (hs : List ℕ) (cs : List (List ℕ)) → length hs ≡ 5 → (r : Result Header HeaderError) → HeaderMeans hs r → WholeAfter (rest_of r) cs
     → rest_text (hs ++ joined_pieces cs) r ≡ said_after (rest_of r) cs
-rest_in_pieces hs cs h NotAJob m w = refl
-rest_in_pieces hs cs h UnknownVersion m w = refl
-rest_in_pieces hs cs h (Read v next) m w =
-    let first : next.at ≡ length hs = ap (λ (x : Cursor). x.at) m.3 ∙ sym h in
-    rw first (answers_past v hs (joined_pieces cs) ∙ in_pieces w)
+rest_in_pieces hs cs h (Err e) m w = refl
+rest_in_pieces hs cs h (Ok header) m w =
+    let first : header.next.at ≡ length hs = ap (λ (x : Cursor). x.at) m.3 ∙ sym h in
+    rw first (answers_past header.version hs (joined_pieces cs) ∙ in_pieces w)
 
 -- a header of five bytes, then pieces
 pub job_in_pieces : (hs : List ℕ) (cs : List (List ℕ)) → length hs ≡ 5 → WholeAfter (rest_of (header_of hs)) cs → job_text (hs ++ joined_pieces cs) ≡ said_of hs cs

@@ -9,15 +9,16 @@ use lib.ListN.{length, get_or-append}
 use lib.Seq.{get_or-append-add}
 use Rattle.job_fields.specs.declared.version.Version.{Version}
 use Rattle.job_fields.specs.declared.version.Version.TheVariants.{One, Two}
-use Rattle.job_fields.specs.declared.levels.LevelBits.{LevelBits}
+use Rattle.job_fields.specs.declared.levels.Levels.{Levels}
 use Rattle.job.specs.declared.record.Record.{Record}
-use Rattle.job.specs.declared.next.NextRecord.TheVariants.{Read, End, CutRecord, UnknownSetting}
+use Rattle.std.specs.Prelude.{Ok, Err, None}
+use Rattle.job.specs.declared.next.RecordError.TheVariants.{CutRecord, UnknownSetting}
 use Rattle.job_fields.specs.Version.{setting_bytes, record_size}
 use Rattle.job_fields.specs.Bytes.{byte_at, word}
 use Rattle.job_fields.specs.Settings.{choices, first_over, kind_of, settings_at}
 use Rattle.job_fields.specs.Tops.{top_at, unknown_place}
 use Rattle.job_fields.specs.Levels.{bits_at, levels_of}
-use Rattle.job.specs.Records.{record_of, cursor_after, at_end, incomplete, unknown, record_at}
+use Rattle.job.specs.Records.{record_of, read, cursor_after, at_end, incomplete, unknown, record_at}
 use Rattle.patch.specs.declared.settings.Settings.{Settings}
 use Rattle.job_record_text.specs.Replies.{record_reply}
 use Rattle.job_text.proofs.Sizes.{settings_least}
@@ -80,7 +81,7 @@ module _ (bs cs : List ℕ) where
   settings_agree a b t h = rw (h 1 (omega arith), h 2 (omega arith), h 3 (omega arith), h 4 (omega arith))
 
   -- the parts of a record: the byte of its kind, its settings and the bits of its levels
-  of_parts : ℕ → Settings → LevelBits → Record
+  of_parts : ℕ → Settings → Levels ℕ → Record
   of_parts kind settings bits = record { kind = kind_of kind; settings = settings; levels = levels_of bits; bits = bits }
 
   -- the record, part by part
@@ -105,8 +106,8 @@ module _ (bs cs : List ℕ) where
       rw (e, c, u, r) (go (at_end cs b) (incomplete v cs b) (unknown v cs b))
     where
       go : (e c u : Bool)
-          → record_reply (cond e End (cond c CutRecord (cond u (UnknownSetting (unknown_place v cs b) (cursor_after v a)) (Read (record_of v cs b) (cursor_after v a)))))
-          ≡ record_reply (cond e End (cond c CutRecord (cond u (UnknownSetting (unknown_place v cs b) (cursor_after v b)) (Read (record_of v cs b) (cursor_after v b)))))
+          → record_reply (cond e (Ok None) (cond c (Err CutRecord) (cond u (Err (UnknownSetting (unknown_place v cs b) (cursor_after v a))) (read (record_of v cs b) (cursor_after v a)))))
+          ≡ record_reply (cond e (Ok None) (cond c (Err CutRecord) (cond u (Err (UnknownSetting (unknown_place v cs b) (cursor_after v b))) (read (record_of v cs b) (cursor_after v b)))))
       go true c u = refl
       go false true u = refl
       go false false true = refl

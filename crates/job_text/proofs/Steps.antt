@@ -8,10 +8,11 @@ use native.Mathlib.Omega.{arith}
 use borrow.Author.Tests.{ltb-true, ltb-false, le-leb, lt-leb}
 use lib.ListN.{length}
 use Rattle.job_fields.specs.declared.version.Version.{Version}
-use Rattle.job.specs.declared.next.NextRecord.TheVariants.{Read, CutRecord, UnknownSetting}
+use Rattle.std.specs.Prelude.{Err}
+use Rattle.job.specs.declared.next.RecordError.TheVariants.{CutRecord, UnknownSetting}
 use Rattle.job_fields.specs.Version.{record_size}
 use Rattle.job_fields.specs.Tops.{unknown_place}
-use Rattle.job.specs.Records.{record_of, cursor_after, incomplete, unknown, record_at}
+use Rattle.job.specs.Records.{record_of, read, cursor_after, incomplete, unknown, record_at}
 use Rattle.job_record_text.specs.Replies.{record_reply, goes_on}
 use Rattle.job_text.specs.Jobs.{record_texts, answers_from}
 
@@ -22,7 +23,7 @@ module _ (v : Version) (bs : List ℕ) where
   goes_on_lem at h = rw (lt-leb (length bs) at h) (go (incomplete v bs at) (unknown v bs at) refl)
     where
       go : (c u : Bool) → incomplete v bs at ≡ c
-          → goes_on (length bs) (cond c CutRecord (cond u (UnknownSetting (unknown_place v bs at) (cursor_after v at)) (Read (record_of v bs at) (cursor_after v at))))
+          → goes_on (length bs) (cond c (Err CutRecord) (cond u (Err (UnknownSetting (unknown_place v bs at) (cursor_after v at))) (read (record_of v bs at) (cursor_after v at))))
           ≡ min (at + record_size v) (length bs)
       go true u e = omega (arith, ltb-true (length bs - at) (record_size v) e)
       go false true e = omega (arith, ltb-false (length bs - at) (record_size v) e)

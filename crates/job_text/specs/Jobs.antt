@@ -1,14 +1,13 @@
 -- The text for a whole job. Assumes nothing.
-use Rattle.std.specs.Prelude.{ℕ, zero, suc, List, [], ◌++◌, length}
+use Rattle.std.specs.Prelude.{ℕ, zero, suc, List, [], ◌++◌, length, Result, Ok, Err, Option, Some, None}
 use Rattle.job_fields.specs.declared.version.Version.{Version}
 use Rattle.job.specs.declared.header.Header.{Header}
-use Rattle.job.specs.declared.header.Header.TheVariants.{Read, NotAJob, UnknownVersion}
+use Rattle.job.specs.declared.header.HeaderError.{HeaderError}
+use Rattle.job.specs.declared.header.HeaderError.TheVariants.{NotAJob, UnknownVersion}
 use Rattle.job_fields.specs.Version.{version_number}
 use Rattle.job.specs.Header.{header_of}
 use Rattle.job.specs.Records.{record_at}
 use Rattle.decimal_text.specs.Heads.{title_line, refused_line}
-use Rattle.job_text.specs.declared.header.Rest.{Rest}
-use Rattle.job_text.specs.declared.header.Rest.TheVariants.{Records, Nothing}
 use Rattle.job_record_text.specs.Replies.{record_reply, goes_on}
 
 -- the text for the first k records from place `at` on
@@ -21,23 +20,21 @@ abbrev pub answers_from : Version → List ℕ → ℕ → List ℕ
 answers_from v bs at = record_texts v (length bs) bs at
 
 -- the text for a header
-abbrev pub start_text : Header → List ℕ
-start_text (Read v next) = title_line (version_number v)
-start_text NotAJob = refused_line 5
-start_text UnknownVersion = refused_line 6
+abbrev pub start_text : Result Header HeaderError → List ℕ
+start_text (Ok header) = title_line (version_number header.version)
+start_text (Err NotAJob) = refused_line 5
+start_text (Err UnknownVersion) = refused_line 6
 
 -- the text for the records after a header
-abbrev pub rest_text : List ℕ → Header → List ℕ
-rest_text bs (Read v next) = answers_from v bs next.at
-rest_text bs NotAJob = []
-rest_text bs UnknownVersion = []
+abbrev pub rest_text : List ℕ → Result Header HeaderError → List ℕ
+rest_text bs (Ok header) = answers_from header.version bs header.next.at
+rest_text bs (Err e) = []
 
 -- the text for the bytes of a job
 unfoldable pub job_text : List ℕ → List ℕ
 job_text bs = start_text (header_of bs) ++ rest_text bs (header_of bs)
 
 -- what follows a header: records of its version, or nothing if it is refused
-abbrev pub rest_of : Header → Rest
-rest_of (Read v next) = Records v
-rest_of NotAJob = Nothing
-rest_of UnknownVersion = Nothing
+abbrev pub rest_of : Result Header HeaderError → Option Version
+rest_of (Ok header) = Some header.version
+rest_of (Err e) = None

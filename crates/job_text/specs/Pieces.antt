@@ -1,10 +1,8 @@
 -- A job that is read in pieces: the text for each piece. Assumes nothing.
-use Rattle.std.specs.Prelude.{ℕ, ◌*◌, ◌≡◌, List, [], ◌∷◌, ◌++◌, length}
+use Rattle.std.specs.Prelude.{ℕ, ◌*◌, ◌≡◌, List, [], ◌∷◌, ◌++◌, length, Option, Some, None}
 use Rattle.job_fields.specs.declared.version.Version.{Version}
 use Rattle.job_fields.specs.Version.{record_size}
 use Rattle.job.specs.Header.{header_of}
-use Rattle.job_text.specs.declared.header.Rest.{Rest}
-use Rattle.job_text.specs.declared.header.Rest.TheVariants.{Records, Nothing}
 use Rattle.job_text.specs.Jobs.{answers_from, start_text, rest_of}
 
 -- the pieces, joined
@@ -24,14 +22,14 @@ piece_texts v [] = []
 piece_texts v (c ∷ cs) = answers_from v c 0 ++ piece_texts v cs
 
 -- every piece but the last consists of whole records, if records follow
-abbrev pub WholeAfter : Rest → List (List ℕ) → Type 0
-WholeAfter (Records v) cs = RecordPieces v cs
-WholeAfter Nothing cs = Unit {0}
+abbrev pub WholeAfter : Option Version → List (List ℕ) → Type 0
+WholeAfter (Some v) cs = RecordPieces v cs
+WholeAfter None cs = Unit {0}
 
 -- the text for the pieces, if records follow
-abbrev pub said_after : Rest → List (List ℕ) → List ℕ
-said_after (Records v) cs = piece_texts v cs
-said_after Nothing cs = []
+abbrev pub said_after : Option Version → List (List ℕ) → List ℕ
+said_after (Some v) cs = piece_texts v cs
+said_after None cs = []
 
 -- the text for a header and for the pieces after it
 abbrev pub said_of : List ℕ → List (List ℕ) → List ℕ

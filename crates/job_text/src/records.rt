@@ -27,8 +27,8 @@ pub fn put_records(
     vertices: &mut [u32],
     indices: &mut [u16],
 ) -> Progress
-    requires fact_1 { FullSize (length vertices.old) (length indices.old) }
-    requires fact_2 { room ≤ length out.old }
+    requires full_size { FullSize (length vertices.old) (length indices.old) }
+    requires room_left { room ≤ length out.old }
     ensures { Reported version bytes.now from out.new result }
 {
     let most = out.len() - ROOM;

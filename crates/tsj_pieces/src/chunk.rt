@@ -36,8 +36,8 @@ fn answer_some(
     vertices: &mut [u32],
     indices: &mut [u16],
 ) -> Step
-    requires fact_1 { FullSize (length vertices.old) (length indices.old) }
-    requires fact_2 { room ≤ length out.old }
+    requires full_size { FullSize (length vertices.old) (length indices.old) }
+    requires room_left { room ≤ length out.old }
     ensures { AnsweredSome version bytes.now at out.new result }
 {
     let progress = put_records(out, bytes, version, at, vertices, indices);

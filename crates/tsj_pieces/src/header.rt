@@ -5,21 +5,22 @@ ghost use Rattle.tsj_pieces.specs.Headers.{header_text, AnsweredHeader};
 
 use crate::failures::{read_or_tell, write_or_tell};
 use job::header::read_header;
-use job_text::header::{Rest, put_header, rest_of};
+use job_fields::version::Version;
+use job_text::header::{put_header, rest_of};
 use standard_streams::{Input, Output, Streams};
 
-// What was read and written, and what to read next: nothing if the read or the write failed.
+// What was read and written, and the version of the records to read next: none if the read or the write failed.
 #[derive(Clone, Copy, Drop)]
 pub struct Start {
     pub input: Input,
     pub output: Output,
-    pub rest: Rest,
+    pub rest: Option<Version>,
 }
 
 // Reads the header to the front of `header`, and writes its answer, which is at the front of `out`. If the read fails, nothing is written.
 pub fn answer_header(streams: &mut Streams, header: &mut [u8], out: &mut [u8]) -> Start
-    requires fact_1 { 5 ≤ length header.old }
-    requires fact_2 { room ≤ length out.old }
+    requires header_in_bounds { 5 ≤ length header.old }
+    requires room_left { room ≤ length out.old }
     ensures answered_header { AnsweredHeader header.new result }
     ensures out_after { take (length (header_text header.new result.input)) out.new ≡ header_text header.new result.input }
 {
@@ -32,7 +33,7 @@ pub fn answer_header(streams: &mut Streams, header: &mut [u8], out: &mut [u8]) -
         return Start {
             input,
             output,
-            rest: Rest::Nothing,
+            rest: None,
         };
     }
     let n = input.count;
@@ -43,7 +44,7 @@ pub fn answer_header(streams: &mut Streams, header: &mut [u8], out: &mut [u8]) -
         return Start {
             input,
             output,
-            rest: Rest::Nothing,
+            rest: None,
         };
     }
     let rest = rest_of(found);

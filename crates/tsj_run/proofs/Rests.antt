@@ -12,8 +12,7 @@ use lib.ListN.{length, take, length-append}
 use Rattle.standard_streams.proofs.Fills.{filled_none, filled_read, both, part_full, part_short}
 use Rattle.standard_streams.proofs.Takes.{taken_all, taken_whole, taken_after}
 use Rattle.job_fields.specs.declared.version.Version.{Version}
-use Rattle.job_text.specs.declared.header.Rest.{Rest}
-use Rattle.job_text.specs.declared.header.Rest.TheVariants.{Records, Nothing}
+use Rattle.std.specs.Prelude.{Option, Some, None}
 use Rattle.job_text.specs.Jobs.{answers_from}
 use Rattle.job_text.specs.Pieces.{piece_texts}
 use Rattle.job_text.proofs.Sizes.{settings_least}
@@ -85,7 +84,7 @@ module _ {v : Version} {read written : ℕ} (f : Full v read written) where
         }
 
     pub full_end : r.more ≡ false
-        → AnsweredRest (Records v) bs (record { read = read + r.input.count; last = r.input; output = record { count = written + r.output.count; failed = r.output.failed } })
+        → AnsweredRest (Some v) bs (record { read = read + r.input.count; last = r.input; output = record { count = written + r.output.count; failed = r.output.failed } })
     full_end h = record {
       earlier = f.earlier;
       chunks = f.chunks;
@@ -98,7 +97,7 @@ module _ {v : Version} {read written : ℕ} (f : Full v read written) where
     }
 
   -- the limit of bytes read or written is exceeded, so no more are read
-  pub full_stop : (bs : List ℕ) → 9223372036854775808 < read + written → AnsweredRest (Records v) bs (job_stopped_at read written)
+  pub full_stop : (bs : List ℕ) → 9223372036854775808 < read + written → AnsweredRest (Some v) bs (job_stopped_at read written)
   full_stop bs h = record {
     earlier = f.earlier;
     chunks = f.chunks;
@@ -112,10 +111,10 @@ module _ {v : Version} {read written : ℕ} (f : Full v read written) where
   }
 
 -- what follows is known
-pub rest_records : {rest : Rest} {v : Version} {bs : List ℕ} {r : Answered} → rest ≡ Records v → AnsweredRest (Records v) bs r → AnsweredRest rest bs r
-rest_records {bs = bs} {r = r} e a = subst (λ (x : Rest). AnsweredRest x bs r) (sym e) a
+pub rest_records : {rest : Option Version} {v : Version} {bs : List ℕ} {r : Answered} → rest ≡ Some v → AnsweredRest (Some v) bs r → AnsweredRest rest bs r
+rest_records {bs = bs} {r = r} e a = subst (λ (x : Option Version). AnsweredRest x bs r) (sym e) a
 
-pub rest_none : {rest : Rest} (bs : List ℕ) {r : Answered} → rest ≡ Nothing → r ≡ job_stopped_at 0 0 → AnsweredRest rest bs r
+pub rest_none : {rest : Option Version} (bs : List ℕ) {r : Answered} → rest ≡ None → r ≡ job_stopped_at 0 0 → AnsweredRest rest bs r
 rest_none bs e f = rw (e, f) (record {
   earlier = [];
   chunks = 0;

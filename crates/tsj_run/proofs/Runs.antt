@@ -12,8 +12,8 @@ use Rattle.standard_streams.specs.declared.output.Output.{Output}
 use Rattle.standard_streams.specs.Moved.{Taken}
 use Rattle.standard_streams.proofs.Takes.{taken_short, taken_all, taken_fewer, taken_whole, taken_after}
 use Rattle.job.specs.Header.{header_of}
-use Rattle.job_text.specs.declared.header.Rest.{Rest}
-use Rattle.job_text.specs.declared.header.Rest.TheVariants.{Records, Nothing}
+use Rattle.job_fields.specs.declared.version.Version.{Version}
+use Rattle.std.specs.Prelude.{Option, Some, None}
 use Rattle.job_text.specs.Jobs.{start_text, rest_text, job_text, rest_of}
 use Rattle.job_text.specs.Pieces.{joined_pieces, RecordPieces, last, more, WholeAfter, said_after}
 use Rattle.job_text.proofs.Pieces.{job_in_pieces, job_of_few_bytes}
@@ -37,7 +37,7 @@ joined_length true e l = omega (arith, length-append e [])
 joined_length false e l = omega (arith, length-append e (l ++ []), length-append l [])
 
 -- where nothing follows, nothing was read or written
-module _ (rest : Rest) {bs : List ℕ} {r : Answered} (b : AnsweredRest rest bs r) (e : rest ≡ Nothing) where
+module _ (rest : Option Version) {bs : List ℕ} {r : Answered} (b : AnsweredRest rest bs r) (e : rest ≡ None) where
   none_written : (r.output.count ≡ 0) × (r.output.failed ≡ false)
   none_written = none_taken (rw e at b.taken)
 
@@ -49,28 +49,28 @@ module _ (rest : Rest) {bs : List ℕ} {r : Answered} (b : AnsweredRest rest bs 
       empty _ (omega (arith, joined_length r.last.failed b.earlier last, b.last.counts, b.last.most))
 
 -- all pieces except the last are whole records
-whole_pieces : (rest : Rest) {bs : List ℕ} {r : Answered} (b : AnsweredRest rest bs r) → WholeAfter rest (pieces r.last.failed b.earlier (take r.last.count bs))
-whole_pieces Nothing b = tt
-whole_pieces (Records v) {bs} {r} b = go r.last.failed
+whole_pieces : (rest : Option Version) {bs : List ℕ} {r : Answered} (b : AnsweredRest rest bs r) → WholeAfter rest (pieces r.last.failed b.earlier (take r.last.count bs))
+whole_pieces None b = tt
+whole_pieces (Some v) {bs} {r} b = go r.last.failed
   where
     go : (t : Bool) → RecordPieces v (pieces t b.earlier (take r.last.count bs))
     go true = last b.earlier
     go false = more {c = b.earlier} (256 * b.chunks) (omega (arith, b.whole)) (last (take r.last.count bs))
 
 -- fewer than five bytes are not a job
-few_rest : (hs : List ℕ) → length hs < 5 → rest_of (header_of hs) ≡ Nothing
+few_rest : (hs : List ℕ) → length hs < 5 → rest_of (header_of hs) ≡ None
 unfolding header_of
 few_rest hs h = rw (lt-ltb (length hs) 5 h)
 
 -- the text of a header, and of the pieces after it
-text_length : (hs : List ℕ) (cs : List (List ℕ)) → length hs ≤ 5 → WholeAfter (rest_of (header_of hs)) cs → (rest_of (header_of hs) ≡ Nothing → joined_pieces cs ≡ [])
+text_length : (hs : List ℕ) (cs : List (List ℕ)) → length hs ≤ 5 → WholeAfter (rest_of (header_of hs)) cs → (rest_of (header_of hs) ≡ None → joined_pieces cs ≡ [])
     → length (job_text (hs ++ joined_pieces cs)) ≡ length (start_text (header_of hs)) + length (said_after (rest_of (header_of hs)) cs)
 text_length hs cs l w n = elim (dec_le 5 (length hs)) [
   | yes h ↦ ap length (job_in_pieces hs cs (omega arith) w) ∙ length-append (start_text (header_of hs)) (said_after (rest_of (header_of hs)) cs)
   | no h ↦
       let none = few_rest hs (omega arith) in
       rw (n none, append-nil hs, none)
-      (ap length (job_of_few_bytes hs (omega arith) ∙ ap (λ (x : Rest). start_text (header_of hs) ++ said_after x []) none) ∙ length-append (start_text (header_of hs)) [])
+      (ap length (job_of_few_bytes hs (omega arith) ∙ ap (λ (x : Option Version). start_text (header_of hs) ++ said_after x []) none) ∙ length-append (start_text (header_of hs)) [])
 ]
 
 -- it is at least the text of the header
@@ -88,7 +88,7 @@ module _ {hs bs : List ℕ} {start : Start} {r : Answered} (a : AnsweredHeader h
       let no : u ≡ false = sym g ∙ head.1 in
       rw (no, tail.1) (taken_all (omega arith) (omega arith))
   ran_text false true h g =
-      let none : start.rest ≡ Nothing = a.rest ∙ rw (h, g) in
+      let none : start.rest ≡ None = a.rest ∙ rw (h, g) in
       let short = taken_fewer (rw h at a.taken) g in
       rw (none_read start.rest b none) (taken_short (omega (arith, none_written start.rest b none, text_least (take start.input.count hs))))
   ran_text false false h g =
@@ -97,7 +97,7 @@ module _ {hs bs : List ℕ} {start : Start} {r : Answered} (a : AnsweredHeader h
       let cs = pieces r.last.failed b.earlier (take r.last.count bs) in
       let head = taken_whole (rw h at a.taken) g in
       let length-is =
-      text_length front cs (omega (arith, a.read.counts, a.read.most)) (subst (λ (x : Rest). WholeAfter x cs) follows (whole_pieces start.rest b))
+      text_length front cs (omega (arith, a.read.counts, a.read.most)) (subst (λ (x : Option Version). WholeAfter x cs) follows (whole_pieces start.rest b))
       (λ n. none_read start.rest b (follows ∙ n)) in
       rw (length-is, ← head, ← follows) (taken_after b.taken start.output.count)
 

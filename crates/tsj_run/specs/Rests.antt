@@ -1,16 +1,16 @@
 -- The contract of reading and answering the records of a job chunk by chunk. Assumes nothing.
 use Rattle.std.specs.Prelude.{ℕ, ◌+◌, ◌*◌, ◌≤◌, ◌<◌, ◌≡◌, Bool, true, false, List, [], ◌∷◌, length, take}
 use Rattle.standard_streams.specs.Moved.{Filled, Taken}
-use Rattle.job_text.specs.declared.header.Rest.{Rest}
-use Rattle.job_text.specs.declared.header.Rest.TheVariants.{Records, Nothing}
+use Rattle.job_fields.specs.declared.version.Version.{Version}
+use Rattle.std.specs.Prelude.{Option, Some, None}
 use Rattle.job_text.specs.Pieces.{said_after}
 use Rattle.tsj_run.specs.declared.records.Answered.{Answered}
 use Rattle.tsj_pieces.specs.Chunks.{record_chunk_size}
 
 -- the size in bytes of a full chunk of what follows a header
-abbrev pub rest_size : Rest → ℕ
-rest_size (Records v) = record_chunk_size v
-rest_size Nothing = 0
+abbrev pub rest_size : Option Version → ℕ
+rest_size (Some v) = record_chunk_size v
+rest_size None = 0
 
 -- the pieces that are answered: the full chunks, and the last chunk unless reading it failed
 abbrev pub pieces : Bool → List ℕ → List ℕ → List (List ℕ)
@@ -18,16 +18,16 @@ pieces true earlier last = earlier ∷ []
 pieces false earlier last = earlier ∷ last ∷ []
 
 -- if records follow, n bytes are less than a full chunk
-abbrev pub NotFull : Rest → ℕ → Type 0
-NotFull (Records v) n = n < record_chunk_size v
-NotFull Nothing n = Unit {0}
+abbrev pub NotFull : Option Version → ℕ → Type 0
+NotFull (Some v) n = n < record_chunk_size v
+NotFull None n = Unit {0}
 
 -- the result of a run that stopped after these counts, with no read that failed
 abbrev pub job_stopped_at : ℕ → ℕ → Answered
 job_stopped_at read written = record { read = read; last = record { count = 0; failed = false }; output = record { count = written; failed = false } }
 
 -- bs is the list for the records, after the call
-pub record AnsweredRest (rest : Rest) (bs : List ℕ) (r : Answered) : Type 0 where
+pub record AnsweredRest (rest : Option Version) (bs : List ℕ) (r : Answered) : Type 0 where
   -- the bytes of the full chunks that were answered before the last chunk was read to the front of bs
   pub earlier : List ℕ
   pub chunks : ℕ

@@ -1,10 +1,9 @@
 // The records of a job, chunk after chunk.
-ghost use Rattle.std.specs.Prelude.{◌≡◌, ◌≤◌, length};
+ghost use Rattle.std.specs.Prelude.{◌≡◌, ◌≤◌, length, Some};
 ghost use Rattle.patch_text.specs.Room.{room, FullSize};
 ghost use Rattle.tsj_run.specs.Rests.{job_stopped_at, AnsweredRest};
 
 use job_fields::version::Version;
-use job_text::header::Rest;
 use standard_streams::{Input, Output, Streams};
 use tsj_pieces::chunk::answer_chunk;
 
@@ -45,7 +44,7 @@ fn answer_chunks(
 ) -> Answered
     requires full_size { FullSize (length vertices.old) (length indices.old) }
     requires room_in_bounds { (room ≤ length out.old) × (length out.old ≤ 524288) × (7680 ≤ length bytes.old) }
-    ensures { AnsweredRest (Rest.Records version) bytes.new result }
+    ensures { AnsweredRest (Some version) bytes.new result }
 {
     let mut read = 0;
     let mut written = 0;
@@ -68,7 +67,7 @@ fn answer_chunks(
 // Reads and answers what follows a header.
 pub(crate) fn answer_rest(
     streams: &mut Streams,
-    rest: Rest,
+    rest: Option<Version>,
     bytes: &mut [u8],
     out: &mut [u8],
     vertices: &mut [u32],
@@ -79,7 +78,7 @@ pub(crate) fn answer_rest(
     ensures { AnsweredRest rest bytes.new result }
 {
     match rest {
-        Rest::Records(version) => answer_chunks(streams, bytes, out, version, vertices, indices),
-        Rest::Nothing => stopped(0, 0),
+        Some(version) => answer_chunks(streams, bytes, out, version, vertices, indices),
+        None => stopped(0, 0),
     }
 }

@@ -1,6 +1,5 @@
-use Rattle.buffer.proofs.Laws.{wrote_none, wrote_as}
-use Rattle.job_record_text.specs.Replies.{record_reply}
+use Rattle.job_record_text.proofs.Ends.{wrote_end}
 use Rattle.job_record_text.proofs.reply.put_reply.Goals as goal
 
-pub returns-in-End : goal.returns-in-End
-returns-in-End c = wrote_as record_reply c.in-End.is (wrote_none _ _)
+pub returns-in-Ok-None : goal.returns-in-Ok-None
+returns-in-Ok-None c = wrote_end _ _ c.args.found c.in-Ok-None.field-0 c.in-Ok-None.is (rw c.in-Ok-None.is at c.in-Ok-None.field-0-is)
