@@ -6,6 +6,7 @@ ghost use Rattle.patch_mesh.specs.Primitives.{primitives, in_mode};
 ghost use Rattle.patch_mesh.specs.Valid.{ValidCut};
 ghost use Rattle.patch.specs.declared.subdivision.Subdivision.TheVariants.{PlainTriangle, PlainQuad};
 
+use indices::quad::Outline;
 use patch::subdivision::Subdivision;
 use strip::triangle::Triangle;
 
@@ -57,17 +58,15 @@ fn write_primitives(out: &mut [u16], cut: Subdivision, positive: bool) -> usize
             edge3,
             rows,
             columns,
-        } => indices::quad::write_quad(
-            out,
-            0,
-            edge0.count,
-            edge1.count,
-            edge2.count,
-            edge3.count,
-            rows.count,
-            columns.count,
-            positive,
-        ),
+        } => {
+            let outline = Outline {
+                c0: edge0.count,
+                c1: edge1.count,
+                c2: edge2.count,
+                c3: edge3.count,
+            };
+            outline.write_quad(out, 0, rows.count, columns.count, positive)
+        }
         Subdivision::Lines { lines, along } => indices::isoline::write_isolines(
             out,
             0,
