@@ -24,7 +24,7 @@ use Rattle.strip_blocks.specs.Blocks.{on}
 pub outer_follows : (positive : Bool) (i : Line) {o : Line} {F : ℕ → ℕ} {p : ℕ} {xs xs' : List ℕ} {at w : ℕ} → Follows o F p
     → Wrote xs at (indices positive (strip (vertex o) (vertex i) o.count i.count)) xs' w → Wrote xs at (indices positive (strip F (vertex i) p i.count)) xs' w
 outer_follows positive i {xs = xs} {xs' = xs'} {at = at} {w = w} h s =
-    subst (λ (ts : List Triangle). Wrote xs at (indices positive ts) xs' w) (strip_follows h (record { count = refl; at = λ k l. refl })) s
+    subst (λ (ts : List Triangle). Wrote xs at (indices positive ts) xs' w) (strip_follows {i = i} h (record { count = refl; at = λ k l. refl })) s
 
 -- one strip of a band: from the outer line A, p segments, to the line of vertices i
 abbrev pub Side : Bool → (ℕ → ℕ) → ℕ → Line → List ℕ → ℕ → List ℕ → ℕ → Type 0

@@ -20,25 +20,18 @@ pub struct Ring {
 impl Ring {
     // Returns the line of n segments from the ring's vertex o on; it ends at the first vertex if it runs to the ring's end.
     pub(crate) fn line(self, o: u32, n: u32) -> Line
-        requires { o + n ≤ self.total }
+        requires few { n ≤ 64 }
+        requires inside { o + n ≤ self.total }
         ensures { Follows result (from o (ring_at self.base self.total)) n }
     {
         let base = self.base;
         let end = o + n;
-        if end == self.total {
-            Line {
-                first: (base + o) as u16,
-                step: 1,
-                count: n,
-                last: base as u16,
-            }
-        } else {
-            Line {
-                first: (base + o) as u16,
-                step: 1,
-                count: n,
-                last: (base + end) as u16,
-            }
+        let last = if end == self.total { base } else { base + end };
+        Line {
+            first: (base + o) as u16,
+            step: 1,
+            count: n,
+            last: last as u16,
         }
     }
 
@@ -52,7 +45,7 @@ impl Ring {
         inner: Line,
         positive: bool,
     ) -> usize
-        requires few { (p ≤ 64) × (inner.count ≤ 64) × (o + p ≤ self.total) }
+        requires few { (p ≤ 64) × (o + p ≤ self.total) }
         requires room { at + 3 * (p + inner.count) ≤ length out.old }
         ensures { Wrote out.old at (indices positive (strip (from o (ring_at self.base self.total)) (vertex inner) p inner.count)) out.new result }
     {

@@ -10,9 +10,8 @@ use lib.Seq.{take_all, take_at, take-suc, get_or-append-add, get_or-drop, drop-a
 use Rattle.buffer.specs.Over.{over, Wrote, flat}
 use Rattle.buffer.proofs.Laws.{flat_length, flat_last, wrote_then}
 use Rattle.strip.specs.Triangles.{indices}
-use Rattle.strip.specs.Lines.{vertex}
 use Rattle.strip.specs.Strips.{step_triangle, strip}
-use Rattle.strip.proofs.Lines.{at_more}
+use Rattle.strip.proofs.Lines.{along_more}
 use Rattle.strip.specs.Rule.{outer_next}
 use Rattle.strip.proofs.Strips.{indices_length, words_length}
 use Rattle.shifted_copies.proofs.Again.{drop_all, wrote_again, flat_moved}
@@ -147,8 +146,8 @@ block_laid false p d x y e h =
     rw (e, outer_on d x 0, outer_on d x 1, outer_on d x 2, outer_on d x 3, outer_on d x 4, inner_on d x y 0 h, inner_on d x y 1 h, inner_on d x y 2 h, inner_on d x y 3 h, inner_on d x y 4 h)
 
 -- ---- a strip between lines of consecutive vertices, except for their last vertices
-pub line_on : (x n e i : ℕ) → i < n → vertex (line_of x n e) i ≡ on x i
-line_on x n e i h = sym (at_more (line_of x n e) i (λ g. omega arith)) ∙ ap (λ (k : ℕ). k % 65536) (omega arith)
+pub line_on : (x n e i : ℕ) → i < n → line_of x n e i ≡ on x i
+line_on x n e i h = sym (along_more x 1 n e i (λ g. omega arith)) ∙ ap (λ (k : ℕ). k % 65536) (omega arith)
 
 module _ (A B : ℕ → ℕ) (positive : Bool) where
   pair_on_lem : (x y i a b : ℕ) → A a ≡ on x i → A (suc a) ≡ on x (suc i) → B b ≡ on y i → B (suc b) ≡ on y (suc i) → pair_on positive x y i ≡ indices positive (pair A B a b)

@@ -6,7 +6,6 @@ ghost use Rattle.std.specs.Prelude.{◌≡◌, false, [], ◌∷◌, ◌++◌, �
 ghost use Rattle.buffer.specs.Over.{Wrote, flat};
 ghost use Rattle.shifted_copies.specs.Copies.{shifted, copy};
 ghost use Rattle.strip.specs.Triangles.{indices};
-ghost use Rattle.strip.specs.Lines.{vertex};
 ghost use Rattle.strip.specs.Strips.{strip, step_triangle};
 ghost use Rattle.strip_blocks.specs.Blocks.{on, pair_on, block_pattern, line_of};
 
@@ -133,7 +132,7 @@ pub fn write_long(
 ) -> usize
     requires counts { (10 ≤ r) × (r ≤ 62) × (x + 2 ≤ y) × (y + r < 65536) }
     requires room { at + 6 * r + 6 ≤ length out.old }
-    ensures { Wrote out.old at (indices pattern.now.positive (strip (vertex (line_of x (r + 2) e)) (vertex (line_of y r f)) (r + 2) r)) out.new result }
+    ensures { Wrote out.old at (indices pattern.now.positive (strip (line_of x (r + 2) e) (line_of y r f) (r + 2) r)) out.new result }
 {
     let h = r / 2;
     write_run(out, at, x, y, h + 1, pattern);

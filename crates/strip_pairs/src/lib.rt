@@ -41,11 +41,9 @@ pub fn write_pairs(
     second: u16,
     positive: bool,
 ) -> Reached
-    requires fact_1 { outer.count ≤ 64 }
-    requires fact_2 { inner.count ≤ 64 }
-    requires fact_3 { (a + n < outer.count) × (b + n ≤ inner.count - 1) }
-    requires fact_4 { (first ≡ vertex outer a) × (second ≡ vertex inner b) }
-    requires fact_5 { at + 6 * n ≤ length out.old }
+    requires inside { (a + n < outer.count) × (b + n ≤ inner.count - 1) }
+    requires here { (first ≡ vertex outer a) × (second ≡ vertex inner b) }
+    requires room { at + 6 * n ≤ length out.old }
     ensures { Paired (vertex outer) (vertex inner) positive a b n out.old at out.new result.to result.x result.y }
 {
     let mut x = first;
@@ -77,11 +75,10 @@ pub fn write_last(
     y: u16,
     positive: bool,
 ) -> usize
-    requires fact_1 { outer.count ≡ inner.count + 2 }
-    requires fact_2 { (1 ≤ inner.count) × (inner.count ≤ 62) }
-    requires fact_3 { x ≡ vertex outer inner.count }
-    requires fact_4 { y ≡ vertex inner (inner.count - 1) }
-    requires fact_5 { at + 9 ≤ length out.old }
+    requires counts { (outer.count ≡ inner.count + 2) × (1 ≤ inner.count) }
+    requires outer_here { x ≡ vertex outer inner.count }
+    requires inner_here { y ≡ vertex inner (inner.count - 1) }
+    requires room { at + 9 ≤ length out.old }
     ensures { Wrote out.old at (indices positive (pair (vertex outer) (vertex inner) inner.count (inner.count - 1)) ++ indices positive
         (step_triangle (vertex outer) (vertex inner) true (inner.count + 1) inner.count ∷ [])) out.new result }
 {
@@ -101,8 +98,8 @@ pub fn write_last(
 
 // Writes the two triangles between an outer line of two segments and an inner line that is a single vertex.
 pub fn write_fan(out: &mut [u16], at: usize, outer: Line, inner: Line, positive: bool) -> usize
-    requires fact_1 { (outer.count ≡ 2) × (inner.count ≡ 0) }
-    requires fact_2 { at + 6 ≤ length out.old }
+    requires counts { (outer.count ≡ 2) × (inner.count ≡ 0) }
+    requires room { at + 6 ≤ length out.old }
     ensures { Wrote out.old at (indices positive (step_triangle (vertex outer) (vertex inner) true 0 0 ∷ step_triangle (vertex outer)
         (vertex inner) true 1 0 ∷ [])) out.new result }
 {

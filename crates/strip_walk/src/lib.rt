@@ -13,9 +13,7 @@ use strip::line::Line;
 
 // Writes a strip with any two segment counts.
 pub fn write_walk(out: &mut [u16], at: usize, outer: Line, inner: Line, positive: bool) -> usize
-    requires fact_1 { outer.count ≤ 64 }
-    requires fact_2 { inner.count ≤ 64 }
-    requires fact_3 { at + 3 * (outer.count + inner.count) ≤ length out.old }
+    requires { at + 3 * (outer.count + inner.count) ≤ length out.old }
     ensures { Wrote out.old at (indices positive (strip (vertex outer) (vertex inner) outer.count inner.count)) out.new result }
 {
     let steps = outer.count + inner.count;

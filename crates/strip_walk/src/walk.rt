@@ -22,7 +22,6 @@ pub struct Progress {
 }
 
 pub(crate) fn begin(outer: Line, inner: Line) -> Walk
-    requires { (outer.count ≤ 64) × (inner.count ≤ 64) }
     ensures { AtStart outer inner result }
 {
     let p = outer.count;
@@ -37,8 +36,8 @@ pub(crate) fn begin(outer: Line, inner: Line) -> Walk
 }
 
 pub(crate) fn advance(outer: Line, inner: Line, w: Walk) -> Progress
-    requires fact_1 { Standing outer inner w }
-    requires fact_2 { w.strip.a + w.strip.b < w.strip.p + w.strip.r }
+    requires stands { Standing outer inner w }
+    requires goes_on { w.strip.a + w.strip.b < w.strip.p + w.strip.r }
     ensures { Advanced outer inner w result }
 {
     let x = w.x;

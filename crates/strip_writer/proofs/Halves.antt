@@ -19,14 +19,13 @@ use Rattle.strip_pairs.proofs.Pairs.{pairs_length, halves}
 -- what the writers of such a strip require, and that the inner line has segments
 pub record Alternate (outer inner : Line) (xs : List ℕ) (at : ℕ) : Type 0 where
   pub two : outer.count ≡ inner.count + 2
-  pub few : outer.count ≤ 64
   pub room : at + 3 * (outer.count + inner.count) ≤ length xs
   pub some : inner.count ≡ 0 → ⊥
 
 pub alternate : (outer inner : Line) (xs : List ℕ) (at : ℕ)
-    → (outer.count ≡ inner.count + 2) × ((outer.count ≤ 64) × ((inner.count ≤ 64) × (at + 3 * (outer.count + inner.count) ≤ length xs)))
+    → outer.count ≡ inner.count + 2 → at + 3 * (outer.count + inner.count) ≤ length xs
     → (inner.count ≡ 0 → ⊥) → Alternate outer inner xs at
-alternate outer inner xs at pre some = record { two = pre.0; few = pre.1.0; room = pre.1.1.1; some = some }
+alternate outer inner xs at two room some = record { two = two; room = room; some = some }
 
 -- the first pairs are written
 module _ {outer inner : Line} {xs : List ℕ} {at : ℕ} (s : Alternate outer inner xs at) (positive : Bool) {xs₁ : List ℕ} {w₁ x y : ℕ}
@@ -52,30 +51,27 @@ module _ {outer inner : Line} {xs : List ℕ} {at : ℕ} (s : Alternate outer in
     step_end : w₂ ≡ w₁ + 3
     step_end = t.next
 
-    pub pairs_ready : (outer.count ≤ 64) × ((inner.count ≤ 64) × (((inner.count / 2 + 1 + (inner.count - inner.count / 2 - 1) < outer.count) ×
+    pub pairs_ready : ((inner.count / 2 + 1 + (inner.count - inner.count / 2 - 1) < outer.count) ×
         (inner.count / 2 + (inner.count - inner.count / 2 - 1) ≤ inner.count - 1))
-        × (((u ≡ vertex outer (inner.count / 2 + 1)) × (y ≡ vertex inner (inner.count / 2))) × (w₂ + 6 * (inner.count - inner.count / 2 - 1) ≤ length xs₂))))
+        × (((u ≡ vertex outer (inner.count / 2 + 1)) × (y ≡ vertex inner (inner.count / 2))) × (w₂ + 6 * (inner.count - inner.count / 2 - 1) ≤ length xs₂))
     pairs_ready =
         let e : suc (inner.count / 2) ≡ inner.count / 2 + 1 = omega arith in
-        (s.few, (omega (arith, s.two, s.few), (omega (arith, s.two, s.some), ((n ∙ ap (vertex outer) e, inner_middle), omega (arith, first_end, step_end, l, m, s.room, s.two, s.some)))))
+        (omega (arith, s.two, s.some), ((n ∙ ap (vertex outer) e, inner_middle), omega (arith, first_end, step_end, l, m, s.room, s.two, s.some)))
 
     -- the second pairs are written
     module _ {xs₃ : List ℕ} {w₃ x' y' : ℕ}
         (q : Paired (vertex outer) (vertex inner) positive (inner.count / 2 + 1) (inner.count / 2) (inner.count - inner.count / 2 - 1) xs₂ w₂ xs₃ w₃ x' y') where
-      pub last_ready : length xs₃ ≡ length xs₂ → (outer.count ≡ inner.count + 2) × (((1 ≤ inner.count) × (inner.count ≤ 62))
-          × ((x' ≡ vertex outer inner.count) × ((y' ≡ vertex inner (inner.count - 1)) × (w₃ + 9 ≤ length xs₃))))
+      pub last_ready : length xs₃ ≡ length xs₂ → ((outer.count ≡ inner.count + 2) × (1 ≤ inner.count))
+          × ((x' ≡ vertex outer inner.count) × ((y' ≡ vertex inner (inner.count - 1)) × (w₃ + 9 ≤ length xs₃)))
       last_ready k =
           let h = inner.count / 2 in
           let e : h + 1 + (inner.count - h - 1) ≡ inner.count = omega (arith, s.some) in
           let f : h + (inner.count - h - 1) ≡ inner.count - 1 = omega (arith, s.some) in
           let end = pairs_length (vertex outer) (vertex inner) positive (h + 1) h (inner.count - h - 1) in (
-            s.two,
+            (s.two, omega (arith, s.some)),
             (
-              omega (arith, s.two, s.few, s.some),
-              (
-                q.outer ∙ ap (vertex outer) e,
-                (q.inner ∙ ap (vertex inner) f, omega (arith, first_end, step_end, q.wrote.next, end, l, m, k, s.room, s.two, s.some)),
-              ),
+              q.outer ∙ ap (vertex outer) e,
+              (q.inner ∙ ap (vertex inner) f, omega (arith, first_end, step_end, q.wrote.next, end, l, m, k, s.room, s.two, s.some)),
             ),
           )
 

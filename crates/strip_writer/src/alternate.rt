@@ -18,10 +18,8 @@ pub(crate) fn write_alternating<const POSITIVE: bool>(
     outer: Line,
     inner: Line,
 ) -> usize
-    requires fact_1 { outer.count ≡ inner.count + 2 }
-    requires fact_2 { outer.count ≤ 64 }
-    requires fact_3 { inner.count ≤ 64 }
-    requires fact_4 { at + 3 * (outer.count + inner.count) ≤ length out.old }
+    requires counts { outer.count ≡ inner.count + 2 }
+    requires room { at + 3 * (outer.count + inner.count) ≤ length out.old }
     ensures { Wrote out.old at (indices POSITIVE (strip (vertex outer) (vertex inner) outer.count inner.count)) out.new result }
 {
     let r = inner.count;

@@ -13,9 +13,7 @@ use strip::line::Line;
 
 // Writes pairs of steps if the outer line has two segments more, as in nearly all strips; else step by step.
 pub fn write_strip(out: &mut [u16], at: usize, outer: Line, inner: Line, positive: bool) -> usize
-    requires fact_1 { outer.count ≤ 64 }
-    requires fact_2 { inner.count ≤ 64 }
-    requires fact_3 { at + 3 * (outer.count + inner.count) ≤ length out.old }
+    requires { at + 3 * (outer.count + inner.count) ≤ length out.old }
     ensures { Wrote out.old at (indices positive (strip (vertex outer) (vertex inner) outer.count inner.count)) out.new result }
 {
     let p = outer.count;

@@ -26,5 +26,5 @@ returns c =
     let z = c.after-z.ensures in
     let e : suc r ≡ r + 1 = omega arith in
     let f : suc (r - 1) ≡ r = omega arith in
-    rw (← c.requires.fact_3, ← u, ← c.requires.fact_4, ← v, ← u ∙ ap (vertex a.outer) e, ← z, ← v ∙ ap (vertex a.inner) f)
+    rw (← c.requires.outer_here, ← u, ← c.requires.inner_here, ← v, ← u ∙ ap (vertex a.outer) e, ← z, ← v ∙ ap (vertex a.inner) f)
     (wrote_then (omega arith) c.put_two-to.ensures c.put_triangle.ensures)

@@ -13,8 +13,8 @@ loop-i-init c =
     let a = c.args in
     let x : a.a ≡ a.a + 0 = omega arith in
     let y : a.b ≡ a.b + 0 = omega arith in (
-      c.requires.fact_4.0 ∙ ap (vertex a.outer) x,
-      c.requires.fact_4.1 ∙ ap (vertex a.inner) y,
+      c.requires.here.0 ∙ ap (vertex a.outer) x,
+      c.requires.here.1 ∙ ap (vertex a.inner) y,
       count_start (omega (arith, pairs_length (vertex a.outer) (vertex a.inner) a.positive a.a a.b a.n)),
     )
 

@@ -1,7 +1,6 @@
 use native.Mathlib.Omega.{arith}
 use Prim.Native.Nat.{◌+◌, ◌*◌}
 use mathlib.Core.List.{[], ◌∷◌}
-use Rattle.strip.specs.Lines.{vertex}
 use Rattle.mesh_topology.specs.Ring.{ring_at}
 use Rattle.mesh_topology.specs.Nest.{ring_edge}
 use Rattle.strip_blocks.specs.Blocks.{on, line_of}
@@ -9,7 +8,7 @@ use Rattle.ring_indices.proofs.Rings.{line_closed}
 use Rattle.ring_indices.proofs.Bands.{on_ring, three_strips}
 use Rattle.strip.specs.Triangles.{indices}
 use Rattle.strip.specs.Strips.{step_triangle}
-use Rattle.strip.proofs.Strips.{indices_length, strip_same, strip_follows}
+use Rattle.strip.proofs.Strips.{indices_length, strip_same}
 use Rattle.strip_blocks.proofs.Blocks.{open_next}
 use Rattle.mesh_topology.specs.Band.{from}
 use mathlib.Core.Bool.{false}
@@ -65,12 +64,12 @@ returns c =
     let g1 = indices_length a.pattern.now.positive (step_triangle (on x1) (on y1) false (r + 2) r ∷ []) in
     let n0 = open_next a.pattern.now.positive x0 y0 r (omega arith) s0.ensures in
     let n1 = open_next a.pattern.now.positive x1 y1 r (omega arith) s1.ensures in
-    three_strips a.pattern.now.positive F p r e0 e1 e2 (on x0) (on y0) (on x1) (on y1) (vertex (line_of x2 p x0)) (vertex (line_of y2 r y0)) G0 G1 (omega arith)
+    three_strips a.pattern.now.positive F p r e0 e1 e2 (on x0) (on y0) (on x1) (on y1) (line_of x2 p x0) (line_of y2 r y0) G0 G1 (omega arith)
     (omega (arith, s0.auto.out)) (omega arith) (omega arith) (omega arith)
     (strip_same (on x0) (from 0 F) (on y0) e0.line p r (λ i h. on_ring base total 0 x0 i (omega arith) (omega arith) (omega arith))
     (λ i h. on_ring inner (3 * r) (0 * r) y0 i (omega arith) (omega arith) (omega arith)))
     (strip_same (on x1) (from (0 + p) F) (on y1) e1.line p r (λ i h. on_ring base total (0 + p) x1 i (omega arith) (omega arith) (omega arith))
     (λ i h. on_ring inner (3 * r) (1 * r) y1 i (omega arith) (omega arith) (omega arith)))
-    (strip_follows (line_closed base total (0 + p + p) p x2 x0 (omega arith) (omega arith) (omega arith) (omega arith))
+    (strip_same (line_of x2 p x0) (from (0 + p + p) F) (line_of y2 r y0) e2.line p r (line_closed base total (0 + p + p) p x2 x0 (omega arith) (omega arith) (omega arith) (omega arith))
     (line_closed inner (3 * r) (2 * r) r y2 y0 (omega arith) (omega arith) (omega arith) (omega arith)))
     s0.ensures (omega arith) s1.ensures (omega arith) s2.ensures
