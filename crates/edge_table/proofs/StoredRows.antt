@@ -1,12 +1,11 @@
 -- The table of equal spacing: where each row is, and that the places by table and by division agree. Assumes nothing.
 use mathlib.Core.Path.{◌≡◌, sym, ap, ◌∙◌}
-use mathlib.Core.List.{List, [], ◌++◌, append_assoc, append-nil}
+use mathlib.Core.List.{List, ◌++◌, append_assoc}
 use Prim.Native.Nat.{ℕ, zero, suc, ◌+◌, ◌-◌, ◌*◌, ◌≤◌}
 use native.Mathlib.Nat.{zero-add, add-zero}
 use native.Mathlib.Omega.{arith}
-use lib.ListN.{length, get_or, take, drop, replicate, length-append, length-replicate, drop_of_length-le, get_or-append}
+use lib.ListN.{length, get_or, take, length-append, get_or-append}
 use lib.Seq.{get_or-append-add, take_at}
-use Rattle.buffer.specs.Over.{over, Wrote}
 use Rattle.edge.specs.Positions.{position, entry}
 use Rattle.edge.specs.Rows.{edge_row, RowAt}
 use Rattle.edge_table.specs.Stored.{row_start, rows_from, rows_to}
@@ -36,16 +35,12 @@ before_length k =
     let e : suc k - 1 ≡ k = omega arith in
     rw e (omega (arith, rows_length 1 k))
 
--- the first w words of the table, written over w zeros, if they are m rows
-pub rows_cut : (m w : ℕ) (xs ys : List ℕ) (r : ℕ) → Wrote (replicate w 0) 0 (take w xs) ys r → xs ≡ rows_to 64 → 2 * w ≡ m * (m + 3) → m ≤ 64 → ys ≡ rows_to m
-unfolding over
-rows_cut m w xs ys r c e h k =
+-- the first w words of the table, if they are m rows
+pub rows_cut : (m w : ℕ) (xs : List ℕ) → xs ≡ rows_to 64 → 2 * w ≡ m * (m + 3) → m ≤ 64 → take w xs ≡ rows_to m
+rows_cut m w xs e h k =
     let whole : m + (64 - m) ≡ 64 = omega arith in
     let l : length (rows_to m) ≡ w = omega (arith, rows_length 1 m) in
-    let cut : take w xs ≡ rows_to m = ap (take w) (e ∙ ap rows_to (sym whole) ∙ rows_split 1 m (64 - m)) ∙ take_at (rows_to m) (rows_from (1 + m) (64 - m)) w l in
-    let zeros = replicate {A = ℕ} w 0 in
-    let none : drop (0 + length (rows_to m)) zeros ≡ [] = drop_of_length-le zeros {i = 0 + length (rows_to m)} (omega (arith, length-replicate {A = ℕ} w 0)) in
-    c.is ∙ rw (cut, none) (append-nil (rows_to m))
+    ap (take w) (e ∙ ap rows_to (sym whole) ∙ rows_split 1 m (64 - m)) ∙ take_at (rows_to m) (rows_from (1 + m) (64 - m)) w l
 
 -- a row, between those before it and those after it
 row_split : (k j : ℕ) → rows_to (k + suc j) ≡ rows_to k ++ (edge_row (suc k) (65536 * suc k) ++ rows_from (suc (suc k)) j)

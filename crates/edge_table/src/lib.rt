@@ -2,7 +2,7 @@
 // is copied to the stack where it is used, so callers take no more rows than they need.
 #![tactic(auto)]
 
-ghost use Rattle.std.specs.Prelude.{◌≡◌, ◌≤◌};
+ghost use Rattle.std.specs.Prelude.{◌≡◌, ◌≤◌, ◌*◌, ◌+◌};
 ghost use Rattle.edge.specs.Rows.{edge_row, RowAt};
 ghost use Rattle.edge_table.specs.Stored.{row_start, rows_to, Widest};
 
@@ -147,33 +147,15 @@ pub fn rows_to_64() -> [u32; 2144]
     STORED
 }
 
-// Returns the rows of 1 to 8 segments.
-pub fn rows_to_8() -> [u32; 44]
-    ensures { result ≡ rows_to 8 }
+// Returns the rows of 1 to MOST segments, which are the first LENGTH words of the table.
+pub fn rows_to<const MOST: usize, const LENGTH: usize>() -> [u32; LENGTH]
+    requires few { MOST ≤ 64 }
+    requires whole { 2 * LENGTH ≡ MOST * (MOST + 3) }
+    ensures { result ≡ rows_to MOST }
 {
     let all = rows_to_64();
-    let mut rows = [0u32; 44];
-    buffer::put_all(&mut rows, 0, &all[0..44]);
-    rows
-}
-
-// Returns the rows of 1 to 16 segments.
-pub fn rows_to_16() -> [u32; 152]
-    ensures { result ≡ rows_to 16 }
-{
-    let all = rows_to_64();
-    let mut rows = [0u32; 152];
-    buffer::put_all(&mut rows, 0, &all[0..152]);
-    rows
-}
-
-// Returns the rows of 1 to 32 segments.
-pub fn rows_to_32() -> [u32; 560]
-    ensures { result ≡ rows_to 32 }
-{
-    let all = rows_to_64();
-    let mut rows = [0u32; 560];
-    buffer::put_all(&mut rows, 0, &all[0..560]);
+    let mut rows = [0u32; LENGTH];
+    rows.copy_from_slice(&all[..LENGTH]);
     rows
 }
 

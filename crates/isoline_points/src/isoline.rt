@@ -91,15 +91,15 @@ pub fn write_isolines(out: &mut [u32], at: usize, lines: Segments, along: Segmen
     let most = most_equal(0, lines);
     let most = most_equal(most, along);
     if most <= 8 {
-        let table = edge_table::rows_to_8();
+        let table = edge_table::rows_to::<8, 44>();
         return write_by_spacing(out, at, &table, lines, along);
     }
     if most <= 16 {
-        let table = edge_table::rows_to_16();
+        let table = edge_table::rows_to::<16, 152>();
         return write_by_spacing(out, at, &table, lines, along);
     }
     if most <= 32 {
-        let table = edge_table::rows_to_32();
+        let table = edge_table::rows_to::<32, 560>();
         return write_by_spacing(out, at, &table, lines, along);
     }
     let table = edge_table::rows_to_64();

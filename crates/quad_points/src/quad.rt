@@ -110,11 +110,11 @@ fn write_by_width(
     ensures { Wrote out.old at (vertex_words (quad_patch (run e0) (run e1) (run e2) (run e3) (run rows) (run columns))) out.new result }
 {
     if most <= 16 {
-        let table = edge_table::rows_to_16();
+        let table = edge_table::rows_to::<16, 152>();
         return write_stored(out, at, &table, e0, e1, e2, e3, rows, columns);
     }
     if most <= 32 {
-        let table = edge_table::rows_to_32();
+        let table = edge_table::rows_to::<32, 560>();
         return write_stored(out, at, &table, e0, e1, e2, e3, rows, columns);
     }
     if most <= 64 {
@@ -143,7 +143,7 @@ pub fn write_quad_patch(
 {
     let most = width_of(e0, e1, e2, e3, rows, columns);
     if most < 9 {
-        let table = edge_table::rows_to_8();
+        let table = edge_table::rows_to::<8, 44>();
         let r0 = row_of(&table, e0);
         let r1 = row_of(&table, e1);
         let r2 = row_of(&table, e2);

@@ -1,6 +1,0 @@
-use borrow.Author.Rules.{rules}
-use Rattle.edge_table.proofs.StoredRows.{rows_cut}
-use Rattle.edge_table.proofs.rows_to_16.Goals as goal
-
-pub returns : goal.returns
-returns c = search (rows_cut, rules)
