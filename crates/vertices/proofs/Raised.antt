@@ -1,10 +1,10 @@
 -- Points as words, of which only the heights change. Assumes nothing.
 use Prim.Native.Nat.{ℕ, zero, suc, ◌+◌, ◌*◌, ◌≤◌}
 use mathlib.Core.Path.{◌≡◌, refl, sym, ap, ◌∙◌}
-use mathlib.Core.List.{List, [], ◌∷◌, ◌++◌, append_assoc}
+use mathlib.Core.List.{List, [], ◌∷◌, ◌++◌, append_assoc, append-nil}
 use native.Mathlib.Omega.{arith}
-use lib.ListN.{length, take, drop, get_or, set, length-append, length-take, length-drop}
-use lib.Seq.{drop-cons, take-add, take_at, set_at}
+use lib.ListN.{length, take, drop, get_or, set, length-append, length-take}
+use lib.Seq.{drop-cons, take-add, set_at, take-length, drop-length}
 use Rattle.edge.specs.Table.{table}
 use Rattle.mesh_geometry.specs.Words.{vertex_words}
 use Rattle.vertices.specs.Rows.{place_in}
@@ -62,11 +62,6 @@ points_raised u x v (suc n) = ap (λ (l : List ℕ). u 0 ∷ v ∷ 0 ∷ l) (poi
 pub row_raised : (columns : List ℕ) (x v : ℕ) → with_second v (vertex_words (row_points columns x)) ≡ vertex_words (row_points columns v)
 row_raised columns x v = points_raised (place_in columns) x v (length columns)
 
--- ---- the front of a row whose heights were changed
-pub raised_front : (v n : ℕ) (row : List ℕ) {row' : List ℕ} → n ≤ length row → row' ≡ with_second v (take n row) ++ drop n row → take n row' ≡ with_second v (take n row)
-raised_front v n row h e =
-    let size : length (with_second v (take n row)) ≡ n = raised_length v (take n row) ∙ length-take n row ∙ omega arith in
-    ap (take n) e ∙ take_at (with_second v (take n row)) (drop n row) n size
-
-pub raised_size : (v n : ℕ) (row : List ℕ) {row' : List ℕ} → n ≤ length row → row' ≡ with_second v (take n row) ++ drop n row → length row' ≡ length row
-raised_size v n row h e = ap length e ∙ length-append (with_second v (take n row)) (drop n row) ∙ omega (arith, raised_length v (take n row), length-take n row, length-drop n row)
+-- all points of a row
+pub raised_all : (v n : ℕ) (ws : List ℕ) → length ws ≡ 3 * n → with_second v (take (3 * n) ws) ++ drop (3 * n) ws ≡ with_second v ws
+raised_all v n ws h = rw (← h, take-length ws, drop-length ws) (append-nil (with_second v ws))

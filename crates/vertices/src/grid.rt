@@ -1,5 +1,5 @@
 // Points in rows: the inner points of a quad patch, and those of isolines.
-ghost use Rattle.std.specs.Prelude.{◌≡◌, ◌++◌, ◌+◌, ◌*◌, ◌≤◌, length, take, drop};
+ghost use Rattle.std.specs.Prelude.{◌≡◌, ◌+◌, ◌*◌, ◌%◌, ◌≤◌, length};
 ghost use Rattle.buffer.specs.Over.{Wrote};
 ghost use Rattle.mesh_geometry.specs.Words.{vertex_words};
 ghost use Rattle.vertices.specs.Grids.{row_points, grid_points, with_second};
@@ -16,12 +16,12 @@ fn write_row(out: &mut [u32], at: usize, columns: &[u32], v: u32) -> usize
     to
 }
 
-// Sets the height of the first n points of a row to v.
-fn raise(row: &mut [u32], n: usize, v: u32)
-    requires { 3 * n ≤ length row.old }
-    ensures { row.new ≡ with_second v (take (3 * n) row.old) ++ drop (3 * n) row.old }
+// Sets the height of each point of a row to v.
+fn raise(row: &mut [u32], v: u32)
+    requires { length row.old % 3 ≡ 0 }
+    ensures { row.new ≡ with_second v row.old }
 {
-    for i in 0..n {
+    for i in 0..row.len() / 3 {
         row[3 * i + 1] = v;
     }
 }
@@ -44,14 +44,14 @@ fn write_raised(out: &mut [u32], at: usize, rows: &[u32], columns: &[u32]) -> us
     requires room { at + 3 * (length rows.now * length columns.now) ≤ length out.old }
     ensures { Wrote out.old at (vertex_words (grid_points rows.now columns.now)) out.new result }
 {
-    let n = columns.len();
-    let words = 3 * n;
-    let mut row = [0u32; 195];
-    write_row(&mut row, 0, columns, 0);
+    let words = 3 * columns.len();
+    let mut room = [0u32; 195];
+    let row = &mut room[..words];
+    write_row(row, 0, columns, 0);
     let mut to = at;
     for v in rows {
-        raise(&mut row, n, *v);
-        to = buffer::put_all(out, to, &row[..words]);
+        raise(row, *v);
+        to = buffer::put_all(out, to, row);
     }
     to
 }

@@ -1,6 +1,6 @@
 use Prim.Native.Nat.{ℕ}
 use mathlib.Core.Path.{◌≡◌}
-use lib.ListN.{length, take}
+use lib.ListN.{length}
 use Rattle.mesh_geometry.specs.Words.{vertex_words}
 use Rattle.vertices.specs.Grids.{crossing, row_points, with_second}
 use Rattle.vertices.proofs.Loops.{Rows}
@@ -9,4 +9,4 @@ use Rattle.vertices.proofs.grid.write_raised.Given as goal
 abbrev pub invariant-loop-v : goal.invariant-loop-v
 invariant-loop-v l =
     Rows (crossing l.rows l.columns) (length l.columns) l.v-index (length l.rows) l.out l.to l.initial.out l.at
-    × (length l.row ≡ 195) × ((v : ℕ) → with_second v (take l.words l.row) ≡ vertex_words (row_points l.columns v))
+    × ((v : ℕ) → with_second v l.row ≡ vertex_words (row_points l.columns v))
