@@ -1,53 +1,46 @@
 // Writes answers as text.
-use job::header::Header;
-use job::next::NextRecord;
+use job::header::{Header, HeaderError};
+use job::next::{Found, RecordError};
 use job::record::{Record, patch_of, settings_of};
-use job_fields::levels::LevelBits;
-use job_fields::version::version_number;
+use job_fields::levels::Levels;
 use level::{Spacing, segments_of};
 use patch::kinds::Patch;
 use patch::settings::{DomainOrigin, Settings, VertexOrder};
 use std::io::{self, Print, Stdout};
 
-pub(crate) fn write_header(out: Stdout, header: Header) -> io::Result<()> {
+pub(crate) fn write_header(out: Stdout, header: Result<Header, HeaderError>) -> io::Result<()> {
     match header {
-        Header::Read { version, next } => {
-            out.write_all(b"version ")?;
-            print!(out; "{}", version_number(version))?;
-            out.write_all(b", next at ")?;
-            print!(out; "{}", next.at)?;
-            out.write_all(b"\n")?;
+        Ok(read) => {
+            let number = u32::from(read.version);
+            println!(out; "version {number}, next at {}", read.next.at)?;
         }
-        Header::NotAJob => {
-            out.write_all(b"not a job (5)\n")?;
+        Err(HeaderError::NotAJob) => {
+            println!(out; "not a job (5)")?;
         }
-        Header::UnknownVersion => {
-            out.write_all(b"unknown version (6)\n")?;
+        Err(HeaderError::UnknownVersion) => {
+            println!(out; "unknown version (6)")?;
         }
     }
     Ok(())
 }
 
-pub(crate) fn write_answer(out: Stdout, answer: NextRecord) -> io::Result<()> {
+pub(crate) fn write_answer(
+    out: Stdout,
+    answer: Result<Option<Found>, RecordError>,
+) -> io::Result<()> {
     match answer {
-        NextRecord::Read { record, next } => {
-            write_record(out, record)?;
-            out.write_all(b"  next at ")?;
-            print!(out; "{}", next.at)?;
-            out.write_all(b"\n")?;
+        Ok(Some(there)) => {
+            write_record(out, there.record)?;
+            println!(out; "  next at {}", there.next.at)?;
         }
-        NextRecord::End => {
-            out.write_all(b"end\n")?;
+        Ok(None) => {
+            println!(out; "end")?;
         }
-        NextRecord::CutRecord => {
-            out.write_all(b"cut record (7)\n")?;
+        Err(RecordError::CutRecord) => {
+            println!(out; "cut record (7)")?;
         }
-        NextRecord::UnknownSetting { place, next } => {
-            out.write_all(b"unknown setting (8) at place ")?;
-            print!(out; "{place}")?;
-            out.write_all(b", next at ")?;
-            print!(out; "{}", next.at)?;
-            out.write_all(b"\n")?;
+        Err(RecordError::UnknownSetting { place, next }) => {
+            println!(out; "unknown setting (8) at place {place}, next at {}", next.at)?;
         }
     }
     Ok(())
@@ -55,11 +48,9 @@ pub(crate) fn write_answer(out: Stdout, answer: NextRecord) -> io::Result<()> {
 
 fn write_record(out: Stdout, record: Record) -> io::Result<()> {
     let settings = settings_of(record);
-    let spacing = settings.spacing;
-    write_patch(out, patch_of(record), spacing)?;
+    write_patch(out, patch_of(record), settings.spacing)?;
     write_settings(out, settings)?;
-    let bits = record.bits;
-    write_bits(out, bits)?;
+    write_bits(out, record.bits)?;
     Ok(())
 }
 
@@ -72,11 +63,10 @@ fn write_patch(out: Stdout, patch: Patch, spacing: Spacing) -> io::Result<()> {
             outer2,
             inner0,
         } => {
-            out.write_all(b"triangles")?;
-            write_outer(out, outer0, outer1, spacing)?;
-            write_level(out, outer2, spacing)?;
-            out.write_all(b", inner")?;
-            write_level(out, inner0, spacing)?;
+            print!(out; "triangles, segments")?;
+            write_levels(out, &[outer0, outer1, outer2], spacing)?;
+            print!(out; ", inner")?;
+            write_levels(out, &[inner0], spacing)?;
         }
         Patch::Quads {
             outer0,
@@ -86,80 +76,79 @@ fn write_patch(out: Stdout, patch: Patch, spacing: Spacing) -> io::Result<()> {
             inner0,
             inner1,
         } => {
-            out.write_all(b"quads")?;
-            write_outer(out, outer0, outer1, spacing)?;
-            write_level(out, outer2, spacing)?;
-            write_level(out, outer3, spacing)?;
-            out.write_all(b", inner")?;
-            write_level(out, inner0, spacing)?;
-            write_level(out, inner1, spacing)?;
+            print!(out; "quads, segments")?;
+            write_levels(out, &[outer0, outer1, outer2, outer3], spacing)?;
+            print!(out; ", inner")?;
+            write_levels(out, &[inner0, inner1], spacing)?;
         }
         Patch::Isolines { outer0, outer1 } => {
-            out.write_all(b"isolines")?;
-            write_outer(out, outer0, outer1, spacing)?;
+            print!(out; "isolines, segments")?;
+            write_levels(out, &[outer0, outer1], spacing)?;
         }
     }
-    out.write_all(b"\n")?;
+    println!(out; "")?;
     Ok(())
 }
 
-fn write_outer(out: Stdout, outer0: f32, outer1: f32, spacing: Spacing) -> io::Result<()> {
-    out.write_all(b", segments")?;
-    write_level(out, outer0, spacing)?;
-    write_level(out, outer1, spacing)?;
-    Ok(())
-}
-
-// Writes the segments of a level, with the top level 64.
-fn write_level(out: Stdout, level: f32, spacing: Spacing) -> io::Result<()> {
-    let clamped = segments_of(level, spacing, 64);
-    let segments = clamped.segments;
-    out.write_all(b" ")?;
-    print!(out; "{}", segments.count)?;
+// Writes the segments of each level, with the top level 64.
+fn write_levels(out: Stdout, levels: &[f32], spacing: Spacing) -> io::Result<()> {
+    for level in levels {
+        let clamped = segments_of(*level, spacing, 64);
+        print!(out; " {}", clamped.segments.count)?;
+    }
     Ok(())
 }
 
 fn write_settings(out: Stdout, settings: Settings) -> io::Result<()> {
-    let spacing = settings.spacing;
-    let order = settings.order;
-    let origin = settings.origin;
-    match spacing {
-        Spacing::Equal => out.write_all(b"  equal")?,
-        Spacing::FractionalEven => out.write_all(b"  even")?,
-        Spacing::FractionalOdd => out.write_all(b"  odd")?,
-    };
-    match order {
-        VertexOrder::Clockwise => out.write_all(b", clockwise")?,
-        VertexOrder::CounterClockwise => out.write_all(b", counter-clockwise")?,
-    };
-    match origin {
-        DomainOrigin::UpperLeft => out.write_all(b", upper-left")?,
-        DomainOrigin::LowerLeft => out.write_all(b", lower-left")?,
-    };
-    if settings.point_mode {
-        out.write_all(b", points, top ")?;
+    let spacing = name_of_spacing(settings.spacing);
+    let order = name_of_order(settings.order);
+    let origin = name_of_origin(settings.origin);
+    let points = if settings.point_mode {
+        "points"
     } else {
-        out.write_all(b", no points, top ")?;
+        "no points"
+    };
+    println!(out;
+        "  {spacing}, {order}, {origin}, {points}, top {}",
+        settings.top
+    )?;
+    Ok(())
+}
+
+fn name_of_spacing(spacing: Spacing) -> &'static str {
+    match spacing {
+        Spacing::Equal => "equal",
+        Spacing::FractionalEven => "even",
+        Spacing::FractionalOdd => "odd",
     }
-    print!(out; "{}", settings.top)?;
-    out.write_all(b"\n")?;
-    Ok(())
 }
 
-fn write_bits(out: Stdout, bits: LevelBits) -> io::Result<()> {
-    out.write_all(b"  bits")?;
-    write_word(out, bits.outer0)?;
-    write_word(out, bits.outer1)?;
-    write_word(out, bits.outer2)?;
-    write_word(out, bits.outer3)?;
-    write_word(out, bits.inner0)?;
-    write_word(out, bits.inner1)?;
-    out.write_all(b"\n")?;
-    Ok(())
+fn name_of_order(order: VertexOrder) -> &'static str {
+    match order {
+        VertexOrder::Clockwise => "clockwise",
+        VertexOrder::CounterClockwise => "counter-clockwise",
+    }
 }
 
-fn write_word(out: Stdout, word: u32) -> io::Result<()> {
-    out.write_all(b" ")?;
-    print!(out; "{word:08x}")?;
+fn name_of_origin(origin: DomainOrigin) -> &'static str {
+    match origin {
+        DomainOrigin::UpperLeft => "upper-left",
+        DomainOrigin::LowerLeft => "lower-left",
+    }
+}
+
+fn write_bits(out: Stdout, bits: Levels<u32>) -> io::Result<()> {
+    print!(out; "  bits")?;
+    for pattern in [
+        bits.outer0,
+        bits.outer1,
+        bits.outer2,
+        bits.outer3,
+        bits.inner0,
+        bits.inner1,
+    ] {
+        print!(out; " {pattern:08x}")?;
+    }
+    println!(out; "")?;
     Ok(())
 }
