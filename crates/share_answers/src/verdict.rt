@@ -9,7 +9,7 @@ use crate::answer::DrawAnswer;
 use measure::size::Size;
 use patch::kinds::Patch;
 use patch::settings::Settings;
-use share_state::shared_list::{accepts, share_of};
+use share_state::shared_list::accepts;
 use share_state::state::{Designer, Share, State};
 
 // The answer for this many further points and indices, by the room in a part.
@@ -49,8 +49,8 @@ fn part_verdict(state: State, designer: Designer, patch: Patch, settings: Settin
             indices,
             clamps: _,
         } => room(
-            share_of(vertex_list, designer),
-            share_of(index_list, designer),
+            vertex_list.share_of(designer),
+            index_list.share_of(designer),
             points,
             indices,
         ),

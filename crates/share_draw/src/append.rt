@@ -8,7 +8,6 @@ ghost use Rattle.share_draw.specs.Room.{FitsBetween, RoomFor, Appended};
 
 use patch::kinds::Patch;
 use patch::settings::Settings;
-use share_state::shared_list::{part_start, share_of, with_used};
 use share_state::state::{Designer, SharedList};
 
 // Draws the points into the words from `from` to `to`.
@@ -24,10 +23,8 @@ fn shift(numbers: &mut [u16], base: u16)
     requires { (k : ℕ) → k < length numbers.old → base + get_or numbers.old k 0 < 65536 }
     ensures { numbers.new ≡ map (λ x. base + x) numbers.old }
 {
-    let mut i = 0;
-    while i < numbers.len() {
-        numbers[i] = base + numbers[i];
-        i += 1;
+    for number in numbers.iter_mut() {
+        *number += base;
     }
 }
 
@@ -64,11 +61,11 @@ pub(crate) fn append_points(
     requires fact_2 { words ≡ 3 * points_of settings patch }
     ensures { Appended designer (point_words settings patch) list vertices.old vertices.new result }
 {
-    let start = part_start(list, designer);
-    let share = share_of(list, designer);
+    let start = list.part_start(designer);
+    let share = list.share_of(designer);
     let used = share.used;
     write_points(patch, settings, vertices, start + used, start + share.quota);
-    with_used(list, designer, used + words)
+    list.with_used(designer, used + words)
 }
 
 // Appends this many indices to those that a designer uses.
@@ -86,8 +83,8 @@ pub(crate) fn append_indices(
     requires fact_3 { base + points_of settings patch ≤ 65535 }
     ensures { Appended designer (shifted_indices base settings patch) list indices.old indices.new result }
 {
-    let start = part_start(list, designer);
-    let share = share_of(list, designer);
+    let start = list.part_start(designer);
+    let share = list.share_of(designer);
     let used = share.used;
     write_indices(
         patch,
@@ -98,5 +95,5 @@ pub(crate) fn append_indices(
         words,
         base,
     );
-    with_used(list, designer, used + words)
+    list.with_used(designer, used + words)
 }

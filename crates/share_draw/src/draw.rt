@@ -7,7 +7,6 @@ use patch::kinds::Patch;
 use patch::settings::Settings;
 use share_answers::answer::DrawAnswer;
 use share_answers::verdict::verdict_of;
-use share_state::shared_list::share_of;
 use share_state::state::{Designer, State};
 
 pub fn draw(
@@ -35,7 +34,7 @@ pub fn draw(
     {
         let vertex_list = state.vertices;
         let index_list = state.indices;
-        let share = share_of(vertex_list, designer);
+        let share = vertex_list.share_of(designer);
         let base = (share.used / 3) as u16;
         let point_words = 3 * (points as usize);
         let index_words = words as usize;

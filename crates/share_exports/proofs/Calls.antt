@@ -18,20 +18,16 @@ use Rattle.call_answers.specs.Replies.{IsReply, unknown_setting, bad_top}
 use Rattle.call_answers.proofs.Replies.{said_two, says_as}
 use Rattle.call_inputs.specs.Inputs.{top_in, patch_in, settings_in}
 use Rattle.share_state.specs.declared.state.Designer.{Designer}
-use Rattle.share_state.specs.declared.state.Quota.{Quota}
 use Rattle.share_state.specs.declared.state.State.{State}
-use Rattle.share_state.specs.declared.answer.StartAnswer.{StartAnswer}
-use Rattle.share_state.specs.declared.answer.StartAnswer.TheVariants as starting
-use Rattle.share_state.specs.declared.answer.StartAnswer.TheVariants.{QuotasTooLarge}
 use Rattle.share_draw.specs.declared.answer.DrawResult.{DrawResult}
 use Rattle.share_state.specs.declared.answer.ClearResult.{ClearResult}
-use Rattle.share_state.specs.Answers.{start_code, clear_code, quotas_fit, accepted, clear_verdict}
+use Rattle.share_state.specs.Answers.{clear_code, accepted, clear_verdict}
 use Rattle.share_answers.specs.Answers.{draw_code, draw_verdict}
-use Rattle.share_state.specs.Operations.{unless_refused, start_state, cleared_state, DidStart, DidClear}
+use Rattle.share_state.specs.Operations.{unless_refused, cleared_state, DidClear}
 use Rattle.share_draw.specs.Operations.{drawn_state, DidDraw}
-use Rattle.share_words.specs.Words.{state_in, state_words, quota_in, designer_of}
+use Rattle.share_words.specs.Words.{state_in, state_words, designer_of}
 use Rattle.share_words.specs.Memory.{Memory}
-use Rattle.share_exports.specs.Calls.{unknown_designer, asked, ShareCalled, DrawAsked, DrawCalled, Started, StartCalled, clear_says, ShareCleared, ClearCalled}
+use Rattle.share_exports.specs.Calls.{unknown_designer, asked, ShareCalled, DrawAsked, DrawCalled, clear_says, ShareCleared, ClearCalled}
 
 -- ---- refusals that the patch does not matter for
 module _ (bs : List ℕ) (d : ℕ) (ok : Bool) (t : AnswerCode) where
@@ -140,23 +136,6 @@ module _ (bs : List ℕ) (xs : List Float) (d : ℕ) (m : Memory) {s : State} (s
       let none : (asked bs d (accepted_in m s) done).number ≡ 0 = omega (arith, is.number) in
       called_as bs d ed state es ep
       (record { says = says_as (asked_none bs d (accepted_in m s) _ none) h.says; state = h.state; vertices = h.vertices; indices = h.indices })
-
--- ---- starting
-started_as : {v i : ℕ} {a a' b b' : Quota} {w w' : List ℕ} {r : ℕ} → a ≡ a' → b ≡ b' → Started v i a b w w' r → Started v i a' b' w w' r
-started_as e f h = rw (← e, ← f) h
-
-module _ (q : List ℕ) (v i : ℕ) (w : List ℕ) {a b : Quota} (first : a ≡ quota_in q 0) (second : b ≡ quota_in q 2) {r : StartAnswer} (h : DidStart v i a b r) where
-  pub start_refused : r ≡ QuotasTooLarge → StartCalled q v i w w 12
-  start_refused e =
-      started_as first second (record { number = ap (λ (x : StartAnswer). (start_code x).number) (sym e) ∙ ap (λ (t : AnswerCode). t.number) h.answer; state = refl })
-
-  pub start_done : {s : State} {w' : List ℕ} → r ≡ starting.Started s → w' ≡ state_words s → StartCalled q v i w w' 0
-  start_done {s} {w'} e k = started_as first second (go (quotas_fit v i a b) refl (ap start_code (sym e) ∙ h.answer) (sym e ∙ h.is))
-    where
-      go : (x : Bool) → quotas_fit v i a b ≡ x → done ≡ cond x done (refused 12) → starting.Started s ≡ cond x (starting.Started (start_state v i a b)) QuotasTooLarge
-          → Started v i a b w w' 0
-      go true f m n = let same : s ≡ start_state v i a b = cc in record { number = rw f; state = k ∙ ap state_words same }
-      go false f m n = let z : ◌≡◌ {A = ℕ} 0 12 = ap (λ (t : AnswerCode). t.number) m in absurd (omega arith)
 
 -- ---- clearing
 cleared_as : {d v i : ℕ} {e e' : Designer} {s s' : State} {w w' : List ℕ} {r : ℕ} → e ≡ e' → s ≡ s' → ShareCleared d v i e s w w' r → ShareCleared d v i e' s' w w' r

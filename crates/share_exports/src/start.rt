@@ -2,7 +2,7 @@
 ghost use Rattle.std.specs.Prelude.{length};
 ghost use Rattle.share_exports.specs.Calls.{StartCalled};
 
-use share_state::answer::StartAnswer;
+use share_state::answer::QuotasTooLarge;
 use share_words::words::{quota_in, words_of};
 
 #[unsafe(no_mangle)]
@@ -17,10 +17,10 @@ pub extern "C" fn yoktvarim_share_start(
     let first = quota_in(quotas, 0);
     let second = quota_in(quotas, 2);
     match share_state::start::start(vertices, indices, first, second) {
-        StartAnswer::Started { state: begun } => {
+        Ok(begun) => {
             *state = words_of(begun);
             0
         }
-        StartAnswer::QuotasTooLarge => 12,
+        Err(QuotasTooLarge) => 12,
     }
 }

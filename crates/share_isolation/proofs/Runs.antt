@@ -5,13 +5,14 @@ use mathlib.Core.Bool.{Bool, true, false, cond}
 use mathlib.Core.List.{List}
 use native.Mathlib.Omega.{arith}
 use lib.ListN.{length}
+use Rattle.std.specs.Prelude.{Result, Ok, Err}
 use Rattle.answer_codes.specs.AnswerCode.{AnswerCode, refused, done}
 use Rattle.tessellate.specs.Draws.{point_words}
 use Rattle.share_state.specs.declared.state.Designer.{Designer}
 use Rattle.share_state.specs.declared.state.State.{State}
 use Rattle.share_state.specs.declared.state.Quota.{Quota}
 use Rattle.share_state.specs.SharedList.{appended}
-use Rattle.share_state.specs.declared.answer.StartAnswer.TheVariants.{Started, QuotasTooLarge}
+use Rattle.share_state.specs.declared.answer.QuotasTooLarge.{QuotasTooLarge}
 use Rattle.share_state.specs.Answers.{clear_code, quotas_fit}
 use Rattle.share_answers.specs.Answers.{draw_code}
 use Rattle.share_state.specs.Operations.{unless_refused, start_state, cleared_state}
@@ -62,7 +63,7 @@ begun_is : {a b : Quota} {v i : List ℕ} {s : Session} → Begun a b v i s → 
 begun_is {a} {b} {v} {i} (begin s h) = go (quotas_fit (length v) (length i) a b) refl h.answer h.is
   where
     go : (x : Bool) → quotas_fit (length v) (length i) a b ≡ x → done ≡ cond x done (refused 12)
-        → Started s ≡ cond x (Started (start_state (length v) (length i) a b)) QuotasTooLarge
+        → ◌≡◌ {A = Result State QuotasTooLarge} (Ok s) (cond x (Ok (start_state (length v) (length i) a b)) (Err (record {})))
         → Is-begun a b v i (record { state = s; vertices = v; indices = i })
     go true e k j = let same : s ≡ start_state (length v) (length i) a b = cc in record { fit = e; is = session_of same refl refl }
     go false e k j = let z : ◌≡◌ {A = ℕ} 0 12 = ap (λ (t : AnswerCode). t.number) k in absurd (omega arith)

@@ -1,12 +1,11 @@
 -- A start and the calls after it: what each call was lent, answered and left, by the contracts of the operations alone. Assumes nothing.
-use Rattle.std.specs.Prelude.{ℕ, ◌≡◌, List, length}
+use Rattle.std.specs.Prelude.{ℕ, ◌≡◌, List, Ok, length}
 use Rattle.patch.specs.declared.kinds.Patch.{Patch}
 use Rattle.patch.specs.declared.settings.Settings.{Settings}
 use Rattle.answer_codes.specs.AnswerCode.{AnswerCode}
 use Rattle.share_state.specs.declared.state.Designer.{Designer}
 use Rattle.share_state.specs.declared.state.Quota.{Quota}
 use Rattle.share_state.specs.declared.state.State.{State}
-use Rattle.share_state.specs.declared.answer.StartAnswer.TheVariants.{Started}
 use Rattle.share_draw.specs.declared.answer.DrawResult.{DrawResult}
 use Rattle.share_state.specs.declared.answer.ClearResult.{ClearResult}
 use Rattle.share_state.specs.Answers.{clear_code}
@@ -18,7 +17,7 @@ use Rattle.share_isolation.specs.Session.{draw, clear, Call, Session, DesignerAn
 
 -- a start with these quotas on the lists v and i was accepted, and began this session
 pub data Begun (a b : Quota) (v i : List ℕ) : Session → Type 0 where
-  begin : (s : State) → DidStart (length v) (length i) a b (Started s) → Begun a b v i (record { state = s; vertices = v; indices = i })
+  begin : (s : State) → DidStart (length v) (length i) a b (Ok s) → Begun a b v i (record { state = s; vertices = v; indices = i })
 
 -- the lists v and i, lent to a call with this answer, are the session's, unless the call was refused
 pub record SameLists (s : Session) (t : AnswerCode) (v i : List ℕ) : Type 0 where

@@ -1,22 +1,20 @@
 -- The numbers and values of the answers to starting and clearing, and which answer applies. Assumes nothing.
-use Rattle.std.specs.Prelude.{ℕ, ◌+◌, Bool, cond, ◌&&◌, leb, eqb}
+use Rattle.std.specs.Prelude.{ℕ, ◌+◌, Bool, cond, ◌&&◌, leb, eqb, Result, Ok, Err}
 use Rattle.answer_codes.specs.AnswerCode.{AnswerCode, refused, done}
 use Rattle.share_state.specs.declared.state.Quota.{Quota}
 use Rattle.share_state.specs.declared.state.State.{State}
-use Rattle.share_state.specs.declared.answer.StartAnswer.{StartAnswer}
-use Rattle.share_state.specs.declared.answer.StartAnswer.TheVariants.{Started, QuotasTooLarge}
-use Rattle.share_state.specs.declared.answer.ClearAnswer.{ClearAnswer}
-use Rattle.share_state.specs.declared.answer.ClearAnswer.TheVariants as clearing
+use Rattle.share_state.specs.declared.answer.QuotasTooLarge.{QuotasTooLarge}
+use Rattle.share_state.specs.declared.answer.BadState.{BadState}
 use Rattle.share_state.specs.SharedList.{sound, whole_points}
 
 -- the numbers of the answers of both operations
-abbrev pub start_code : StartAnswer → AnswerCode
-start_code (Started s) = done
-start_code QuotasTooLarge = refused 12
+abbrev pub start_code : Result State QuotasTooLarge → AnswerCode
+start_code (Ok s) = done
+start_code (Err e) = refused 12
 
-abbrev pub clear_code : ClearAnswer → AnswerCode
-clear_code clearing.Cleared = done
-clear_code clearing.BadState = refused 14
+abbrev pub clear_code : Result (Unit {0}) BadState → AnswerCode
+clear_code (Ok u) = done
+clear_code (Err e) = refused 14
 
 -- the quotas of the two designers fit into lists of v and i words
 unfoldable pub quotas_fit : ℕ → ℕ → Quota → Quota → Bool

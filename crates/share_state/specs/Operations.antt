@@ -1,12 +1,11 @@
 -- The contracts of starting and of clearing: the answer, and the state to pass on. Assumes nothing.
-use Rattle.std.specs.Prelude.{ℕ, zero, suc, ◌≡◌, cond}
+use Rattle.std.specs.Prelude.{ℕ, zero, suc, ◌≡◌, cond, Result, Ok, Err}
 use Rattle.share_state.specs.declared.state.Designer.{Designer}
 use Rattle.share_state.specs.declared.state.Share.{Share}
 use Rattle.share_state.specs.declared.state.SharedList.{SharedList}
 use Rattle.share_state.specs.declared.state.Quota.{Quota}
 use Rattle.share_state.specs.declared.state.State.{State}
-use Rattle.share_state.specs.declared.answer.StartAnswer.{StartAnswer}
-use Rattle.share_state.specs.declared.answer.StartAnswer.TheVariants.{Started, QuotasTooLarge}
+use Rattle.share_state.specs.declared.answer.QuotasTooLarge.{QuotasTooLarge}
 use Rattle.share_state.specs.declared.answer.ClearResult.{ClearResult}
 use Rattle.share_state.specs.SharedList.{with_used}
 use Rattle.share_state.specs.Answers.{start_code, clear_code, quotas_fit, start_verdict, accepted, clear_verdict}
@@ -29,9 +28,9 @@ abbrev pub start_state : ℕ → ℕ → Quota → Quota → State
 start_state v i a b = record { vertices = unused_list v a.vertices b.vertices; indices = unused_list i a.indices b.indices }
 
 -- the contract of starting
-pub record DidStart (v i : ℕ) (a b : Quota) (r : StartAnswer) : Type 0 where
+pub record DidStart (v i : ℕ) (a b : Quota) (r : Result State QuotasTooLarge) : Type 0 where
   pub answer : start_code r ≡ start_verdict v i a b
-  pub is : r ≡ cond (quotas_fit v i a b) (Started (start_state v i a b)) QuotasTooLarge
+  pub is : r ≡ cond (quotas_fit v i a b) (Ok (start_state v i a b)) (Err (record {}))
 
 -- the state after a designer's part is cleared
 abbrev pub cleared_state : Designer → State → State

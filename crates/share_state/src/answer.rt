@@ -1,21 +1,17 @@
-// The answers to starting and clearing.
+// What starting and clearing refuse, and the result of clearing.
 use crate::state::State;
 
-#[derive(Clone, Copy, Drop)]
-pub enum StartAnswer {
-    Started { state: State },
-    QuotasTooLarge,
-}
+// The quotas of both designers together exceed a list.
+#[derive(Clone, Copy, Debug, PartialEq, Eq, Drop)]
+pub struct QuotasTooLarge;
 
-#[derive(Clone, Copy, Drop)]
-pub enum ClearAnswer {
-    Cleared,
-    BadState,
-}
+// The state can't occur, or the lists lent with it don't have the lengths of the start.
+#[derive(Clone, Copy, Debug, PartialEq, Eq, Drop)]
+pub struct BadState;
 
-// An answer, and the state to pass on.
+// Whether a part was cleared, and the state to pass on.
 #[derive(Clone, Copy, Drop)]
 pub struct ClearResult {
-    pub answer: ClearAnswer,
+    pub answer: Result<(), BadState>,
     pub state: State,
 }

@@ -2,26 +2,27 @@
 ghost use Rattle.std.specs.Prelude.{length};
 ghost use Rattle.share_state.specs.Operations.{DidClear};
 
-use crate::answer::{ClearAnswer, ClearResult};
-use crate::shared_list::{accepts, with_used};
+use crate::answer::{BadState, ClearResult};
+use crate::shared_list::accepts;
 use crate::state::{Designer, State};
 
+#[tactic(auto, unfolding(crate::specs::Answers::clear_verdict))]
 pub fn clear(state: State, designer: Designer, vertices: &[u32], indices: &[u16]) -> ClearResult
     ensures { DidClear designer state (length vertices.now) (length indices.now) result }
 {
     if !accepts(state, vertices.len(), indices.len()) {
         return ClearResult {
-            answer: ClearAnswer::BadState,
+            answer: Err(BadState),
             state,
         };
     }
     let vertex_list = state.vertices;
     let index_list = state.indices;
     ClearResult {
-        answer: ClearAnswer::Cleared,
+        answer: Ok(()),
         state: State {
-            vertices: with_used(vertex_list, designer, 0),
-            indices: with_used(index_list, designer, 0),
+            vertices: vertex_list.with_used(designer, 0),
+            indices: index_list.with_used(designer, 0),
         },
     }
 }

@@ -2,7 +2,7 @@
 ghost use Rattle.std.specs.Prelude.{length, ◌≡◌};
 ghost use Rattle.share_state.specs.Operations.{DidStart, unused_list};
 
-use crate::answer::StartAnswer;
+use crate::answer::QuotasTooLarge;
 use crate::shared_list::quotas_fit;
 use crate::state::{Quota, Share, SharedList, State};
 
@@ -23,21 +23,25 @@ fn unused(length: usize, first: usize, second: usize) -> SharedList
     }
 }
 
-pub fn start(vertices: &[u32], indices: &[u16], first: Quota, second: Quota) -> StartAnswer
+#[tactic(auto, unfolding(crate::specs::Answers::quotas_fit))]
+pub fn start(
+    vertices: &[u32],
+    indices: &[u16],
+    first: Quota,
+    second: Quota,
+) -> Result<State, QuotasTooLarge>
     ensures { DidStart (length vertices.now) (length indices.now) first second result }
 {
     let v = vertices.len();
     let i = indices.len();
     if !quotas_fit(v, first.vertices, second.vertices) {
-        return StartAnswer::QuotasTooLarge;
+        return Err(QuotasTooLarge);
     }
     if !quotas_fit(i, first.indices, second.indices) {
-        return StartAnswer::QuotasTooLarge;
+        return Err(QuotasTooLarge);
     }
-    StartAnswer::Started {
-        state: State {
-            vertices: unused(v, first.vertices, second.vertices),
-            indices: unused(i, first.indices, second.indices),
-        },
-    }
+    Ok(State {
+        vertices: unused(v, first.vertices, second.vertices),
+        indices: unused(i, first.indices, second.indices),
+    })
 }
