@@ -6,16 +6,18 @@ use native.Mathlib.Omega.{arith}
 use Rattle.level.specs.Top.{is_top}
 use Rattle.patch.specs.declared.kinds.Patch.{Patch}
 use Rattle.patch.specs.declared.settings.Settings.{Settings}
-use Rattle.level_clamps.specs.declared.Clamps.{Clamps}
 use Rattle.patch.specs.Subdivide.{discards}
 use Rattle.level_clamps.specs.Clamps.{clamps_of}
 use Rattle.measure.specs.declared.size.Size.{Size}
-use Rattle.measure.specs.declared.size.Size.TheVariants.{Counts, Discarded, BadTop}
+use Rattle.std.proofs.Common.{Result, Ok, Err}
+use Rattle.measure.specs.declared.cut.NotDrawn.{NotDrawn}
+use Rattle.measure.specs.declared.cut.NotDrawn.TheVariants.{BadTop, Discarded}
 use Rattle.measure.specs.Sizes.{points_of, indices_of}
-use Rattle.answer_codes.specs.AnswerCode.{AnswerCode}
+use Rattle.answer_codes.specs.AnswerCode.{AnswerCode, refused}
 use Rattle.measure.proofs.Measured.{measured}
 use Rattle.share_state.specs.declared.state.Share.{Share}
-use Rattle.share_answers.specs.Answers.{room_verdict, part_verdict}
+use Rattle.share_answers.specs.Refusals.{share_refusal_of}
+use Rattle.share_answers.specs.Answers.{draw_code, room_verdict, part_verdict}
 
 -- both counts of a patch that is not discarded
 pub record Counted (set : Settings) (p : Patch) (m k : ℕ) : Type 0 where
@@ -24,31 +26,26 @@ pub record Counted (set : Settings) (p : Patch) (m k : ℕ) : Type 0 where
   pub indices : k ≡ indices_of set p
 
 module _ (set : Settings) (p : Patch) (top : is_top set.top ≡ true) where
-  abbrev size : Bool → Size
-  size x = cond x Discarded (Counts (points_of set p) (indices_of set p) (clamps_of set.spacing set.top p))
+  abbrev size : Bool → Result Size NotDrawn
+  size x = cond x (Err Discarded) (Ok (record { points = points_of set p; indices = indices_of set p; clamps = clamps_of set.spacing set.top p }))
 
   is_size : measured set p ≡ size (discards p)
   unfolding measured
   is_size = rw top
 
-  pub not_bad : BadTop ≡ measured set p → ⊥
-  not_bad e = go (discards p) (e ∙ is_size)
+  -- a patch that is not measured is discarded
+  pub says_discarded : {reason : NotDrawn} → Err reason ≡ measured set p → (n v i : ℕ) → draw_code (Err (share_refusal_of reason)) ≡ part_verdict set p n v i
+  unfolding part_verdict
+  says_discarded {reason} e n v i = go (discards p) (e ∙ is_size)
     where
-      go : (x : Bool) → BadTop ≡ size x → ⊥
-      go true h = let z : ◌≡◌ {A = ℕ} 0 1 = cc in omega arith
-      go false h = let z : ◌≡◌ {A = ℕ} 0 1 = cc in omega arith
+      go : (x : Bool) → Err reason ≡ size x → draw_code (Err (share_refusal_of reason)) ≡ cond x (refused 1) (room_verdict n v i (points_of set p) (indices_of set p))
+      go true h = let same : reason ≡ Discarded = cc in rw same
+      go false h = let z : ◌≡◌ {A = ℕ} 0 1 = cc in absurd (omega arith)
 
-  pub is_discarded_lem : Discarded ≡ measured set p → discards p ≡ true
-  is_discarded_lem e = go (discards p) refl (e ∙ is_size)
+  pub is_counted : {s : Size} → Ok s ≡ measured set p → Counted set p s.points s.indices
+  is_counted {s} e = go (discards p) refl (e ∙ is_size)
     where
-      go : (x : Bool) → discards p ≡ x → Discarded ≡ size x → discards p ≡ true
-      go true d h = d
-      go false d h = let z : ◌≡◌ {A = ℕ} 0 1 = cc in absurd (omega arith)
-
-  pub is_counted : {m k : ℕ} {cs : Clamps} → Counts m k cs ≡ measured set p → Counted set p m k
-  is_counted {m} {k} {cs} e = go (discards p) refl (e ∙ is_size)
-    where
-      go : (x : Bool) → discards p ≡ x → Counts m k cs ≡ size x → Counted set p m k
+      go : (x : Bool) → discards p ≡ x → Ok s ≡ size x → Counted set p s.points s.indices
       go true d h = let z : ◌≡◌ {A = ℕ} 0 1 = cc in absurd (omega arith)
       go false d h = record { drawn = d; points = cc; indices = cc }
 

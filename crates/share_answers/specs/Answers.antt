@@ -1,27 +1,23 @@
 -- The numbers and values of the answers to drawing, and which answer applies. Assumes nothing.
-use Rattle.std.specs.Prelude.{ℕ, ◌+◌, ◌*◌, ◌/◌, Bool, cond, ltb}
+use Rattle.std.specs.Prelude.{ℕ, ◌+◌, ◌*◌, ◌/◌, Bool, cond, ltb, Result, Ok, Err}
 use Rattle.level.specs.Top.{is_top}
 use Rattle.patch.specs.declared.kinds.Patch.{Patch}
 use Rattle.patch.specs.declared.settings.Settings.{Settings}
 use Rattle.patch.specs.Subdivide.{discards}
+use Rattle.measure.specs.declared.size.DrawnCounts.{DrawnCounts}
 use Rattle.measure.specs.Sizes.{points_of, indices_of}
 use Rattle.answer_codes.specs.AnswerCode.{AnswerCode, refused, drew_both}
 use Rattle.share_state.specs.declared.state.Designer.{Designer}
 use Rattle.share_state.specs.declared.state.State.{State}
-use Rattle.share_answers.specs.declared.answer.DrawAnswer.{DrawAnswer}
-use Rattle.share_answers.specs.declared.answer.DrawAnswer.TheVariants as drawing
+use Rattle.share_answers.specs.declared.answer.ShareRefusal.{ShareRefusal}
+use Rattle.share_answers.specs.Refusals.{share_refusal_code}
 use Rattle.share_state.specs.SharedList.{share, left}
 use Rattle.share_state.specs.Answers.{accepted}
 
 -- the numbers of the answers
-abbrev pub draw_code : DrawAnswer → AnswerCode
-draw_code (drawing.Drawn p i) = drew_both p i
-draw_code drawing.Discarded = refused 1
-draw_code drawing.NoRoomForVertices = refused 3
-draw_code drawing.NoRoomForIndices = refused 4
-draw_code drawing.BadTop = refused 11
-draw_code drawing.TooManyPoints = refused 13
-draw_code drawing.BadState = refused 14
+abbrev pub draw_code : Result DrawnCounts ShareRefusal → AnswerCode
+draw_code (Ok counts) = drew_both counts.points counts.indices
+draw_code (Err refusal) = share_refusal_code refusal
 
 -- the answer for m points and k indices in a part that holds n points and has v and i words left; refusals in the order 13, 3, 4
 unfoldable pub room_verdict : ℕ → ℕ → ℕ → ℕ → ℕ → AnswerCode

@@ -1,2 +1,3 @@
 -- The definitions of `share_answers`.
+pub mod Refusals
 pub mod Answers

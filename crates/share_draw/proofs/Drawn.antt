@@ -16,8 +16,9 @@ use Rattle.share_state.specs.declared.state.Designer.{Designer}
 use Rattle.share_state.specs.declared.state.Share.{Share}
 use Rattle.share_state.specs.declared.state.SharedList.{SharedList}
 use Rattle.share_state.specs.declared.state.State.{State}
-use Rattle.share_answers.specs.declared.answer.DrawAnswer.{DrawAnswer}
-use Rattle.share_answers.specs.declared.answer.DrawAnswer.TheVariants.{Drawn}
+use Rattle.std.proofs.Common.{Result, Ok}
+use Rattle.measure.specs.declared.size.DrawnCounts.{DrawnCounts}
+use Rattle.share_answers.specs.declared.answer.ShareRefusal.{ShareRefusal}
 use Rattle.share_state.specs.SharedList.{share, left, grown, appended}
 use Rattle.share_state.specs.Answers.{accepted, lent, sound_state}
 use Rattle.share_answers.specs.Answers.{draw_code, room_verdict, part_verdict, share_verdict, draw_verdict, points_held}
@@ -70,14 +71,15 @@ module _ (d : Designer) (s : State) (set : Settings) (p : Patch) (vs is : List �
       }
 
   -- the same for an answer that is "drawn"
-  pub ready_for : {m k : ℕ} (r : DrawAnswer) → r ≡ Drawn m k → draw_code r ≡ draw_verdict d s set p (length vs) (length is) → Ready d s set p vs is m k
-  ready_for {m} {k} r e h = ready m k (ap draw_code (sym e) ∙ h)
+  pub ready_for : {k : DrawnCounts} (r : Result DrawnCounts ShareRefusal) → r ≡ Ok k → draw_code r ≡ draw_verdict d s set p (length vs) (length is)
+      → Ready d s set p vs is k.points k.indices
+  ready_for {k} r e h = ready k.points k.indices (ap draw_code (sym e) ∙ h)
 
   -- words were appended to both lists
-  pub drew_both_lem : {m k : ℕ} (r : DrawAnswer) → r ≡ Drawn m k → draw_code r ≡ draw_verdict d s set p (length vs) (length is)
+  pub drew_both_lem : {k : DrawnCounts} (r : Result DrawnCounts ShareRefusal) → r ≡ Ok k → draw_code r ≡ draw_verdict d s set p (length vs) (length is)
       → {b : Share} → b ≡ share d s.vertices → {vs' is' : List ℕ} {t t' : SharedList} → Appended d (point_words set p) s.vertices vs vs' t
       → Appended d (shifted_indices (b.used / 3) set p) s.indices is is' t'
-      → DidDraw d s set p vs vs' is is' (record { answer = Drawn m k; state = record { vertices = t; indices = t' } })
+      → DidDraw d s set p vs vs' is is' (record { answer = Ok k; state = record { vertices = t; indices = t' } })
   drew_both_lem r e h b a a' =
       let n = ap (λ (x : Share). x.used / 3) b in
       let shares = a'.shares ∙ ap (λ (k : ℕ). grown d (shifted_indices k set p) s.indices) n in

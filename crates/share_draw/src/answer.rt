@@ -1,10 +1,11 @@
 // The result of drawing into a designer's part.
-use share_answers::answer::DrawAnswer;
+use measure::size::DrawnCounts;
+use share_answers::answer::ShareRefusal;
 use share_state::state::State;
 
-// An answer, and the state to pass on.
+// How many points and indices were appended to the designer's part, or why nothing was; and the state to pass on.
 #[derive(Clone, Copy, Drop)]
 pub struct DrawResult {
-    pub answer: DrawAnswer,
+    pub answer: Result<DrawnCounts, ShareRefusal>,
     pub state: State,
 }

@@ -38,9 +38,9 @@ fn write_indices(
     words: usize,
     base: u16,
 )
-    requires fact_1 { FitsBetween settings patch (indices_of settings patch) from to indices.old }
-    requires fact_2 { words ≡ indices_of settings patch }
-    requires fact_3 { base + points_of settings patch ≤ 65535 }
+    requires fits { FitsBetween settings patch (indices_of settings patch) from to indices.old }
+    requires count { words ≡ indices_of settings patch }
+    requires numbered { base + points_of settings patch ≤ 65535 }
     ensures { indices.new ≡ over indices.old from (shifted_indices base settings patch) }
 {
     tessellate::draw::draw_indices(patch, settings, &mut indices[from..to]);
@@ -57,8 +57,8 @@ pub(crate) fn append_points(
     vertices: &mut [u32],
     words: usize,
 ) -> SharedList
-    requires fact_1 { RoomFor settings patch (3 * points_of settings patch) designer list vertices.old }
-    requires fact_2 { words ≡ 3 * points_of settings patch }
+    requires room { RoomFor settings patch (3 * points_of settings patch) designer list vertices.old }
+    requires count { words ≡ 3 * points_of settings patch }
     ensures { Appended designer (point_words settings patch) list vertices.old vertices.new result }
 {
     let start = list.part_start(designer);
@@ -78,9 +78,9 @@ pub(crate) fn append_indices(
     words: usize,
     base: u16,
 ) -> SharedList
-    requires fact_1 { RoomFor settings patch (indices_of settings patch) designer list indices.old }
-    requires fact_2 { words ≡ indices_of settings patch }
-    requires fact_3 { base + points_of settings patch ≤ 65535 }
+    requires room { RoomFor settings patch (indices_of settings patch) designer list indices.old }
+    requires count { words ≡ indices_of settings patch }
+    requires numbered { base + points_of settings patch ≤ 65535 }
     ensures { Appended designer (shifted_indices base settings patch) list indices.old indices.new result }
 {
     let start = list.part_start(designer);

@@ -5,7 +5,6 @@ use crate::answer::DrawResult;
 use crate::append::{append_indices, append_points};
 use patch::kinds::Patch;
 use patch::settings::Settings;
-use share_answers::answer::DrawAnswer;
 use share_answers::verdict::verdict_of;
 use share_state::state::{Designer, State};
 
@@ -27,42 +26,35 @@ pub fn draw(
         vertices.len(),
         indices.len(),
     );
-    if let DrawAnswer::Drawn {
-        points,
-        indices: words,
-    } = answer
-    {
-        let vertex_list = state.vertices;
-        let index_list = state.indices;
-        let share = vertex_list.share_of(designer);
-        let base = (share.used / 3) as u16;
-        let point_words = 3 * (points as usize);
-        let index_words = words as usize;
-        let next_vertices = append_points(
-            vertex_list,
-            designer,
-            patch,
-            settings,
-            vertices,
-            point_words,
-        );
-        let next_indices = append_indices(
-            index_list,
-            designer,
-            patch,
-            settings,
-            indices,
-            index_words,
-            base,
-        );
-        DrawResult {
-            answer,
-            state: State {
-                vertices: next_vertices,
-                indices: next_indices,
-            },
-        }
-    } else {
-        DrawResult { answer, state }
+    let Ok(counts) = answer else {
+        return DrawResult { answer, state };
+    };
+    let vertex_list = state.vertices;
+    let index_list = state.indices;
+    let share = vertex_list.share_of(designer);
+    let base = (share.used / 3) as u16;
+    let next_vertices = append_points(
+        vertex_list,
+        designer,
+        patch,
+        settings,
+        vertices,
+        3 * (counts.points as usize),
+    );
+    let next_indices = append_indices(
+        index_list,
+        designer,
+        patch,
+        settings,
+        indices,
+        counts.indices as usize,
+        base,
+    );
+    DrawResult {
+        answer,
+        state: State {
+            vertices: next_vertices,
+            indices: next_indices,
+        },
     }
 }

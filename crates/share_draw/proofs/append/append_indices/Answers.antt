@@ -6,5 +6,5 @@ use Rattle.share_draw.proofs.append.append_indices.Goals as goal
 pub returns : goal.returns
 returns c =
     let a = c.args in
-    append_done c.part_start-start.ensures c.share_of-share.ensures a.words (c.requires.fact_2 ∙ sym (index_words_lem a.base a.settings a.patch))
+    append_done c.part_start-start.ensures c.share_of-share.ensures a.words (c.requires.count ∙ sym (index_words_lem a.base a.settings a.patch))
     c.write_indices.ensures c.with_used.ensures

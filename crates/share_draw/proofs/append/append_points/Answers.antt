@@ -7,5 +7,5 @@ pub returns : goal.returns
 returns c =
     let a = c.args in
     append_done c.part_start-start.ensures c.share_of-share.ensures
-    a.words (c.requires.fact_2 ∙ sym (point_words_lem a.settings a.patch))
+    a.words (c.requires.count ∙ sym (point_words_lem a.settings a.patch))
     c.write_points.ensures c.with_used.ensures

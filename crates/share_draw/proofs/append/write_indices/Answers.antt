@@ -13,17 +13,17 @@ shift-requires c =
     let a = c.args in
     let h = c.requires in
     let ws = connection_words a.settings a.patch in
-    let first = lent_on h.fact_1 ws refl 4 (indices_of a.settings a.patch) c.draw_indices.ensures in
-    let again = lent_again h.fact_1 ws refl a.words h.fact_2 first in
+    let first = lent_on h.fits ws refl 4 (indices_of a.settings a.patch) c.draw_indices.ensures in
+    let again = lent_again h.fits ws refl a.words h.count first in
     subst (λ (l : List ℕ). (k : ℕ) → k < length l → a.base + get_or l k 0 < 65536) (sym again)
-    (λ k l. raised_fits a.settings a.patch h.fact_1.top h.fact_1.drawn a.base k h.fact_3 l)
+    (λ k l. raised_fits a.settings a.patch h.fits.top h.fits.drawn a.base k h.numbered l)
 
 pub returns : goal.returns
 returns c =
     let a = c.args in
     let h = c.requires in
     let ws = connection_words a.settings a.patch in
-    let first = lent_on h.fact_1 ws refl 4 (indices_of a.settings a.patch) c.draw_indices.ensures in
-    let again = lent_again h.fact_1 ws refl a.words h.fact_2 first in
+    let first = lent_on h.fits ws refl 4 (indices_of a.settings a.patch) c.draw_indices.ensures in
+    let again = lent_again h.fits ws refl a.words h.count first in
     let f : ℕ → ℕ = λ x. a.base + x in
-    ap (put_mid a.from (a.from + a.words - a.from) _) (c.shift.ensures ∙ ap (map f) again) ∙ put_again h.fact_1 ws refl (map f ws) a.words h.fact_2 (length-map ws f) first
+    ap (put_mid a.from (a.from + a.words - a.from) _) (c.shift.ensures ∙ ap (map f) again) ∙ put_again h.fits ws refl (map f ws) a.words h.count (length-map ws f) first
