@@ -11,7 +11,7 @@ use Rattle.level_clamps.specs.Clamps.{clamps_of}
 use Rattle.measure.specs.declared.size.Size.{Size}
 use Rattle.std.proofs.Common.{Result, Ok, Err}
 use Rattle.measure.specs.declared.cut.NotDrawn.{NotDrawn}
-use Rattle.measure.specs.declared.cut.NotDrawn.TheVariants.{BadTop, Discarded}
+use Rattle.measure.specs.declared.cut.NotDrawn.TheVariants.{Discarded}
 use Rattle.measure.specs.Sizes.{points_of, indices_of}
 use Rattle.answer_codes.specs.AnswerCode.{AnswerCode, refused}
 use Rattle.measure.proofs.Measured.{measured}

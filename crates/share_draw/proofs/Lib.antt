@@ -3,4 +3,3 @@ pub mod Parts
 pub mod Counts
 mod Lent
 pub mod Drawn
-mod Refused

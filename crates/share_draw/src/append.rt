@@ -15,7 +15,8 @@ fn write_points(patch: Patch, settings: Settings, vertices: &mut [u32], from: us
     requires { FitsBetween settings patch (3 * points_of settings patch) from to vertices.old }
     ensures { vertices.new ≡ over vertices.old from (point_words settings patch) }
 {
-    tessellate::draw::draw_points(patch, settings, &mut vertices[from..to]);
+    // There is room, so this is not refused.
+    let _ = tessellate::draw::draw_points(patch, settings, &mut vertices[from..to]);
 }
 
 // Adds `base` to every number.
@@ -43,7 +44,8 @@ fn write_indices(
     requires numbered { base + points_of settings patch ≤ 65535 }
     ensures { indices.new ≡ over indices.old from (shifted_indices base settings patch) }
 {
-    tessellate::draw::draw_indices(patch, settings, &mut indices[from..to]);
+    // There is room, so this is not refused.
+    let _ = tessellate::draw::draw_indices(patch, settings, &mut indices[from..to]);
     let end = from + words;
     shift(&mut indices[from..end], base);
 }
