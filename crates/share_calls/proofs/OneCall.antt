@@ -31,7 +31,7 @@ use Rattle.share_state.specs.declared.state.State.{State}
 use Rattle.share_state.specs.SharedList.{first_free, left}
 use Rattle.share_state.specs.Answers.{accepted}
 use Rattle.share_draw.specs.declared.answer.DrawResult.{DrawResult}
-use Rattle.share_answers.specs.declared.answer.DrawAnswer.TheVariants.{Drawn}
+use Rattle.std.proofs.Common.{Ok}
 use Rattle.share_answers.specs.Answers.{draw_code, room_verdict, part_verdict, share_verdict, draw_verdict, points_held}
 use Rattle.share_draw.specs.Operations.{new_indices, drawn_state, DidDraw}
 use Rattle.share_answers.proofs.Passed.{passed}
@@ -119,7 +119,7 @@ module _ (bs : List ℕ) (xs : List Float) (d : ℕ) {before after : Memory} {c'
 
   -- a call that answered 0 is a drawing of its operation, with the counts in memory
   abbrev drawn : DrawResult
-  drawn = record { answer = Drawn (get_or c' 0 0) (get_or c' 1 0); state = drawn_state by s set p }
+  drawn = record { answer = Ok (record { points = get_or c' 0 0; indices = get_or c' 1 0 }); state = drawn_state by s set p }
 
   pub draw_call : DidDraw by s set p before.vertices after.vertices before.indices after.indices drawn
   draw_call =

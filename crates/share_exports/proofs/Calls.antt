@@ -1,33 +1,32 @@
 -- The contract of a call, answer by answer. Assumes nothing.
 use Prim.Native.Nat.{ℕ, zero, suc, ◌≤◌, ◌<◌}
-use mathlib.Core.Path.{◌≡◌, refl, sym, ap, ◌∙◌}
+use mathlib.Core.Path.{◌≡◌, refl, ap, ◌∙◌}
 use mathlib.Core.Bool.{Bool, true, false, cond}
 use mathlib.Core.List.{List, [], ◌∷◌}
 use native.Mathlib.Omega.{arith}
-use borrow.Author.Tests.{lt-ltb, le-ltb, ne_eqb}
-use lib.Dec.{ltb, eqb}
+use borrow.Author.Tests.{lt-ltb, le-ltb}
+use lib.Dec.{ltb}
 use lib.Ieee.{Float}
 use lib.ListN.{length}
+use Rattle.std.proofs.Common.{Err}
 use Rattle.level.specs.Top.{is_top}
 use Rattle.patch.specs.declared.kinds.Patch.{Patch}
 use Rattle.patch.specs.declared.settings.Settings.{Settings}
 use Rattle.job_fields.specs.Settings.{first_unknown_setting}
 use Rattle.answer_codes.specs.AnswerCode.{AnswerCode, refused, done}
 use Rattle.call_answers.specs.declared.reply.Reply.{Reply}
-use Rattle.call_answers.specs.Replies.{IsReply, unknown_setting, bad_top}
+use Rattle.call_answers.specs.Replies.{unknown_setting, bad_top}
 use Rattle.call_answers.proofs.Replies.{said_two, says_as}
 use Rattle.call_inputs.specs.Inputs.{top_in, patch_in, settings_in}
 use Rattle.share_state.specs.declared.state.Designer.{Designer}
 use Rattle.share_state.specs.declared.state.State.{State}
-use Rattle.share_draw.specs.declared.answer.DrawResult.{DrawResult}
 use Rattle.share_state.specs.declared.answer.ClearResult.{ClearResult}
 use Rattle.share_state.specs.Answers.{clear_code, accepted, clear_verdict}
-use Rattle.share_answers.specs.Answers.{draw_code, draw_verdict}
+use Rattle.share_answers.specs.Answers.{draw_verdict}
 use Rattle.share_state.specs.Operations.{unless_refused, cleared_state, DidClear}
-use Rattle.share_draw.specs.Operations.{drawn_state, DidDraw}
 use Rattle.share_words.specs.Words.{state_in, state_words, designer_of}
 use Rattle.share_words.specs.Memory.{Memory}
-use Rattle.share_exports.specs.Calls.{unknown_designer, asked, ShareCalled, DrawAsked, DrawCalled, clear_says, ShareCleared, ClearCalled}
+use Rattle.share_exports.specs.Calls.{unknown_designer, asked, IsAdmitted, ShareCalled, DrawAsked, DrawCalled, clear_says, ShareCleared, ClearCalled}
 
 -- ---- refusals that the patch does not matter for
 module _ (bs : List ℕ) (d : ℕ) (ok : Bool) (t : AnswerCode) where
@@ -87,26 +86,6 @@ module _ (bs : List ℕ) (d : ℕ) (ok : Bool) where
         found_none h = rw (top, state, le-ltb 1 d designer, ← first, le-ltb k 5 h)
 
 -- ---- drawing
--- a state that is stored where the number is 0
-stored : (n : ℕ) (a b s : State) (w : List ℕ) → a ≡ unless_refused n b s → cond (eqb n 0) (state_words a) w ≡ unless_refused n (state_words b) w
-stored zero a b s w e = ap state_words e
-stored (suc n) a b s w e = rw (ne_eqb (suc n) 0 (λ h. omega (arith, h)))
-
--- what the operation did, answered and stored
-pub drew_known : {e : Designer} {s : State} {set : Settings} {p : Patch} {before after : Memory} {c' : List ℕ} {r : DrawResult} {reply : Reply} {n : ℕ}
-    → DidDraw e s set p before.vertices after.vertices before.indices after.indices r → IsReply (draw_code r.answer) reply
-    → after.words ≡ cond (eqb reply.number 0) (state_words r.state) before.words → (n ≡ reply.number) × (c' ≡ reply.first ∷ reply.second ∷ [])
-    → ShareCalled (draw_verdict e s set p (length before.vertices) (length before.indices)) e s set p before after c' n
-drew_known {e} {s} {set} {p} {before} {r = r} {reply = reply} h is k said =
-    let w = before.words in
-    let told = said_two is said in
-    record {
-      says = says_as (sym h.answer) told;
-      state = rw told.number (k ∙ ap (λ (m : ℕ). cond (eqb m 0) (state_words r.state) w) is.number ∙ stored (draw_code r.answer).number r.state (drawn_state e s set p) s w h.state);
-      vertices = rw told.number h.vertices;
-      indices = rw told.number h.indices;
-    }
-
 -- the same for equal designers, states, settings and patches
 called_as : (bs : List ℕ) (d : ℕ) {e e' : Designer} {s s' : State} {set set' : Settings} {p p' : Patch} {before after : Memory} {c' : List ℕ} {r : ℕ}
     → e ≡ e' → s ≡ s' → set ≡ set' → p ≡ p' → DrawAsked bs d e s set p before after c' r → DrawAsked bs d e' s' set' p' before after c' r
@@ -116,11 +95,10 @@ called_as bs d a b c f h = rw (← a, ← b, ← c, ← f) h
 abbrev accepted_in : Memory → State → Bool
 accepted_in m s = accepted (length m.vertices) (length m.indices) s
 
-module _ (bs : List ℕ) (xs : List Float) (d : ℕ) (m : Memory) {s : State} (state : s ≡ state_in m.words) {reply : Reply}
-    (is : IsReply (asked bs d (accepted_in m s) done) reply) {c' : List ℕ} {r : ℕ} where
+module _ (bs : List ℕ) (xs : List Float) (d : ℕ) (m : Memory) {s : State} (state : s ≡ state_in m.words) {c' : List ℕ} {r : ℕ} where
   -- a refusal leaves everything as it was
-  pub draw_refused : 0 < reply.number → (r ≡ reply.number) × (c' ≡ reply.first ∷ reply.second ∷ []) → DrawCalled bs xs d m m c' r
-  draw_refused h said = called_as bs d refl state refl refl (go (asked bs d (accepted_in m s) done).number refl)
+  pub draw_refused : {reply : Reply} → IsAdmitted bs d (accepted_in m s) (Err reply) → (r ≡ reply.number) × (c' ≡ reply.first ∷ reply.second ∷ []) → DrawCalled bs xs d m m c' r
+  draw_refused {reply} (h, is) said = called_as bs d refl state refl refl (go (asked bs d (accepted_in m s) done).number refl)
     where
       go : (n : ℕ) → (asked bs d (accepted_in m s) done).number ≡ n → DrawAsked bs d (designer_of d) s (settings_in bs) (patch_in bs xs) m m c' r
       go zero e = let z : reply.number ≡ 0 = is.number ∙ e in absurd (omega arith)
@@ -130,12 +108,16 @@ module _ (bs : List ℕ) (xs : List Float) (d : ℕ) (m : Memory) {s : State} (s
           record { says = says_as (asked_some bs d (accepted_in m s) _ n e) told; state = rw z; vertices = rw z; indices = rw z }
 
   -- a designer and settings that are known
-  pub draw_known : reply.number ≤ 0 → {e : Designer} {set : Settings} {p : Patch} → e ≡ designer_of d → set ≡ settings_in bs → p ≡ patch_in bs xs → {after : Memory}
+  pub draw_known : asked bs d (accepted_in m s) done ≡ done → {e : Designer} {set : Settings} {p : Patch} → e ≡ designer_of d → set ≡ settings_in bs → p ≡ patch_in bs xs → {after : Memory}
       → ShareCalled (draw_verdict e s set p (length m.vertices) (length m.indices)) e s set p m after c' r → DrawCalled bs xs d m after c' r
-  draw_known low ed es ep h =
-      let none : (asked bs d (accepted_in m s) done).number ≡ 0 = omega (arith, is.number) in
+  draw_known admitted ed es ep h =
       called_as bs d ed state es ep
-      (record { says = says_as (asked_none bs d (accepted_in m s) _ none) h.says; state = h.state; vertices = h.vertices; indices = h.indices })
+      (record {
+        says = says_as (asked_none bs d (accepted_in m s) _ (ap (λ (t : AnswerCode). t.number) admitted)) h.says;
+        state = h.state;
+        vertices = h.vertices;
+        indices = h.indices;
+      })
 
 -- ---- clearing
 cleared_as : {d v i : ℕ} {e e' : Designer} {s s' : State} {w w' : List ℕ} {r : ℕ} → e ≡ e' → s ≡ s' → ShareCleared d v i e s w w' r → ShareCleared d v i e' s' w w' r

@@ -25,7 +25,8 @@ use Rattle.answer_codes.proofs.Exactly.{answered_exactly}
 use Rattle.share_state.specs.declared.state.Quota.{Quota}
 use Rattle.share_state.specs.SharedList.{left}
 use Rattle.share_state.specs.Answers.{quotas_fit, accepted}
-use Rattle.share_answers.specs.declared.answer.DrawAnswer.TheVariants as drawing
+use Rattle.std.proofs.Common.{Ok, Err}
+use Rattle.share_answers.specs.declared.answer.ShareRefusal.TheVariants as drawing
 use Rattle.share_answers.specs.Answers.{room_verdict, part_verdict, share_verdict, points_held}
 use Rattle.share_words.specs.Words.{state_in, quota_in, designer_of}
 use Rattle.share_words.specs.Memory.{Memory}
@@ -100,8 +101,8 @@ module _ (bs : List ℕ) (d : ℕ) (ok : Bool) (p : Patch) (n v i : ℕ) where
   -- the answer, by what each test found
   abbrev named : Bool → Bool → Bool → Bool → Bool → Bool → Bool → Bool → ShareAnswer
   named t o e u g a b c =
-      cond t (cond o (cond e no_designer (cond u (unknown place) (cond g (found drawing.Discarded) (cond a (found drawing.TooManyPoints)
-      (cond b (found drawing.NoRoomForVertices) (cond c (found drawing.NoRoomForIndices) (found (drawing.Drawn m k)))))))) (found drawing.BadState)) (found drawing.BadTop)
+      cond t (cond o (cond e no_designer (cond u (unknown place) (cond g (found (Err drawing.Discarded)) (cond a (found (Err drawing.TooManyPoints))
+      (cond b (found (Err drawing.NoRoomForVertices)) (cond c (found (Err drawing.NoRoomForIndices)) (found (Ok (record { points = m; indices = k }))))))))) (found (Err drawing.BadState))) (found (Err drawing.BadTop))
 
   abbrev right : ShareAnswer
   right = named (is_top (top_in bs)) ok (ltb 1 d) (ltb place 5) (discards p) (ltb 65535 (n + m)) (ltb v (3 * m)) (ltb i k)
@@ -146,18 +147,18 @@ module _ (bs : List ℕ) (d : ℕ) (ok : Bool) (p : Patch) (n v i : ℕ) where
           ((known q1 q2 q3 q4, q5), ltb-false 65535 (n + m) q6, ltb-false v (3 * m) q7, ltb-false i k q8, refl, refl)
 
   means_right : (x : ShareAnswer) → Right x → right ≡ x
-  means_right (found drawing.BadTop) h = rw (top_no (top_in bs) h)
-  means_right (found drawing.BadState) (t, o) = rw (is_top_lem (top_in bs) t, o)
+  means_right (found (Err drawing.BadTop)) h = rw (top_no (top_in bs) h)
+  means_right (found (Err drawing.BadState)) (t, o) = rw (is_top_lem (top_in bs) t, o)
   means_right no_designer (t, o, e) = rw (is_top_lem (top_in bs) t, o, lt-ltb 1 d e)
   means_right (unknown j) (t, o, e, f) = let w = (first_is choices bs 0 j).1 f in rw (is_top_lem (top_in bs) t, o, le-ltb 1 d e, w.0, lt-ltb j 5 w.1)
-  means_right (found drawing.Discarded) ((t, o, e, f), g) = rw (is_top_lem (top_in bs) t, o, le-ltb 1 d e, first_all choices bs 0 f, g)
-  means_right (found drawing.TooManyPoints) (((t, o, e, f), g), a) = rw (is_top_lem (top_in bs) t, o, le-ltb 1 d e, first_all choices bs 0 f, g, lt-ltb 65535 (n + m) a)
-  means_right (found drawing.NoRoomForVertices) (((t, o, e, f), g), a, b) =
+  means_right (found (Err drawing.Discarded)) ((t, o, e, f), g) = rw (is_top_lem (top_in bs) t, o, le-ltb 1 d e, first_all choices bs 0 f, g)
+  means_right (found (Err drawing.TooManyPoints)) (((t, o, e, f), g), a) = rw (is_top_lem (top_in bs) t, o, le-ltb 1 d e, first_all choices bs 0 f, g, lt-ltb 65535 (n + m) a)
+  means_right (found (Err drawing.NoRoomForVertices)) (((t, o, e, f), g), a, b) =
       rw (is_top_lem (top_in bs) t, o, le-ltb 1 d e, first_all choices bs 0 f, g, le-ltb 65535 (n + m) a, lt-ltb v (3 * m) b)
-  means_right (found drawing.NoRoomForIndices) (((t, o, e, f), g), a, b, c) =
+  means_right (found (Err drawing.NoRoomForIndices)) (((t, o, e, f), g), a, b, c) =
       rw (is_top_lem (top_in bs) t, o, le-ltb 1 d e, first_all choices bs 0 f, g, le-ltb 65535 (n + m) a, le-ltb v (3 * m) b, lt-ltb i k c)
-  means_right (found (drawing.Drawn x y)) (((t, o, e, f), g), a, b, c, s, r) =
-      rw (is_top_lem (top_in bs) t, o, le-ltb 1 d e, first_all choices bs 0 f, g, le-ltb 65535 (n + m) a, le-ltb v (3 * m) b, le-ltb i k c, s, r)
+  means_right (found (Ok counts)) (((t, o, e, f), g), a, b, c, s, r) =
+      rw (is_top_lem (top_in bs) t, o, le-ltb 1 d e, first_all choices bs 0 f, g, le-ltb 65535 (n + m) a, le-ltb v (3 * m) b, le-ltb i k c, ← s, ← r)
 
 abbrev number_of : ShareAnswer → ℕ
 number_of a = (share_code a).number
@@ -167,24 +168,24 @@ words_of a = two_words (share_code a).values
 
 abbrev answer_in : ℕ → List ℕ → ShareAnswer
 answer_in n c =
-    cond (eqb n 0) (found (drawing.Drawn (get_or c 0 0) (get_or c 1 0)))
-    (cond (eqb n 1) (found drawing.Discarded)
-    (cond (eqb n 3) (found drawing.NoRoomForVertices)
-    (cond (eqb n 4) (found drawing.NoRoomForIndices)
+    cond (eqb n 0) (found (Ok (record { points = get_or c 0 0; indices = get_or c 1 0 })))
+    (cond (eqb n 1) (found (Err drawing.Discarded))
+    (cond (eqb n 3) (found (Err drawing.NoRoomForVertices))
+    (cond (eqb n 4) (found (Err drawing.NoRoomForIndices))
     (cond (eqb n 8) (unknown (get_or c 0 0))
-    (cond (eqb n 11) (found drawing.BadTop)
-    (cond (eqb n 13) (found drawing.TooManyPoints) (cond (eqb n 14) (found drawing.BadState) no_designer)))))))
+    (cond (eqb n 11) (found (Err drawing.BadTop))
+    (cond (eqb n 13) (found (Err drawing.TooManyPoints)) (cond (eqb n 14) (found (Err drawing.BadState)) no_designer)))))))
 
 same_answer : (a : ShareAnswer) → answer_in (number_of a) (words_of a) ≡ a
 same_answer no_designer = refl
 same_answer (unknown at) = refl
-same_answer (found (drawing.Drawn x y)) = refl
-same_answer (found drawing.Discarded) = refl
-same_answer (found drawing.NoRoomForVertices) = refl
-same_answer (found drawing.NoRoomForIndices) = refl
-same_answer (found drawing.BadTop) = refl
-same_answer (found drawing.TooManyPoints) = refl
-same_answer (found drawing.BadState) = refl
+same_answer (found (Ok counts)) = refl
+same_answer (found (Err drawing.Discarded)) = refl
+same_answer (found (Err drawing.NoRoomForVertices)) = refl
+same_answer (found (Err drawing.NoRoomForIndices)) = refl
+same_answer (found (Err drawing.BadTop)) = refl
+same_answer (found (Err drawing.TooManyPoints)) = refl
+same_answer (found (Err drawing.BadState)) = refl
 
 pub draw_call_exactly : (bs : List ℕ) (xs : List Float) (d : ℕ) (before : Memory) {after : Memory} {c' : List ℕ} {r : ℕ} → DrawCalled bs xs d before after c' r
     → DrawExactly bs xs d before c' r

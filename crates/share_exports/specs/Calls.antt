@@ -1,13 +1,14 @@
 -- What a call answers and leaves, for every input: bs are the setting bytes, xs the levels, `before` and `after` the memory at entry and at
 -- exit, w and w' the words of the state, and c' the counts at exit. Assumes nothing.
-use Rattle.std.specs.Prelude.{ℕ, ◌≡◌, Bool, cond, List, ltb, Float, length}
+use Rattle.std.specs.Prelude.{ℕ, ◌<◌, ◌≡◌, Bool, cond, List, ltb, Float, Result, Ok, Err, length}
 use Rattle.level.specs.Top.{is_top}
 use Rattle.patch.specs.declared.kinds.Patch.{Patch}
 use Rattle.patch.specs.declared.settings.Settings.{Settings}
 use Rattle.job_fields.specs.Settings.{first_unknown_setting}
 use Rattle.answer_codes.specs.AnswerCode.{AnswerCode, refused, done}
 use Rattle.tessellate.specs.Draws.{point_words}
-use Rattle.call_answers.specs.Replies.{unknown_setting, bad_top, two_words, Says}
+use Rattle.call_answers.specs.declared.reply.Reply.{Reply}
+use Rattle.call_answers.specs.Replies.{unknown_setting, bad_top, two_words, IsReply, Says}
 use Rattle.call_inputs.specs.Inputs.{top_in, patch_in, settings_in}
 use Rattle.share_state.specs.declared.state.Designer.{Designer}
 use Rattle.share_state.specs.declared.state.Quota.{Quota}
@@ -30,6 +31,11 @@ asked bs d ok t =
     cond (is_top (top_in bs))
     (cond ok (cond (ltb 1 d) unknown_designer (cond (ltb (first_unknown_setting bs 0) 5) (unknown_setting (first_unknown_setting bs 0)) t)) (refused 14))
     bad_top
+
+-- whether a call is admitted: nothing is refused without its patch, or the reply is the refusal
+abbrev pub IsAdmitted : List ℕ → ℕ → Bool → Result (Unit {0}) Reply → Type 0
+IsAdmitted bs d ok (Ok u) = asked bs d ok done ≡ done
+IsAdmitted bs d ok (Err reply) = (0 < reply.number) × IsReply (asked bs d ok done) reply
 
 -- the contract of a drawing call with the answer t, for a designer, a state, settings and a patch
 pub record ShareCalled (t : AnswerCode) (e : Designer) (s : State) (set : Settings) (p : Patch) (before after : Memory) (c' : List ℕ) (r : ℕ) : Type 0 where

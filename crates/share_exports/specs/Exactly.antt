@@ -1,5 +1,5 @@
 -- When a call on shared lists gives which answer. Assumes nothing.
-use Rattle.std.specs.Prelude.{ℕ, ◌+◌, ◌*◌, ◌≤◌, ◌<◌, ◌≡◌, Bool, true, false, List, ◌↔◌, Float, length}
+use Rattle.std.specs.Prelude.{ℕ, ◌+◌, ◌*◌, ◌≤◌, ◌<◌, ◌≡◌, Bool, true, false, List, ◌↔◌, Float, Result, Ok, Err, length}
 use Rattle.level.specs.Top.{Top}
 use Rattle.patch.specs.declared.kinds.Patch.{Patch}
 use Rattle.patch.specs.Subdivide.{discards}
@@ -12,8 +12,9 @@ use Rattle.answer_codes.specs.Reports.{AnsweredExactly}
 use Rattle.share_state.specs.declared.state.Quota.{Quota}
 use Rattle.share_state.specs.SharedList.{left}
 use Rattle.share_state.specs.Answers.{accepted}
-use Rattle.share_answers.specs.declared.answer.DrawAnswer.{DrawAnswer}
-use Rattle.share_answers.specs.declared.answer.DrawAnswer.TheVariants as drawing
+use Rattle.measure.specs.declared.size.DrawnCounts.{DrawnCounts}
+use Rattle.share_answers.specs.declared.answer.ShareRefusal.{ShareRefusal}
+use Rattle.share_answers.specs.declared.answer.ShareRefusal.TheVariants as drawing
 use Rattle.share_answers.specs.Answers.{draw_code, points_held}
 use Rattle.share_words.specs.Words.{state_in, quota_in, designer_of}
 use Rattle.share_words.specs.Memory.{Memory}
@@ -38,7 +39,7 @@ pub record ClearExactly (d v i : ℕ) (w : List ℕ) (r : ℕ) : Type 0 where
 pub data ShareAnswer : Type 0 where
   no_designer : ShareAnswer
   unknown : ℕ → ShareAnswer
-  found : DrawAnswer → ShareAnswer
+  found : Result DrawnCounts ShareRefusal → ShareAnswer
 
 abbrev pub share_code : ShareAnswer → AnswerCode
 share_code no_designer = unknown_designer
@@ -55,15 +56,15 @@ ShareDrawable bs d ok p = ShareKnown bs d ok × (discards p ≡ false)
 
 -- when each answer is right, in the order of finding, for m points and k indices and a part that holds n points and has v and i words left
 abbrev pub ShareMeans : List ℕ → ℕ → Bool → Patch → ℕ → ℕ → ℕ → ℕ → ℕ → ShareAnswer → Type 0
-ShareMeans bs d ok p n v i m k (found drawing.BadTop) = Top (top_in bs) → ⊥
-ShareMeans bs d ok p n v i m k (found drawing.BadState) = Top (top_in bs) × (ok ≡ false)
+ShareMeans bs d ok p n v i m k (found (Err drawing.BadTop)) = Top (top_in bs) → ⊥
+ShareMeans bs d ok p n v i m k (found (Err drawing.BadState)) = Top (top_in bs) × (ok ≡ false)
 ShareMeans bs d ok p n v i m k no_designer = Top (top_in bs) × (ok ≡ true) × (1 < d)
 ShareMeans bs d ok p n v i m k (unknown place) = Top (top_in bs) × (ok ≡ true) × (d ≤ 1) × FirstOver choices bs 0 place
-ShareMeans bs d ok p n v i m k (found drawing.Discarded) = ShareKnown bs d ok × (discards p ≡ true)
-ShareMeans bs d ok p n v i m k (found drawing.TooManyPoints) = ShareDrawable bs d ok p × (65535 < n + m)
-ShareMeans bs d ok p n v i m k (found drawing.NoRoomForVertices) = ShareDrawable bs d ok p × (n + m ≤ 65535) × (v < 3 * m)
-ShareMeans bs d ok p n v i m k (found drawing.NoRoomForIndices) = ShareDrawable bs d ok p × (n + m ≤ 65535) × (3 * m ≤ v) × (i < k)
-ShareMeans bs d ok p n v i m k (found (drawing.Drawn x y)) = ShareDrawable bs d ok p × (n + m ≤ 65535) × (3 * m ≤ v) × (k ≤ i) × (x ≡ m) × (y ≡ k)
+ShareMeans bs d ok p n v i m k (found (Err drawing.Discarded)) = ShareKnown bs d ok × (discards p ≡ true)
+ShareMeans bs d ok p n v i m k (found (Err drawing.TooManyPoints)) = ShareDrawable bs d ok p × (65535 < n + m)
+ShareMeans bs d ok p n v i m k (found (Err drawing.NoRoomForVertices)) = ShareDrawable bs d ok p × (n + m ≤ 65535) × (v < 3 * m)
+ShareMeans bs d ok p n v i m k (found (Err drawing.NoRoomForIndices)) = ShareDrawable bs d ok p × (n + m ≤ 65535) × (3 * m ≤ v) × (i < k)
+ShareMeans bs d ok p n v i m k (found (Ok counts)) = ShareDrawable bs d ok p × (n + m ≤ 65535) × (3 * m ≤ v) × (k ≤ i) × (counts.points ≡ m) × (counts.indices ≡ k)
 
 -- each answer is given, by number and words, exactly if it is right: `before` is the memory at entry, c' the counts at exit
 abbrev pub DrawExactly : List ℕ → List Float → ℕ → Memory → List ℕ → ℕ → Type 0

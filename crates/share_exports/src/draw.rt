@@ -1,37 +1,35 @@
 // Drawing into a designer's part.
 ghost use Rattle.std.specs.Prelude.{length};
-ghost use Rattle.call_answers.specs.Replies.{IsReply};
-ghost use Rattle.answer_codes.specs.AnswerCode.{done};
 ghost use Rattle.share_state.specs.Answers.{accepted};
 ghost use Rattle.share_answers.specs.Answers.{draw_verdict};
-ghost use Rattle.share_exports.specs.Calls.{asked, DrawCalled, ShareCalled};
+ghost use Rattle.share_exports.specs.Calls.{IsAdmitted, DrawCalled, ShareCalled};
 
 use call_answers::reply::{Reply, bad_top, refusal, say_two, unknown_setting};
 use patch::kinds::Patch;
 use patch::settings::Settings;
 use share_state::state::{Designer, State};
 use share_words::reply::of_draw;
-use share_words::words::{designer_of, keep, state_in};
+use share_words::words::{designer_of, state_in, words_of};
 
-// Returns the refusal of a call that its patch does not matter for, or the number 0.
-fn objection(state: State, designer: u32, settings: &[u8; 6], v: usize, i: usize) -> Reply
-    ensures { IsReply (asked settings.now designer (accepted v i state) done) result }
+// Refuses a call for a reason that its patch does not matter for.
+fn admit(state: State, designer: u32, settings: &[u8; 6], v: usize, i: usize) -> Result<(), Reply>
+    ensures { IsAdmitted settings.now designer (accepted v i state) result }
 {
     let top = call_inputs::input::top_in(settings);
     if !level::is_top(top) {
-        return bad_top();
+        return Err(bad_top());
     }
     if !share_state::shared_list::accepts(state, v, i) {
-        return refusal(14);
+        return Err(refusal(14));
     }
     if 1 < designer {
-        return refusal(15);
+        return Err(refusal(15));
     }
     let place = job_fields::setting::first_unknown(settings, 0);
     if place < 5 {
-        return unknown_setting(place);
+        return Err(unknown_setting(place));
     }
-    refusal(0)
+    Ok(())
 }
 
 // Draws for a known designer, with known settings.
@@ -51,10 +49,10 @@ fn draw_known(
 {
     let result = share_draw::draw::draw(state, designer, patch, settings, vertices, indices);
     let answer = result.answer;
-    let reply = of_draw(answer);
-    let next = result.state;
-    keep(words, reply.number == 0, next);
-    say_two(reply, counts)
+    if answer.is_ok() {
+        *words = words_of(result.state);
+    }
+    say_two(of_draw(answer), counts)
 }
 
 #[unsafe(no_mangle)]
@@ -72,9 +70,8 @@ pub extern "C" fn yoktvarim_share_draw(
         (record { words = state.new; vertices = vertices.new; indices = indices.new }) counts.new result }
 {
     let shared = state_in(state);
-    let why = objection(shared, designer, settings, vertices.len(), indices.len());
-    if 0 < why.number {
-        return say_two(why, counts);
+    if let Err(reply) = admit(shared, designer, settings, vertices.len(), indices.len()) {
+        return say_two(reply, counts);
     }
     let top = call_inputs::input::top_in(settings);
     draw_known(

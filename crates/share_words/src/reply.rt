@@ -3,18 +3,19 @@ ghost use Rattle.call_answers.specs.Replies.{IsReply};
 ghost use Rattle.share_answers.specs.Answers.{draw_code};
 
 use call_answers::reply::{Reply, bad_top, refusal, success};
-use share_answers::answer::DrawAnswer;
+use measure::size::DrawnCounts;
+use share_answers::answer::ShareRefusal;
 
-pub fn of_draw(answer: DrawAnswer) -> Reply
+pub fn of_draw(answer: Result<DrawnCounts, ShareRefusal>) -> Reply
     ensures { IsReply (draw_code answer) result }
 {
     match answer {
-        DrawAnswer::Drawn { points, indices } => success(points, indices),
-        DrawAnswer::Discarded => refusal(1),
-        DrawAnswer::NoRoomForVertices => refusal(3),
-        DrawAnswer::NoRoomForIndices => refusal(4),
-        DrawAnswer::BadTop => bad_top(),
-        DrawAnswer::TooManyPoints => refusal(13),
-        DrawAnswer::BadState => refusal(14),
+        Ok(counts) => success(counts.points, counts.indices),
+        Err(ShareRefusal::Discarded) => refusal(1),
+        Err(ShareRefusal::NoRoomForVertices) => refusal(3),
+        Err(ShareRefusal::NoRoomForIndices) => refusal(4),
+        Err(ShareRefusal::BadTop) => bad_top(),
+        Err(ShareRefusal::TooManyPoints) => refusal(13),
+        Err(ShareRefusal::BadState) => refusal(14),
     }
 }

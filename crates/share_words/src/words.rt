@@ -1,20 +1,8 @@
 // The state and the quotas as words in the caller's memory.
-ghost use Rattle.std.specs.Prelude.{◌≡◌, cond, ◌≤◌};
+ghost use Rattle.std.specs.Prelude.{◌≡◌, ◌≤◌};
 ghost use Rattle.share_words.specs.Words.{list_in, state_in, quota_in, state_words, designer_of};
 
 use share_state::state::{Designer, Quota, Share, SharedList, State};
-
-fn length_of(word: u64) -> usize
-    ensures { result ≡ word }
-{
-    word as usize
-}
-
-fn word_of(length: usize) -> u64
-    ensures { result ≡ length }
-{
-    length as u64
-}
 
 // Returns a shared list from its five words.
 fn list_in(words: &[u64; 10], at: usize) -> SharedList
@@ -22,14 +10,14 @@ fn list_in(words: &[u64; 10], at: usize) -> SharedList
     ensures { result ≡ list_in words.now at }
 {
     SharedList {
-        length: length_of(words[at]),
+        length: words[at] as usize,
         first: Share {
-            quota: length_of(words[at + 1]),
-            used: length_of(words[at + 2]),
+            quota: words[at + 1] as usize,
+            used: words[at + 2] as usize,
         },
         second: Share {
-            quota: length_of(words[at + 3]),
-            used: length_of(words[at + 4]),
+            quota: words[at + 3] as usize,
+            used: words[at + 4] as usize,
         },
     }
 }
@@ -49,26 +37,17 @@ pub fn words_of(state: State) -> [u64; 10]
     let vertices = state.vertices;
     let indices = state.indices;
     [
-        word_of(vertices.length),
-        word_of(vertices.first.quota),
-        word_of(vertices.first.used),
-        word_of(vertices.second.quota),
-        word_of(vertices.second.used),
-        word_of(indices.length),
-        word_of(indices.first.quota),
-        word_of(indices.first.used),
-        word_of(indices.second.quota),
-        word_of(indices.second.used),
+        vertices.length as u64,
+        vertices.first.quota as u64,
+        vertices.first.used as u64,
+        vertices.second.quota as u64,
+        vertices.second.used as u64,
+        indices.length as u64,
+        indices.first.quota as u64,
+        indices.first.used as u64,
+        indices.second.quota as u64,
+        indices.second.used as u64,
     ]
-}
-
-// Writes the state to the caller's memory if it is to be stored.
-pub fn keep(words: &mut [u64; 10], stored: bool, state: State)
-    ensures { words.new ≡ cond stored (state_words state) words.old }
-{
-    if stored {
-        *words = words_of(state);
-    }
 }
 
 // Returns one designer's quota.
@@ -77,16 +56,16 @@ pub fn quota_in(quotas: &[u64; 4], at: usize) -> Quota
     ensures { result ≡ quota_in quotas.now at }
 {
     Quota {
-        vertices: length_of(quotas[at]),
-        indices: length_of(quotas[at + 1]),
+        vertices: quotas[at] as usize,
+        indices: quotas[at + 1] as usize,
     }
 }
 
 pub fn designer_of(number: u32) -> Designer
     ensures { result ≡ designer_of number }
 {
-    if number == 0 {
-        return Designer::First;
+    match number {
+        0 => Designer::First,
+        _ => Designer::Second,
     }
-    Designer::Second
 }
