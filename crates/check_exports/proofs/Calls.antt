@@ -6,7 +6,7 @@ use lib.Ieee.{Float}
 use Rattle.patch.specs.declared.kinds.Patch.{Patch}
 use Rattle.patch.specs.declared.settings.Settings.{Settings}
 use Rattle.answer_codes.specs.AnswerCode.{AnswerCode}
-use Rattle.check_verdict.specs.declared.Verdict.{Verdict}
+use Rattle.check_verdict.specs.Faults.{Verdict}
 use Rattle.check_soundness.specs.Means.{CheckedExactly}
 use Rattle.check_soundness.specs.Numbers.{verdict_code}
 use Rattle.call_answers.specs.declared.reply.Reply.{Reply}

@@ -1,4 +1,5 @@
 -- A mesh that the call accepts covers its patch, and exactly one triangle holds each spot inside that lies on no side. Assumes nothing.
+use Rattle.std.specs.Prelude.{Ok, Err}
 use Prim.Native.Nat.{ℕ}
 use mathlib.Core.Path.{◌≡◌, refl, sym, ap, ◌∙◌}
 use mathlib.Core.Bool.{false}
@@ -7,8 +8,8 @@ use native.Mathlib.Omega.{arith}
 use lib.Ieee.{Float}
 use Rattle.patch.specs.Subdivide.{discards}
 use Rattle.answer_codes.specs.AnswerCode.{AnswerCode}
-use Rattle.check_verdict.specs.declared.Verdict.{Verdict}
-use Rattle.check_verdict.specs.declared.Verdict.TheVariants.{
+use Rattle.check_verdict.specs.Faults.{Verdict}
+use Rattle.check_verdict.specs.declared.fault.Fault.TheVariants.{
   BadTop,
   Isolines,
   Dots,
@@ -21,7 +22,6 @@ use Rattle.check_verdict.specs.declared.Verdict.TheVariants.{
   SideTwice,
   OpenSide,
   MissingPiece,
-  Accepted,
 }
 use Rattle.check_soundness.specs.Answers.{check_verdict}
 use Rattle.check_soundness.specs.Numbers.{verdict_code}
@@ -36,20 +36,20 @@ use Rattle.call_inputs.proofs.Known.{known_zero}
 use Rattle.check_exports.specs.Founds.{check_says}
 
 -- no fault has the number 0
-zero_accepted : (v : Verdict) → (verdict_code v).number ≡ 0 → v ≡ Accepted
-zero_accepted Accepted e = refl
-zero_accepted BadTop e = absurd (omega arith)
-zero_accepted Isolines e = absurd (omega arith)
-zero_accepted Dots e = absurd (omega arith)
-zero_accepted ShouldBeDiscarded e = absurd (omega arith)
-zero_accepted NotThrees e = absurd (omega arith)
-zero_accepted (UnknownIndex place) e = absurd (omega arith)
-zero_accepted (Outside point) e = absurd (omega arith)
-zero_accepted (EqualPoints first second) e = absurd (omega arith)
-zero_accepted (Turned triangle) e = absurd (omega arith)
-zero_accepted (SideTwice first second) e = absurd (omega arith)
-zero_accepted (OpenSide triangle corner) e = absurd (omega arith)
-zero_accepted (MissingPiece piece) e = absurd (omega arith)
+zero_accepted : (v : Verdict) → (verdict_code v).number ≡ 0 → v ≡ Ok tt
+zero_accepted (Ok x) e = refl
+zero_accepted (Err BadTop) e = absurd (omega arith)
+zero_accepted (Err Isolines) e = absurd (omega arith)
+zero_accepted (Err Dots) e = absurd (omega arith)
+zero_accepted (Err ShouldBeDiscarded) e = absurd (omega arith)
+zero_accepted (Err NotThrees) e = absurd (omega arith)
+zero_accepted (Err (UnknownIndex place)) e = absurd (omega arith)
+zero_accepted (Err (Outside point)) e = absurd (omega arith)
+zero_accepted (Err (EqualPoints first second)) e = absurd (omega arith)
+zero_accepted (Err (Turned triangle)) e = absurd (omega arith)
+zero_accepted (Err (SideTwice first second)) e = absurd (omega arith)
+zero_accepted (Err (OpenSide triangle corner)) e = absurd (omega arith)
+zero_accepted (Err (MissingPiece piece)) e = absurd (omega arith)
 
 pub called_covered : (bs : List ℕ) (xs : List Float) (pw iw : List ℕ) {c' : List ℕ} → Says two_words (check_says bs xs pw iw) c' 0
     → discards (patch_in bs xs) ≡ false → Covered (settings_in bs) (patch_in bs xs) pw iw

@@ -1,4 +1,5 @@
 -- A call that checks gives each number exactly if it is right. Assumes nothing.
+use Rattle.std.specs.Prelude.{Err}
 use Prim.Native.Nat.{ℕ}
 use mathlib.Core.Path.{◌≡◌, refl, ap}
 use mathlib.Core.Bool.{false}
@@ -11,8 +12,8 @@ use lib.Ieee.{Float}
 use Rattle.level.specs.Top.{Top}
 use Rattle.patch.specs.declared.kinds.Patch.{Patch}
 use Rattle.patch.specs.declared.settings.Settings.{Settings}
-use Rattle.check_verdict.specs.declared.Verdict.{Verdict}
-use Rattle.check_verdict.specs.declared.Verdict.TheVariants.{BadTop}
+use Rattle.check_verdict.specs.Faults.{Verdict}
+use Rattle.check_verdict.specs.declared.fault.Fault.TheVariants.{BadTop}
 use Rattle.check_soundness.specs.Means.{Accepts, Means}
 use Rattle.check_soundness.specs.Numbers.{verdict_code}
 use Rattle.check_soundness.proofs.Named.{verdict}
@@ -45,20 +46,20 @@ module _ (bs : List ℕ) (xs : List Float) (pw iw : List ℕ) where
   abbrev p : Patch
   p = patch_in bs xs
 
-  operation : Answers bs verdict_code (Means set p pw iw) (verdict set p pw iw) BadTop
-  operation = record { exactly = exactly set p pw iw; bad_number = refl; bad_top_lem = λ n. answers set p pw iw BadTop n }
+  operation : Answers bs verdict_code (Means set p pw iw) (verdict set p pw iw) (Err BadTop)
+  operation = record { exactly = exactly set p pw iw; bad_number = refl; bad_top_lem = λ n. answers set p pw iw (Err BadTop) n }
 
   module _ {c' : List ℕ} {r : ℕ} (says : Says two_words (check_says bs xs pw iw) c' r) where
     by_name : Says two_words (known bs bad_top unknown_setting (verdict_code (verdict set p pw iw))) c' r
     by_name = says_as (ap (known bs bad_top unknown_setting) (verdict_told set p pw iw)) says
 
-    at : (n : ℕ) → (call_code verdict_code (answer_in bs verdict_code (Means set p pw iw) (verdict set p pw iw) BadTop operation two_words verdict_in verdict_readable n c')).number ≡ n
-        → (r ≡ n) ↔ CallMeans bs (Means set p pw iw) (answer_in bs verdict_code (Means set p pw iw) (verdict set p pw iw) BadTop operation two_words verdict_in verdict_readable n c')
-    at = number_called bs verdict_code (Means set p pw iw) (verdict set p pw iw) BadTop operation two_words verdict_in verdict_readable by_name
+    at : (n : ℕ) → (call_code verdict_code (answer_in bs verdict_code (Means set p pw iw) (verdict set p pw iw) (Err BadTop) operation two_words verdict_in verdict_readable n c')).number ≡ n
+        → (r ≡ n) ↔ CallMeans bs (Means set p pw iw) (answer_in bs verdict_code (Means set p pw iw) (verdict set p pw iw) (Err BadTop) operation two_words verdict_in verdict_readable n c')
+    at = number_called bs verdict_code (Means set p pw iw) (verdict set p pw iw) (Err BadTop) operation two_words verdict_in verdict_readable by_name
 
     pub check_call_exactly : CheckExactly bs xs pw iw c' r
     check_call_exactly = record {
-      answers = called_exactly bs verdict_code (Means set p pw iw) (verdict set p pw iw) BadTop operation two_words verdict_in verdict_readable by_name;
+      answers = called_exactly bs verdict_code (Means set p pw iw) (verdict set p pw iw) (Err BadTop) operation two_words verdict_in verdict_readable by_name;
       accepted = (
         λ h. let m = (at 0 refl).0 h in (m.0 (accepts_top set p pw iw m.1), m.1),
         λ m. (at 0 refl).1 ((λ h. m.0), m.1),

@@ -6,7 +6,7 @@ ghost use Rattle.check_verdict.specs.Faults.{mesh_fault};
 ghost use Rattle.check_soundness.specs.Checks.{is_isolines, is_triangles, is_empty};
 ghost use Rattle.check_soundness.specs.Means.{CheckedExactly};
 
-use check_verdict::Verdict;
+use check_verdict::fault::Fault;
 use level::Spacing;
 use patch::kinds::Patch;
 use patch::settings::Settings;
@@ -15,59 +15,21 @@ use patch::settings::Settings;
 fn is_isolines(patch: Patch) -> bool
     ensures { result ≡ is_isolines patch }
 {
-    match patch {
-        Patch::Triangles {
-            outer0: _,
-            outer1: _,
-            outer2: _,
-            inner0: _,
-        } => false,
-        Patch::Quads {
-            outer0: _,
-            outer1: _,
-            outer2: _,
-            outer3: _,
-            inner0: _,
-            inner1: _,
-        } => false,
-        Patch::Isolines {
-            outer0: _,
-            outer1: _,
-        } => true,
-    }
+    matches!(patch, Patch::Isolines { .. })
 }
 
 // Whether a patch is a triangle patch.
 fn is_triangles(patch: Patch) -> bool
     ensures { result ≡ is_triangles patch }
 {
-    match patch {
-        Patch::Triangles {
-            outer0: _,
-            outer1: _,
-            outer2: _,
-            inner0: _,
-        } => true,
-        Patch::Quads {
-            outer0: _,
-            outer1: _,
-            outer2: _,
-            outer3: _,
-            inner0: _,
-            inner1: _,
-        } => false,
-        Patch::Isolines {
-            outer0: _,
-            outer1: _,
-        } => false,
-    }
+    matches!(patch, Patch::Triangles { .. })
 }
 
 // Whether the lists of points and indices are both empty.
 fn is_empty(points: &[u32], indices: &[u16]) -> bool
     ensures { result ≡ is_empty points.now indices.now }
 {
-    (points.len() == 0) & (indices.len() == 0)
+    points.is_empty() & indices.is_empty()
 }
 
 // Returns the first fault of a mesh for a patch that is not discarded.
@@ -78,7 +40,7 @@ fn patch_fault(
     positive: bool,
     points: &[u32],
     indices: &[u16],
-) -> Verdict
+) -> Result<(), Fault>
     requires { Top top }
     ensures { result ≡ mesh_fault (is_triangles patch) positive (outline spacing top patch) points.now indices.now }
 {
@@ -88,7 +50,12 @@ fn patch_fault(
 }
 
 // Checks a mesh; the points are three words each and the triangles three indices each, as drawing writes them.
-pub fn check_mesh(patch: Patch, settings: Settings, points: &[u32], indices: &[u16]) -> Verdict
+pub fn check_mesh(
+    patch: Patch,
+    settings: Settings,
+    points: &[u32],
+    indices: &[u16],
+) -> Result<(), Fault>
     ensures { CheckedExactly settings patch points.now indices.now result }
 {
     let spacing = settings.spacing;
@@ -96,20 +63,20 @@ pub fn check_mesh(patch: Patch, settings: Settings, points: &[u32], indices: &[u
     let order = settings.order;
     let origin = settings.origin;
     if !level::is_top(top) {
-        return Verdict::BadTop;
+        return Err(Fault::BadTop);
     }
     if is_isolines(patch) {
-        return Verdict::Isolines;
+        return Err(Fault::Isolines);
     }
     if settings.point_mode {
-        return Verdict::Dots;
+        return Err(Fault::Dots);
     }
     let cut = patch::subdivision::subdivide(patch, spacing, top);
     if patch::subdivision::is_discarded(cut) {
         if is_empty(points, indices) {
-            return Verdict::Accepted;
+            return Ok(());
         }
-        return Verdict::ShouldBeDiscarded;
+        return Err(Fault::ShouldBeDiscarded);
     }
     let positive = patch::settings::turns_positive(order, origin);
     patch_fault(patch, spacing, top, positive, points, indices)

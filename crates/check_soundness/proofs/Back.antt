@@ -1,4 +1,6 @@
 -- If a fault occurs, and no fault of an earlier kind, it is the answer. Assumes nothing.
+use Rattle.check_verdict.specs.declared.fault.Fault.{Fault}
+use Rattle.std.specs.Prelude.{Ok, Err}
 use Prim.Native.Nat.{ℕ, ◌+◌, ◌*◌, ◌/◌, ◌%◌, ◌<◌}
 use mathlib.Core.Path.{◌≡◌, refl, ap, ◌∙◌}
 use mathlib.Core.Bool.{Bool, true, false, cond, ◌&&◌}
@@ -16,8 +18,8 @@ use Rattle.mesh_geometry.specs.Words.{read_points, read_triangles}
 use Rattle.check_searches.specs.Indices.{first_unknown_index}
 use Rattle.check_searches.specs.Points.{same_point, first_repeated}
 use Rattle.check_searches.specs.Triangles.{triangle_at, share_side, first_reused}
-use Rattle.check_verdict.specs.declared.Verdict.{Verdict}
-use Rattle.check_verdict.specs.declared.Verdict.TheVariants as said
+use Rattle.check_verdict.specs.Faults.{Verdict}
+use Rattle.check_verdict.specs.declared.fault.Fault.TheVariants as said
 use Rattle.check_faults.specs.Inside.{first_outside}
 use Rattle.check_faults.specs.Turns.{first_turned}
 use Rattle.check_faults.specs.Outline.{first_open, first_missing}
@@ -52,11 +54,11 @@ use Rattle.check_soundness.proofs.SideTests.{turn_decides, share_decides, closed
 use Rattle.check_soundness.proofs.Stages.{distinct_of, numbers_of, sound_passed}
 
 -- a search that found nothing, and one that found a fault
-pass : (fault rest : Verdict) (x n : ℕ) → x ≡ n → or_else x n fault rest ≡ rest
+pass : (fault : Fault) (rest : Verdict) (x n : ℕ) → x ≡ n → or_else x n fault rest ≡ rest
 pass fault rest x n e = rw (le-ltb x n (omega arith))
 
-hit : (rest : Verdict) (f : ℕ → Verdict) {k : ℕ} (x n : ℕ) → x ≡ k → k < n → or_else x n (f x) rest ≡ f k
-hit rest f x n e l = rw (lt-ltb x n (omega arith)) (ap f e)
+hit : (rest : Verdict) (f : ℕ → Fault) {k : ℕ} (x n : ℕ) → x ≡ k → k < n → or_else x n (f x) rest ≡ Err (f k)
+hit rest f x n e l = rw (lt-ltb x n (omega arith)) (ap (λ k. Err (f k)) e)
 
 module _ (set : Settings) (p : Patch) (pw iw : List ℕ) where
   abbrev ps : List Point
@@ -97,49 +99,49 @@ module _ (set : Settings) (p : Patch) (pw iw : List ℕ) where
       ∙ pass _ _ _ _ (none_pair (λ i j. share_side (triangle_at ts i) (triangle_at ts j)) (share_decides set p ps iw (distinct_of ps c.0.0.1) (numbers_of ps iw c.0.0.0.0.1)) c.1)
 
   to_missing : PassedClosed set p pw iw → mesh ≡ or_else (first_missing (judged_for set p pw iw)) (length (outline_of set p))
-      (said.MissingPiece (first_missing (judged_for set p pw iw))) said.Accepted
+      (said.MissingPiece (first_missing (judged_for set p pw iw))) (Ok tt)
   unfolding outline_fault first_open
   to_missing c =
       to_outline c.0
       ∙ pass _ _ _ _ (all_none (closed_decides set p ps iw (distinct_of ps c.0.0.0.1) (numbers_of ps iw c.0.0.0.0.0.1)) c.1)
 
   -- the answer for each fault
-  pub not_threes : (Threes pw iw → ⊥) → mesh ≡ said.NotThrees
+  pub not_threes : (Threes pw iw → ⊥) → mesh ≡ Err said.NotThrees
   unfolding mesh_fault
   not_threes h = go _ (eqb (length pw % 3) 0) (eqb (length iw % 3) 0) refl refl
     where
-      go : (v : Verdict) (x y : Bool) → eqb (length pw % 3) 0 ≡ x → eqb (length iw % 3) 0 ≡ y → cond (x && y) v said.NotThrees ≡ said.NotThrees
+      go : (v : Verdict) (x y : Bool) → eqb (length pw % 3) 0 ≡ x → eqb (length iw % 3) 0 ≡ y → cond (x && y) v (Err said.NotThrees) ≡ Err said.NotThrees
       go v true true e f = absurd (h (eqb-true (length pw % 3) 0 e, eqb-true (length iw % 3) 0 f))
       go v true false e f = refl
       go v false y e f = refl
 
-  pub unknown_index : (k : ℕ) → PassedThrees set p pw iw → FirstNot (NumberedAt ps iw) (length iw) k → mesh ≡ said.UnknownIndex k
+  pub unknown_index : (k : ℕ) → PassedThrees set p pw iw → FirstNot (NumberedAt ps iw) (length iw) k → mesh ≡ Err (said.UnknownIndex k)
   unfolding first_unknown_index
   unknown_index k c f = to_index c ∙ hit _ said.UnknownIndex _ _ (first_is (numbered_decides ps iw) k f) f.below
 
-  pub outside : (k : ℕ) → PassedNumbered set p pw iw → FirstNot (InsideAt p ps) (length ps) k → mesh ≡ said.Outside k
+  pub outside : (k : ℕ) → PassedNumbered set p pw iw → FirstNot (InsideAt p ps) (length ps) k → mesh ≡ Err (said.Outside k)
   unfolding point_fault first_outside
   outside k c f = to_points c ∙ hit _ said.Outside _ _ (first_is (inside_decides p ps) k f) f.below
 
-  pub equal_points_lem : (i j : ℕ) → PassedInside set p pw iw → FirstPair (EqualAt ps) (length ps) i j → mesh ≡ said.EqualPoints i j
+  pub equal_points_lem : (i j : ℕ) → PassedInside set p pw iw → FirstPair (EqualAt ps) (length ps) i j → mesh ≡ Err (said.EqualPoints i j)
   unfolding first_repeated
   equal_points_lem i j c f =
       let t : ℕ → ℕ → Bool = λ x y. same_point (at ps x) (at ps y) in
       to_equal c ∙ hit _ (equal_points ps) _ _ (later_is t (equal_decides ps) f) f.below
-      ∙ ap (λ x. said.EqualPoints x j) (earlier_is t (equal_decides ps) f)
+      ∙ ap (λ x. Err (said.EqualPoints x j)) (earlier_is t (equal_decides ps) f)
 
-  pub turned : (k : ℕ) → PassedDistinct set p pw iw → FirstNot (TurnsAt set ps iw) (length ts) k → mesh ≡ said.Turned k
+  pub turned : (k : ℕ) → PassedDistinct set p pw iw → FirstNot (TurnsAt set ps iw) (length ts) k → mesh ≡ Err (said.Turned k)
   unfolding side_fault first_turned
   turned k c f = to_sides c ∙ hit _ said.Turned _ _ (first_is (turn_decides set p ps iw) k f) f.below
 
-  pub side_twice_lem : (i j : ℕ) → PassedTurned set p pw iw → FirstPair (SharedAt ps iw) (length ts) i j → mesh ≡ said.SideTwice i j
+  pub side_twice_lem : (i j : ℕ) → PassedTurned set p pw iw → FirstPair (SharedAt ps iw) (length ts) i j → mesh ≡ Err (said.SideTwice i j)
   unfolding first_reused
   side_twice_lem i j c f =
       let t : ℕ → ℕ → Bool = λ x y. share_side (triangle_at ts x) (triangle_at ts y) in
       let h = share_decides set p ps iw (distinct_of ps c.0.1) (numbers_of ps iw c.0.0.0.1) in
-      to_reused c ∙ hit _ (side_twice ts) _ _ (later_is t h f) f.below ∙ ap (λ x. said.SideTwice x j) (earlier_is t h f)
+      to_reused c ∙ hit _ (side_twice ts) _ _ (later_is t h f) f.below ∙ ap (λ x. Err (said.SideTwice x j)) (earlier_is t h f)
 
-  pub open_side_lem : (k e : ℕ) → PassedSingle set p pw iw → e < 3 → FirstNot (ClosedAt set p ps iw) (length ts * 3) (k * 3 + e) → mesh ≡ said.OpenSide k e
+  pub open_side_lem : (k e : ℕ) → PassedSingle set p pw iw → e < 3 → FirstNot (ClosedAt set p ps iw) (length ts * 3) (k * 3 + e) → mesh ≡ Err (said.OpenSide k e)
   unfolding outline_fault first_open
   open_side_lem k e c l f =
       let h = closed_decides set p ps iw (distinct_of ps c.0.0.1) (numbers_of ps iw c.0.0.0.0.1) in
@@ -147,11 +149,11 @@ module _ (set : Settings) (p : Patch) (pw iw : List ℕ) where
       let b : (k * 3 + e) % 3 ≡ e = omega arith in
       to_outline c ∙ hit _ open_side _ _ (first_is h (k * 3 + e) f) f.below ∙ rw (a, b)
 
-  pub missing_piece : (k : ℕ) → PassedClosed set p pw iw → FirstNot (DrawnAt set p ps iw) (length (outline_of set p)) k → mesh ≡ said.MissingPiece k
+  pub missing_piece : (k : ℕ) → PassedClosed set p pw iw → FirstNot (DrawnAt set p ps iw) (length (outline_of set p)) k → mesh ≡ Err (said.MissingPiece k)
   unfolding first_missing
   missing_piece k c f = to_missing c ∙ hit _ said.MissingPiece _ _ (first_is (drawn_decides set p ps iw) k f) f.below
 
-  pub accepted : Kept set p → SoundWords set p pw iw → mesh ≡ said.Accepted
+  pub accepted : Kept set p → SoundWords set p pw iw → mesh ≡ Ok tt
   unfolding first_missing
   accepted k s =
       let w = sound_passed set p pw iw k s in

@@ -1,4 +1,6 @@
 -- The answer of each stage is right. Assumes nothing.
+use Rattle.check_verdict.specs.declared.fault.Fault.{Fault}
+use Rattle.std.specs.Prelude.{Ok, Err}
 use Prim.Native.Nat.{ℕ, ◌+◌, ◌*◌, ◌/◌, ◌%◌, ◌≤◌, ◌<◌}
 use mathlib.Core.Path.{◌≡◌, refl}
 use mathlib.Core.Bool.{Bool, true, false, cond, ◌&&◌}
@@ -17,8 +19,8 @@ use Rattle.mesh_geometry.specs.Words.{read_points, read_triangles}
 use Rattle.check_searches.specs.Indices.{first_unknown_index}
 use Rattle.check_searches.specs.Points.{same_point, first_repeated}
 use Rattle.check_searches.specs.Triangles.{triangle_at, share_side, first_reused}
-use Rattle.check_verdict.specs.declared.Verdict.{Verdict}
-use Rattle.check_verdict.specs.declared.Verdict.TheVariants as said
+use Rattle.check_verdict.specs.Faults.{Verdict}
+use Rattle.check_verdict.specs.declared.fault.Fault.TheVariants as said
 use Rattle.check_faults.specs.Inside.{first_outside}
 use Rattle.check_faults.specs.Turns.{first_turned}
 use Rattle.check_faults.specs.Outline.{first_open, first_missing}
@@ -34,10 +36,10 @@ use Rattle.check_soundness.proofs.SideTests.{turn_decides, share_decides, closed
 use Rattle.check_soundness.proofs.Stages.{distinct_of, numbers_of, passed_sound}
 
 -- the fault if it is found, else the rest
-stage : (P : Verdict → Type 0) (x n : ℕ) (fault rest : Verdict) → (x < n → P fault) → (n ≤ x → P rest) → P (or_else x n fault rest)
+stage : (P : Verdict → Type 0) (x n : ℕ) (fault : Fault) (rest : Verdict) → (x < n → P (Err fault)) → (n ≤ x → P rest) → P (or_else x n fault rest)
 stage P x n fault rest f g = go (ltb x n) refl
   where
-    go : (b : Bool) → ltb x n ≡ b → P (cond b fault rest)
+    go : (b : Bool) → ltb x n ≡ b → P (cond b (Err fault) rest)
     go true e = f (ltb-true x n e)
     go false e = g (ltb-false x n e)
 
@@ -61,7 +63,7 @@ module _ (set : Settings) (p : Patch) (pw iw : List ℕ) where
       (λ l. let e : m / 3 * 3 + m % 3 ≡ m = omega arith in (s, omega arith, rw e (decides_first h l)))
       (λ l. let c : PassedClosed set p pw iw = (s, decides_all h l) in
       stage M (first_missing (judged_for set p pw iw)) (length (outline_of set p))
-      (said.MissingPiece (first_missing (judged_for set p pw iw))) said.Accepted (λ k. (c, decides_first g k))
+      (said.MissingPiece (first_missing (judged_for set p pw iw))) (Ok tt) (λ k. (c, decides_first g k))
       (λ k. inr (s.0.0.0.0.0.0, passed_sound set p pw iw c (decides_all g k))))
 
   side_means : PassedDistinct set p pw iw → M (side_fault (judged_for set p pw iw))
@@ -90,7 +92,7 @@ module _ (set : Settings) (p : Patch) (pw iw : List ℕ) where
     where
       go : (x y : Bool) → eqb (length pw % 3) 0 ≡ x → eqb (length iw % 3) 0 ≡ y
           → M (cond (x && y) (or_else (first_unknown_index iw (length ps)) (length iw) (said.UnknownIndex (first_unknown_index iw (length ps)))
-          (point_fault (is_triangles p) (judged_for set p pw iw))) said.NotThrees)
+          (point_fault (is_triangles p) (judged_for set p pw iw))) (Err said.NotThrees))
       go true true e f =
           let t : PassedThrees set p pw iw = (d, (eqb-true (length pw % 3) 0 e, eqb-true (length iw % 3) 0 f)) in
           let h = numbered_decides ps iw in

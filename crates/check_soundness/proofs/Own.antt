@@ -1,5 +1,6 @@
 -- What the two drawing operations give for a patch is accepted: for every triangle and quad patch, and all settings with a good
 -- top level. Assumes nothing.
+use Rattle.std.specs.Prelude.{Ok}
 use Prim.Native.Nat.{ℕ, ◌+◌, ◌*◌}
 use mathlib.Core.Path.{◌≡◌, refl, sym, ap, ◌∙◌}
 use mathlib.Core.Bool.{Bool, true, false, cond}
@@ -22,8 +23,7 @@ use Rattle.tessellate.specs.Draws.{DrewPoints, DrewIndices}
 use Rattle.level.proofs.Top.{top_as}
 use Rattle.tessellate.proofs.Together.{points_drawn, point_words_drawn, indices_drawn}
 use Rattle.check_soundness.proofs.Patches.{drawn_words_sound}
-use Rattle.check_verdict.specs.declared.Verdict.{Verdict}
-use Rattle.check_verdict.specs.declared.Verdict.TheVariants.{Accepted}
+use Rattle.check_verdict.specs.Faults.{Verdict}
 use Rattle.check_soundness.specs.Means.{CheckedExactly}
 use Rattle.check_soundness.proofs.Numbers.{is_verdict}
 use Rattle.check_soundness.proofs.Verdicts.{answers}
@@ -47,15 +47,15 @@ discarded_means set p short need have count e = go (is_top set.top) (discards p)
 module _ (set : Settings) (p : Patch) (surface : Surface p) (filled : set.point_mode ≡ false) (a : Verdict) where
   -- the drawn points and indices, read from the two lists by the counts
   pub drawn_accepted : (r : PointsAnswer) (s : IndicesAnswer) {v v' i i' : List ℕ} {P I : ℕ} → DrewPoints set p v v' r → DrewIndices set p i i' s
-      → points_code r ≡ drew P → indices_code s ≡ drew I → CheckedExactly set p (take (3 * P) v') (take I i') a → a ≡ Accepted
+      → points_code r ≡ drew P → indices_code s ≡ drew I → CheckedExactly set p (take (3 * P) v') (take I i') a → a ≡ Ok tt
   drawn_accepted r s d d' e e' c =
       let w = points_drawn set p r d e in
       is_verdict set p _ _ c.answer
       ∙ rw (point_words_drawn set p r d e, (indices_drawn set p s d' e').2)
-      (answers set p _ _ Accepted (inr (record { asked = record { top = w.0; surface = surface; filled = filled }; kept = w.1 }, drawn_words_sound set w.0 p surface w.1 filled)))
+      (answers set p _ _ (Ok tt) (inr (record { asked = record { top = w.0; surface = surface; filled = filled }; kept = w.1 }, drawn_words_sound set w.0 p surface w.1 filled)))
 
   -- nothing is drawn for a discarded patch, and two empty lists are accepted
-  pub discarded_accepted : (r : PointsAnswer) {v v' : List ℕ} → DrewPoints set p v v' r → points_code r ≡ refused 1 → CheckedExactly set p [] [] a → a ≡ Accepted
+  pub discarded_accepted : (r : PointsAnswer) {v v' : List ℕ} → DrewPoints set p v v' r → points_code r ≡ refused 1 → CheckedExactly set p [] [] a → a ≡ Ok tt
   discarded_accepted r {v} d e c =
       let w = discarded_means set p 1 (3 * points_of set p) (length v) (points_of set p) (sym e ∙ d.answer) in
-      is_verdict set p [] [] c.answer ∙ answers set p [] [] Accepted (inl (record { top = w.0; surface = surface; filled = filled }, w.1, (refl, refl)))
+      is_verdict set p [] [] c.answer ∙ answers set p [] [] (Ok tt) (inl (record { top = w.0; surface = surface; filled = filled }, w.1, (refl, refl)))

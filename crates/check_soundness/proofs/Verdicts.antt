@@ -1,4 +1,5 @@
 -- Each answer is given exactly if it is right. Assumes nothing.
+use Rattle.std.specs.Prelude.{Ok, Err}
 use Prim.Native.Nat.{ℕ}
 use mathlib.Core.Path.{◌≡◌, refl, ap, sym, subst, ◌∙◌}
 use mathlib.Core.Bool.{Bool, true, false, cond, true≢false}
@@ -13,8 +14,8 @@ use Rattle.patch.specs.declared.kinds.Patch.TheVariants.{Triangles, Quads, Isoli
 use Rattle.patch.specs.declared.settings.Settings.{Settings}
 use Rattle.patch.specs.Subdivide.{discards}
 use Rattle.patch_mesh.specs.Demand.{Surface}
-use Rattle.check_verdict.specs.declared.Verdict.{Verdict}
-use Rattle.check_verdict.specs.declared.Verdict.TheVariants as said
+use Rattle.check_verdict.specs.Faults.{Verdict}
+use Rattle.check_verdict.specs.declared.fault.Fault.TheVariants as said
 use Rattle.check_soundness.specs.Checks.{is_isolines, is_empty}
 use Rattle.check_soundness.proofs.Named.{patch_fault, verdict}
 use Rattle.check_soundness.specs.Means.{TrianglesAsked, Kept, Empty, Means, CheckedExactly}
@@ -64,58 +65,58 @@ module _ (set : Settings) (p : Patch) (pw iw : List ℕ) where
   unfolding verdict patch_fault
   means = top (is_top set.top) refl
     where
-      discarded : TrianglesAsked set p → discards p ≡ true → (b : Bool) → is_empty pw iw ≡ b → Means set p pw iw (cond b said.Accepted said.ShouldBeDiscarded)
+      discarded : TrianglesAsked set p → discards p ≡ true → (b : Bool) → is_empty pw iw ≡ b → Means set p pw iw (cond b (Ok tt) (Err said.ShouldBeDiscarded))
       discarded a d true e = inl (a, d, empty_is pw iw e)
       discarded a d false e = (a, d, λ h. true≢false (sym (is_empty_lem pw iw h) ∙ e))
 
       kept : TrianglesAsked set p → (b : Bool) → discards p ≡ b
-          → Means set p pw iw (cond b (cond (is_empty pw iw) said.Accepted said.ShouldBeDiscarded) (patch_fault set p pw iw))
+          → Means set p pw iw (cond b (cond (is_empty pw iw) (Ok tt) (Err said.ShouldBeDiscarded)) (patch_fault set p pw iw))
       kept a true e = discarded a e (is_empty pw iw) refl
       kept a false e = mesh_means set p pw iw (record { asked = a; kept = e })
 
       dots : Top set.top → Surface p → (b : Bool) → set.point_mode ≡ b
-          → Means set p pw iw (cond b said.Dots (cond (discards p) (cond (is_empty pw iw) said.Accepted said.ShouldBeDiscarded) (patch_fault set p pw iw)))
+          → Means set p pw iw (cond b (Err said.Dots) (cond (discards p) (cond (is_empty pw iw) (Ok tt) (Err said.ShouldBeDiscarded)) (patch_fault set p pw iw)))
       dots t s true e = (t, s, e)
       dots t s false e = kept (record { top = t; surface = s; filled = e }) (discards p) refl
 
       lines : Top set.top → (b : Bool) → is_isolines p ≡ b
-          → Means set p pw iw (cond b said.Isolines (cond set.point_mode said.Dots (cond (discards p) (cond (is_empty pw iw) said.Accepted said.ShouldBeDiscarded) (patch_fault set p pw iw))))
+          → Means set p pw iw (cond b (Err said.Isolines) (cond set.point_mode (Err said.Dots) (cond (discards p) (cond (is_empty pw iw) (Ok tt) (Err said.ShouldBeDiscarded)) (patch_fault set p pw iw))))
       lines t true e = (t, no_surface p e)
       lines t false e = dots t (surface_is p e) set.point_mode refl
 
       top : (b : Bool) → is_top set.top ≡ b
-          → Means set p pw iw (cond b (cond (is_isolines p) said.Isolines (cond set.point_mode said.Dots
-          (cond (discards p) (cond (is_empty pw iw) said.Accepted said.ShouldBeDiscarded) (patch_fault set p pw iw)))) said.BadTop)
+          → Means set p pw iw (cond b (cond (is_isolines p) (Err said.Isolines) (cond set.point_mode (Err said.Dots)
+          (cond (discards p) (cond (is_empty pw iw) (Ok tt) (Err said.ShouldBeDiscarded)) (patch_fault set p pw iw)))) (Err said.BadTop))
       top true e = lines (top_as set.top e) (is_isolines p) refl
       top false e = no_top set.top e
 
   -- triangles can be asked for: the answer by the patch and the mesh
-  to_patch : TrianglesAsked set p → verdict set p pw iw ≡ cond (discards p) (cond (is_empty pw iw) said.Accepted said.ShouldBeDiscarded) (patch_fault set p pw iw)
+  to_patch : TrianglesAsked set p → verdict set p pw iw ≡ cond (discards p) (cond (is_empty pw iw) (Ok tt) (Err said.ShouldBeDiscarded)) (patch_fault set p pw iw)
   unfolding verdict
   to_patch a = rw (is_top_lem set.top a.top, is_surface p a.surface, a.filled)
 
   to_mesh : {v : Verdict} → Kept set p → patch_fault set p pw iw ≡ v → verdict set p pw iw ≡ v
   to_mesh k e = to_patch k.asked ∙ rw k.kept e
 
-  empty_accepted : TrianglesAsked set p → discards p ≡ true → Empty pw iw → verdict set p pw iw ≡ said.Accepted
+  empty_accepted : TrianglesAsked set p → discards p ≡ true → Empty pw iw → verdict set p pw iw ≡ (Ok tt)
   empty_accepted a d e = to_patch a ∙ rw (d, is_empty_lem pw iw e)
 
   -- if an answer is right, it is given
   pub answers : (v : Verdict) → Means set p pw iw v → verdict set p pw iw ≡ v
   unfolding verdict patch_fault
-  answers said.BadTop h = rw (top_no set.top h)
-  answers said.Isolines h = rw (is_top_lem set.top h.0, surface_no p h.1)
-  answers said.Dots h = rw (is_top_lem set.top h.0, is_surface p h.1, h.2)
-  answers said.ShouldBeDiscarded h = to_patch h.0 ∙ rw (h.1, not_empty pw iw h.2)
-  answers said.NotThrees h = to_mesh h.0 (not_threes set p pw iw h.1)
-  answers (said.UnknownIndex k) h = to_mesh h.0.0 (unknown_index set p pw iw k h.0 h.1)
-  answers (said.Outside k) h = to_mesh h.0.0.0 (outside set p pw iw k h.0 h.1)
-  answers (said.EqualPoints i j) h = to_mesh h.0.0.0.0 (equal_points_lem set p pw iw i j h.0 h.1)
-  answers (said.Turned k) h = to_mesh h.0.0.0.0.0 (turned set p pw iw k h.0 h.1)
-  answers (said.SideTwice i j) h = to_mesh h.0.0.0.0.0.0 (side_twice_lem set p pw iw i j h.0 h.1)
-  answers (said.OpenSide k e) h = to_mesh h.0.0.0.0.0.0.0 (open_side_lem set p pw iw k e h.0 h.1 h.2)
-  answers (said.MissingPiece k) h = to_mesh h.0.0.0.0.0.0.0.0 (missing_piece set p pw iw k h.0 h.1)
-  answers said.Accepted h = ⊎_elim (λ w. empty_accepted w.0 w.1 w.2) (λ w. to_mesh w.0 (accepted set p pw iw w.0 w.1)) h
+  answers (Err said.BadTop) h = rw (top_no set.top h)
+  answers (Err said.Isolines) h = rw (is_top_lem set.top h.0, surface_no p h.1)
+  answers (Err said.Dots) h = rw (is_top_lem set.top h.0, is_surface p h.1, h.2)
+  answers (Err said.ShouldBeDiscarded) h = to_patch h.0 ∙ rw (h.1, not_empty pw iw h.2)
+  answers (Err said.NotThrees) h = to_mesh h.0 (not_threes set p pw iw h.1)
+  answers (Err (said.UnknownIndex k)) h = to_mesh h.0.0 (unknown_index set p pw iw k h.0 h.1)
+  answers (Err (said.Outside k)) h = to_mesh h.0.0.0 (outside set p pw iw k h.0 h.1)
+  answers (Err (said.EqualPoints i j)) h = to_mesh h.0.0.0.0 (equal_points_lem set p pw iw i j h.0 h.1)
+  answers (Err (said.Turned k)) h = to_mesh h.0.0.0.0.0 (turned set p pw iw k h.0 h.1)
+  answers (Err (said.SideTwice i j)) h = to_mesh h.0.0.0.0.0.0 (side_twice_lem set p pw iw i j h.0 h.1)
+  answers (Err (said.OpenSide k e)) h = to_mesh h.0.0.0.0.0.0.0 (open_side_lem set p pw iw k e h.0 h.1 h.2)
+  answers (Err (said.MissingPiece k)) h = to_mesh h.0.0.0.0.0.0.0.0 (missing_piece set p pw iw k h.0 h.1)
+  answers (Ok x) h = ⊎_elim (λ w. empty_accepted w.0 w.1 w.2) (λ w. to_mesh w.0 (accepted set p pw iw w.0 w.1)) h
 
   pub exactly : (v : Verdict) → verdict set p pw iw ≡ v ↔ Means set p pw iw v
   exactly v = (λ h. subst (λ (x : Verdict). Means set p pw iw x) h means, answers v)

@@ -1,5 +1,5 @@
 -- When each answer is right. Assumes nothing.
-use Rattle.std.specs.Prelude.{ℕ, ◌+◌, ◌*◌, ◌%◌, ◌<◌, ◌≡◌, true, false, ◌⊎◌, ◌↔◌, List, length, get_or}
+use Rattle.std.specs.Prelude.{ℕ, ◌+◌, ◌*◌, ◌%◌, ◌<◌, ◌≡◌, true, false, Ok, Err, ◌⊎◌, ◌↔◌, List, length, get_or}
 use Rattle.level.specs.Top.{Top}
 use Rattle.patch.specs.declared.kinds.Patch.{Patch}
 use Rattle.patch.specs.declared.settings.Settings.{Settings}
@@ -13,8 +13,8 @@ use Rattle.mesh_geometry.specs.Faces.{faces_in}
 use Rattle.mesh_geometry.specs.Held.{face}
 use Rattle.patch_mesh.specs.InPatch.{InPatch, domain_of}
 use Rattle.check_soundness.specs.Sound.{sides_in, SoundWords}
-use Rattle.check_verdict.specs.declared.Verdict.{Verdict}
-use Rattle.check_verdict.specs.declared.Verdict.TheVariants as said
+use Rattle.check_verdict.specs.Faults.{Verdict}
+use Rattle.check_verdict.specs.declared.fault.Fault.TheVariants as said
 use Rattle.check_soundness.specs.Answers.{check_verdict}
 use Rattle.check_soundness.specs.Firsts.{Every, FirstNot, NoPair, FirstPair}
 use Rattle.check_soundness.specs.Numbers.{verdict_code}
@@ -101,19 +101,19 @@ Accepts set p pw iw = (TrianglesAsked set p × (discards p ≡ true) × Empty pw
 
 -- the answer is right: its fault occurs first at this place, and no fault of an earlier kind occurs
 abbrev pub Means : Settings → Patch → List ℕ → List ℕ → Verdict → Type 0
-Means set p pw iw said.BadTop = Top set.top → ⊥
-Means set p pw iw said.Isolines = Top set.top × (Surface p → ⊥)
-Means set p pw iw said.Dots = Top set.top × Surface p × (set.point_mode ≡ true)
-Means set p pw iw said.ShouldBeDiscarded = TrianglesAsked set p × (discards p ≡ true) × (Empty pw iw → ⊥)
-Means set p pw iw said.NotThrees = Kept set p × (Threes pw iw → ⊥)
-Means set p pw iw (said.UnknownIndex k) = PassedThrees set p pw iw × FirstNot (NumberedAt (read_points pw) iw) (length iw) k
-Means set p pw iw (said.Outside k) = PassedNumbered set p pw iw × FirstNot (InsideAt p (read_points pw)) (length (read_points pw)) k
-Means set p pw iw (said.EqualPoints i j) = PassedInside set p pw iw × FirstPair (EqualAt (read_points pw)) (length (read_points pw)) i j
-Means set p pw iw (said.Turned k) = PassedDistinct set p pw iw × FirstNot (TurnsAt set (read_points pw) iw) (length (read_triangles iw)) k
-Means set p pw iw (said.SideTwice i j) = PassedTurned set p pw iw × FirstPair (SharedAt (read_points pw) iw) (length (read_triangles iw)) i j
-Means set p pw iw (said.OpenSide k e) = PassedSingle set p pw iw × (e < 3) × FirstNot (ClosedAt set p (read_points pw) iw) (length (read_triangles iw) * 3) (k * 3 + e)
-Means set p pw iw (said.MissingPiece k) = PassedClosed set p pw iw × FirstNot (DrawnAt set p (read_points pw) iw) (length (outline_of set p)) k
-Means set p pw iw said.Accepted = Accepts set p pw iw
+Means set p pw iw (Err said.BadTop) = Top set.top → ⊥
+Means set p pw iw (Err said.Isolines) = Top set.top × (Surface p → ⊥)
+Means set p pw iw (Err said.Dots) = Top set.top × Surface p × (set.point_mode ≡ true)
+Means set p pw iw (Err said.ShouldBeDiscarded) = TrianglesAsked set p × (discards p ≡ true) × (Empty pw iw → ⊥)
+Means set p pw iw (Err said.NotThrees) = Kept set p × (Threes pw iw → ⊥)
+Means set p pw iw (Err (said.UnknownIndex k)) = PassedThrees set p pw iw × FirstNot (NumberedAt (read_points pw) iw) (length iw) k
+Means set p pw iw (Err (said.Outside k)) = PassedNumbered set p pw iw × FirstNot (InsideAt p (read_points pw)) (length (read_points pw)) k
+Means set p pw iw (Err (said.EqualPoints i j)) = PassedInside set p pw iw × FirstPair (EqualAt (read_points pw)) (length (read_points pw)) i j
+Means set p pw iw (Err (said.Turned k)) = PassedDistinct set p pw iw × FirstNot (TurnsAt set (read_points pw) iw) (length (read_triangles iw)) k
+Means set p pw iw (Err (said.SideTwice i j)) = PassedTurned set p pw iw × FirstPair (SharedAt (read_points pw) iw) (length (read_triangles iw)) i j
+Means set p pw iw (Err (said.OpenSide k e)) = PassedSingle set p pw iw × (e < 3) × FirstNot (ClosedAt set p (read_points pw) iw) (length (read_triangles iw) * 3) (k * 3 + e)
+Means set p pw iw (Err (said.MissingPiece k)) = PassedClosed set p pw iw × FirstNot (DrawnAt set p (read_points pw) iw) (length (outline_of set p)) k
+Means set p pw iw (Ok x) = Accepts set p pw iw
 
 -- the contract of the check: the number and values of the answer, and that they are those of a verdict exactly if that verdict is right
 pub record CheckedExactly (set : Settings) (p : Patch) (pw iw : List ℕ) (r : Verdict) : Type 0 where

@@ -7,7 +7,30 @@ ghost use Rattle.check_faults.specs.Turns.{AllSmall};
 ghost use Rattle.check_faults.specs.Outline.{ClosedTo, DrawnTo};
 ghost use Rattle.check_verdict.specs.Faults.{outline_fault, side_fault, point_fault, mesh_fault};
 
-use crate::Verdict;
+// A fault of a mesh, by its kind, in this order, and the first place of that kind. Points, indices, triangles, a triangle's
+// corners and the outline's pieces are numbered from 0.
+#[derive(Clone, Copy, Debug, PartialEq, Eq, Drop)]
+pub enum Fault {
+    // The top level is bad (number 11).
+    BadTop,
+    Isolines,
+    Dots,
+    ShouldBeDiscarded,
+    // The number of point words or of indices is not a multiple of three.
+    NotThrees,
+    // The index at `place` is not the number of a point.
+    UnknownIndex { place: usize },
+    Outside { point: usize },
+    EqualPoints { first: usize, second: usize },
+    // A triangle with no area or the wrong orientation.
+    Turned { triangle: usize },
+    // Two triangles with a directed side in common.
+    SideTwice { first: usize, second: usize },
+    // The side that starts at this corner has no reverse and is not a piece of the outline.
+    OpenSide { triangle: usize, corner: usize },
+    // This piece of the outline is not a side.
+    MissingPiece { piece: usize },
+}
 
 // Returns the first open side, else the first missing piece; the first `joined` sides are known to be closed, and the first
 // `drawn` pieces to be sides.
@@ -18,7 +41,7 @@ fn outline_fault(
     positive: bool,
     joined: usize,
     drawn: usize,
-) -> Verdict
+) -> Result<(), Fault>
     requires fact_1 { AllNumbered (length (read_points points.now)) indices.now }
     requires fact_2 { joined ≤ length indices.now / 3 * 3 }
     requires fact_3 { ClosedTo (judged positive (read_points outline.now) points.now indices.now) joined }
@@ -28,21 +51,21 @@ fn outline_fault(
 {
     let side = check_faults::side::first_open(outline, points, indices, positive, joined);
     if side < indices.len() / 3 * 3 {
-        return Verdict::OpenSide {
+        return Err(Fault::OpenSide {
             triangle: side / 3,
             corner: side % 3,
-        };
+        });
     }
     let piece = check_faults::outline::first_missing(outline, points, indices, positive, drawn);
     if piece < outline.len() / 3 {
-        return Verdict::MissingPiece { piece };
+        return Err(Fault::MissingPiece { piece });
     }
-    Verdict::Accepted
+    Ok(())
 }
 
 // Returns the first triangle of the wrong orientation, else the first repeated side, else `outline_fault`. A table of sides
 // shows up to where no fault occurs, and each search starts there.
-fn side_fault(outline: &[u32], points: &[u32], indices: &[u16], positive: bool) -> Verdict
+fn side_fault(outline: &[u32], points: &[u32], indices: &[u16], positive: bool) -> Result<(), Fault>
     requires fact_1 { AllNumbered (length (read_points points.now)) indices.now }
     requires fact_2 { AllSmall (read_points points.now) }
     ensures { result ≡ side_fault (judged positive (read_points outline.now) points.now indices.now) }
@@ -50,16 +73,16 @@ fn side_fault(outline: &[u32], points: &[u32], indices: &[u16], positive: bool) 
     let count = indices.len() / 3;
     let triangle = check_faults::area::first_turned(points, indices, positive);
     if triangle < count {
-        return Verdict::Turned { triangle };
+        return Err(Fault::Turned { triangle });
     }
     let known = check_watertight::closing::reach(outline, points, indices, positive);
     let reused = check_side_searches::pair::first_reused(indices, known.once);
     if reused < count {
         let t = check_searches::triangle::triangle_at(indices, reused);
-        return Verdict::SideTwice {
+        return Err(Fault::SideTwice {
             first: check_side_searches::pair::first_sharing(indices, t, reused),
             second: reused,
-        };
+        });
     }
     outline_fault(
         outline,
@@ -78,22 +101,22 @@ fn point_fault(
     indices: &[u16],
     triangles: bool,
     positive: bool,
-) -> Verdict
+) -> Result<(), Fault>
     requires { AllNumbered (length (read_points points.now)) indices.now }
     ensures { result ≡ point_fault triangles (judged positive (read_points outline.now) points.now indices.now) }
 {
     let count = points.len() / 3;
     let point = check_faults::inside::first_outside(points, triangles);
     if point < count {
-        return Verdict::Outside { point };
+        return Err(Fault::Outside { point });
     }
     let repeated = equal_points::search::first_repeated(points);
     if repeated < count {
         let q = check_searches::point::point_at(points, repeated);
-        return Verdict::EqualPoints {
+        return Err(Fault::EqualPoints {
             first: check_searches::point::first_equal(points, q, repeated),
             second: repeated,
-        };
+        });
     }
     side_fault(outline, points, indices, positive)
 }
@@ -106,18 +129,18 @@ pub fn mesh_fault(
     indices: &[u16],
     triangles: bool,
     positive: bool,
-) -> Verdict
+) -> Result<(), Fault>
     ensures { result ≡ mesh_fault triangles positive (read_points outline.now) points.now indices.now }
 {
     if points.len() % 3 != 0 {
-        return Verdict::NotThrees;
+        return Err(Fault::NotThrees);
     }
     if indices.len() % 3 != 0 {
-        return Verdict::NotThrees;
+        return Err(Fault::NotThrees);
     }
     let place = check_searches::index::first_unknown(indices, points.len() / 3);
     if place < indices.len() {
-        return Verdict::UnknownIndex { place };
+        return Err(Fault::UnknownIndex { place });
     }
     point_fault(outline, points, indices, triangles, positive)
 }

@@ -4,7 +4,7 @@ ghost use Rattle.check_soundness.specs.Numbers.{verdict_code};
 ghost use Rattle.check_words.specs.Founds.{Finds};
 
 use call_answers::reply::Reply;
-use check_verdict::Verdict;
+use check_verdict::fault::Fault;
 
 // A place that the answer lacks is 0.
 #[derive(Clone, Copy, Drop)]
@@ -32,23 +32,23 @@ pub fn of_reply(reply: Reply) -> PlacedReply
     told(reply.number, reply.first as usize, reply.second as usize)
 }
 
-pub fn of_verdict(verdict: Verdict) -> PlacedReply
+pub fn of_verdict(verdict: Result<(), Fault>) -> PlacedReply
     ensures { Finds (verdict_code verdict) result }
 {
     match verdict {
-        Verdict::Accepted => told(0, 0, 0),
-        Verdict::BadTop => told(11, 0, 0),
-        Verdict::Isolines => told(20, 0, 0),
-        Verdict::Dots => told(21, 0, 0),
-        Verdict::ShouldBeDiscarded => told(22, 0, 0),
-        Verdict::NotThrees => told(23, 0, 0),
-        Verdict::UnknownIndex { place } => told(24, place, 0),
-        Verdict::Outside { point } => told(25, point, 0),
-        Verdict::EqualPoints { first, second } => told(26, first, second),
-        Verdict::Turned { triangle } => told(27, triangle, 0),
-        Verdict::SideTwice { first, second } => told(28, first, second),
-        Verdict::OpenSide { triangle, corner } => told(29, triangle, corner),
-        Verdict::MissingPiece { piece } => told(30, piece, 0),
+        Ok(()) => told(0, 0, 0),
+        Err(Fault::BadTop) => told(11, 0, 0),
+        Err(Fault::Isolines) => told(20, 0, 0),
+        Err(Fault::Dots) => told(21, 0, 0),
+        Err(Fault::ShouldBeDiscarded) => told(22, 0, 0),
+        Err(Fault::NotThrees) => told(23, 0, 0),
+        Err(Fault::UnknownIndex { place }) => told(24, place, 0),
+        Err(Fault::Outside { point }) => told(25, point, 0),
+        Err(Fault::EqualPoints { first, second }) => told(26, first, second),
+        Err(Fault::Turned { triangle }) => told(27, triangle, 0),
+        Err(Fault::SideTwice { first, second }) => told(28, first, second),
+        Err(Fault::OpenSide { triangle, corner }) => told(29, triangle, corner),
+        Err(Fault::MissingPiece { piece }) => told(30, piece, 0),
     }
 }
 

@@ -7,6 +7,7 @@ ghost use Rattle.patch_outline.specs.Outlines.{edges_of, outline_by, ValidEdges}
 use level::{Segments, Spacing};
 use patch::kinds::Patch;
 
+// The segments of the outer edges of a patch with an outline.
 #[derive(Clone, Copy, Drop)]
 pub enum OuterEdges {
     Triangle {
@@ -20,12 +21,10 @@ pub enum OuterEdges {
         edge2: Segments,
         edge3: Segments,
     },
-    // Isolines have no outline.
-    None,
 }
 
-// Returns the outer edges of a patch.
-pub fn edges_of(patch: Patch, spacing: Spacing, top: u32) -> OuterEdges
+// Returns the outer edges of a patch, unless it has no outline, as isolines.
+pub fn edges_of(patch: Patch, spacing: Spacing, top: u32) -> Option<OuterEdges>
     requires { Top top }
     ensures { result ≡ edges_of spacing top patch }
 {
@@ -34,37 +33,36 @@ pub fn edges_of(patch: Patch, spacing: Spacing, top: u32) -> OuterEdges
             outer0,
             outer1,
             outer2,
-            inner0: _,
-        } => OuterEdges::Triangle {
+            ..
+        } => Some(OuterEdges::Triangle {
             edge0: edge_of(outer0, spacing, top),
             edge1: edge_of(outer1, spacing, top),
             edge2: edge_of(outer2, spacing, top),
-        },
+        }),
         Patch::Quads {
             outer0,
             outer1,
             outer2,
             outer3,
-            inner0: _,
-            inner1: _,
-        } => OuterEdges::Quad {
+            ..
+        } => Some(OuterEdges::Quad {
             edge0: edge_of(outer0, spacing, top),
             edge1: edge_of(outer1, spacing, top),
             edge2: edge_of(outer2, spacing, top),
             edge3: edge_of(outer3, spacing, top),
-        },
-        Patch::Isolines {
-            outer0: _,
-            outer1: _,
-        } => OuterEdges::None,
+        }),
+        Patch::Isolines { .. } => None,
     }
 }
 
 // Returns how many points the outline has: each edge has one per segment, as its end is the start of the next.
-pub fn points_around(edges: OuterEdges) -> u32
+pub fn points_around(edges: Option<OuterEdges>) -> u32
     requires { ValidEdges edges }
     ensures { result ≡ length (outline_by edges) }
 {
+    let Some(edges) = edges else {
+        return 0;
+    };
     match edges {
         OuterEdges::Triangle {
             edge0,
@@ -77,7 +75,6 @@ pub fn points_around(edges: OuterEdges) -> u32
             edge2,
             edge3,
         } => edge0.count + edge1.count + edge2.count + edge3.count,
-        OuterEdges::None => 0,
     }
 }
 

@@ -12,8 +12,8 @@ use level::Segments;
 
 // Writes the outline of a triangle patch: the first points of a patch whose inner level gives two segments.
 fn write_triangle(words: &mut [u32], e0: Segments, e1: Segments, e2: Segments) -> usize
-    requires fact_1 { Valid e0.count e0.scaled × Valid e1.count e1.scaled × Valid e2.count e2.scaled }
-    requires fact_2 { 3 * around (run e0 ∷ run e1 ∷ run e2 ∷ []) + 3 ≤ length words.old }
+    requires valid { Valid e0.count e0.scaled × Valid e1.count e1.scaled × Valid e2.count e2.scaled }
+    requires room { 3 * around (run e0 ∷ run e1 ∷ run e2 ∷ []) + 3 ≤ length words.old }
     ensures { OutlineOf (ring triangle_place 0 (run e0 ∷ run e1 ∷ run e2 ∷ []) 0) words.new result }
 {
     let inside = Segments {
@@ -25,8 +25,8 @@ fn write_triangle(words: &mut [u32], e0: Segments, e1: Segments, e2: Segments) -
 
 // Writes the outline of a quad patch: all points of a patch with no inner points.
 fn write_quad(words: &mut [u32], e0: Segments, e1: Segments, e2: Segments, e3: Segments) -> usize
-    requires fact_1 { Valid e0.count e0.scaled × Valid e1.count e1.scaled × Valid e2.count e2.scaled × Valid e3.count e3.scaled }
-    requires fact_2 { 3 * around (run e0 ∷ run e1 ∷ run e2 ∷ run e3 ∷ []) ≤ length words.old }
+    requires valid { Valid e0.count e0.scaled × Valid e1.count e1.scaled × Valid e2.count e2.scaled × Valid e3.count e3.scaled }
+    requires room { 3 * around (run e0 ∷ run e1 ∷ run e2 ∷ run e3 ∷ []) ≤ length words.old }
     ensures { OutlineOf (ring quad_place 0 (run e0 ∷ run e1 ∷ run e2 ∷ run e3 ∷ []) 0) words.new result }
 {
     let one = Segments {
@@ -38,11 +38,14 @@ fn write_quad(words: &mut [u32], e0: Segments, e1: Segments, e2: Segments, e3: S
 
 // Writes the outline of these edges; returns how many words it has. The list needs room for one more point, which the outline
 // of a triangle writes.
-pub fn write_outline(words: &mut [u32], edges: OuterEdges) -> usize
-    requires fact_1 { ValidEdges edges }
-    requires fact_2 { 3 * length (outline_by edges) + 3 ≤ length words.old }
+pub fn write_outline(words: &mut [u32], edges: Option<OuterEdges>) -> usize
+    requires valid { ValidEdges edges }
+    requires room { 3 * length (outline_by edges) + 3 ≤ length words.old }
     ensures { OutlineOf (outline_by edges) words.new result }
 {
+    let Some(edges) = edges else {
+        return 0;
+    };
     match edges {
         OuterEdges::Triangle {
             edge0,
@@ -55,6 +58,5 @@ pub fn write_outline(words: &mut [u32], edges: OuterEdges) -> usize
             edge2,
             edge3,
         } => write_quad(words, edge0, edge1, edge2, edge3),
-        OuterEdges::None => 0,
     }
 }

@@ -4,7 +4,7 @@ use mathlib.Core.Path.{refl}
 use lib.ListN.{length}
 use borrow.Author.Tests.{eq-eqb}
 use Rattle.check_searches.proofs.Read.{points_count}
-use Rattle.check_verdict.specs.declared.Verdict.TheVariants.{UnknownIndex}
+use Rattle.check_verdict.specs.declared.fault.Fault.TheVariants.{UnknownIndex}
 use Rattle.check_verdict.specs.Faults.{mesh_fault}
 use Rattle.check_verdict.proofs.Chain.{found, next}
 use Rattle.check_faults.proofs.Known.{all_numbered}

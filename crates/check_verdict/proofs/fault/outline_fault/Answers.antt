@@ -3,7 +3,7 @@ use Prim.Native.Nat.{◌*◌, ◌/◌}
 use mathlib.Core.Path.{refl}
 use lib.ListN.{length}
 use Rattle.check_searches.proofs.Read.{points_count, triangles_count}
-use Rattle.check_verdict.specs.declared.Verdict.TheVariants.{MissingPiece}
+use Rattle.check_verdict.specs.declared.fault.Fault.TheVariants.{MissingPiece}
 use Rattle.check_verdict.specs.Faults.{open_side, outline_fault}
 use Rattle.check_verdict.proofs.Chain.{found, next}
 use Rattle.check_verdict.proofs.fault.outline_fault.Goals as goal

@@ -1,7 +1,7 @@
 use native.Mathlib.Omega.{arith}
 use Rattle.mesh_geometry.specs.Words.{read_points}
 use Rattle.check_searches.proofs.Read.{points_count}
-use Rattle.check_verdict.specs.declared.Verdict.TheVariants.{Outside}
+use Rattle.check_verdict.specs.declared.fault.Fault.TheVariants.{Outside}
 use Rattle.check_verdict.specs.Faults.{equal_points, point_fault}
 use Rattle.check_verdict.proofs.Chain.{found, next}
 use Rattle.check_faults.proofs.Known.{all_small}

@@ -1,7 +1,7 @@
 use native.Mathlib.Omega.{arith}
 use Rattle.mesh_geometry.specs.Words.{read_triangles}
 use Rattle.check_searches.proofs.Read.{points_count, triangles_count}
-use Rattle.check_verdict.specs.declared.Verdict.TheVariants.{Turned}
+use Rattle.check_verdict.specs.declared.fault.Fault.TheVariants.{Turned}
 use Rattle.check_verdict.specs.Faults.{side_twice, side_fault}
 use Rattle.check_verdict.proofs.Chain.{found, next}
 use Rattle.check_verdict.proofs.fault.side_fault.Goals as goal

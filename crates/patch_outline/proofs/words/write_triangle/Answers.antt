@@ -11,7 +11,7 @@ use Rattle.patch_outline.proofs.words.write_triangle.Goals as goal
 pub write_triangle_patch-requires-clause-fact_3 : goal.write_triangle_patch-requires-clause-fact_3
 write_triangle_patch-requires-clause-fact_3 c = let a = c.args in
     let o = one_inside (run a.e0) (run a.e1) (run a.e2) (run (record { count = 2; scaled = 131072 })) refl in
-    omega (arith, c.requires.fact_2, outlined_length triangle_place (run a.e0 ∷ run a.e1 ∷ run a.e2 ∷ []) o)
+    omega (arith, c.requires.room, outlined_length triangle_place (run a.e0 ∷ run a.e1 ∷ run a.e2 ∷ []) o)
 
 pub overflow_sub-result : goal.overflow_sub-result
 overflow_sub-result c =

@@ -1,5 +1,0 @@
-use Rattle.patch_outline.proofs.Fronts.{outline_read}
-use Rattle.check_mesh.proofs.fault.fault_in.Goals as goal
-
-pub returns : goal.returns
-returns c = rw (← outline_read c.write_outline-count.ensures) c.mesh_fault.ensures
