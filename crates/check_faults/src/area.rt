@@ -85,12 +85,10 @@ pub fn first_turned(points: &[u32], indices: &[u16], positive: bool) -> usize
     ensures { result ≡ first_turned positive (read_points points.now) (read_triangles indices.now) }
 {
     let count = indices.len() / 3;
-    let mut k = 0;
-    while k < count {
+    for k in 0..count {
         if !turns_at(points, indices, k, positive) {
             return k;
         }
-        k += 1;
     }
-    k
+    count
 }

@@ -22,12 +22,10 @@ pub fn first_outside(points: &[u32], triangles: bool) -> usize
     ensures { result ≡ first_outside triangles (read_points points.now) }
 {
     let count = points.len() / 3;
-    let mut k = 0;
-    while k < count {
+    for k in 0..count {
         if !is_inside(point_at(points, k), triangles) {
             return k;
         }
-        k += 1;
     }
-    k
+    count
 }

@@ -74,12 +74,10 @@ pub fn is_piece_at(outline: &[u32], k: usize, positive: bool, p: Point, q: Point
 pub(crate) fn is_piece(outline: &[u32], positive: bool, p: Point, q: Point) -> bool
     ensures { result ≡ on_outline positive (read_points outline.now) (record { start = p; end = q }) }
 {
-    let mut k = 0;
-    while k < outline.len() / 3 {
+    for k in 0..outline.len() / 3 {
         if is_piece_at(outline, k, positive, p, q) {
             return true;
         }
-        k += 1;
     }
     false
 }
@@ -101,12 +99,10 @@ fn is_drawn(points: &[u32], indices: &[u16], p: Point, q: Point) -> bool
     ensures { result ≡ is_drawn (read_points points.now) (read_triangles indices.now) (record { start = p; end = q }) }
 {
     let count = indices.len() / 3;
-    let mut k = 0;
-    while k < count {
+    for k in 0..count {
         if is_bounded(points, triangle_at(indices, k), p, q) {
             return true;
         }
-        k += 1;
     }
     false
 }
@@ -119,20 +115,18 @@ pub fn first_missing(
     positive: bool,
     from: usize,
 ) -> usize
-    requires fact_1 { AllNumbered (length (read_points points.now)) indices.now }
-    requires fact_2 { from ≤ length outline.now / 3 }
-    requires fact_3 { DrawnTo (judged positive (read_points outline.now) points.now indices.now) from }
+    requires numbered { AllNumbered (length (read_points points.now)) indices.now }
+    requires within { from ≤ length outline.now / 3 }
+    requires known { DrawnTo (judged positive (read_points outline.now) points.now indices.now) from }
     ensures { result ≡ first_missing (judged positive (read_points outline.now) points.now indices.now) }
 {
     let count = outline.len() / 3;
-    let mut k = from;
-    while k < count {
+    for k in from..count {
         let start = piece_start(outline, k, positive);
         let end = piece_end(outline, k, positive);
         if !is_drawn(points, indices, start, end) {
             return k;
         }
-        k += 1;
     }
-    k
+    count
 }

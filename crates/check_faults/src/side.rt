@@ -79,18 +79,16 @@ pub fn first_open(
     positive: bool,
     from: usize,
 ) -> usize
-    requires fact_1 { AllNumbered (length (read_points points.now)) indices.now }
-    requires fact_2 { from ≤ length indices.now / 3 * 3 }
-    requires fact_3 { ClosedTo (judged positive (read_points outline.now) points.now indices.now) from }
+    requires numbered { AllNumbered (length (read_points points.now)) indices.now }
+    requires within { from ≤ length indices.now / 3 * 3 }
+    requires known { ClosedTo (judged positive (read_points outline.now) points.now indices.now) from }
     ensures { result ≡ first_open (judged positive (read_points outline.now) points.now indices.now) }
 {
     let count = indices.len() / 3 * 3;
-    let mut m = from;
-    while m < count {
+    for m in from..count {
         if !is_closed(outline, points, indices, positive, m) {
             return m;
         }
-        m += 1;
     }
-    m
+    count
 }

@@ -1,5 +1,5 @@
 // The search for a directed side, which starts near a triangle.
-ghost use Rattle.std.specs.Prelude.{◌≡◌, ◌-◌, ◌/◌, ◌≤◌, length};
+ghost use Rattle.std.specs.Prelude.{◌≡◌, ◌/◌, ◌≤◌, length};
 ghost use Rattle.mesh_geometry.specs.Words.{read_triangles};
 ghost use Rattle.check_searches.specs.Triangles.{some_side};
 ghost use Rattle.check_side_searches.specs.Skips.{Sided};
@@ -9,10 +9,11 @@ use check_searches::triangle::has_side_at;
 
 // Whether one of the triangles from number `from` up to, not including, `to` has the directed side x→y.
 fn has_side_in(indices: &[u16], from: usize, to: usize, x: u16, y: u16) -> bool
-    requires fact_1 { from ≤ to }
-    requires fact_2 { to ≤ length indices.now / 3 }
+    requires order { from ≤ to }
+    requires within { to ≤ length indices.now / 3 }
     ensures { Sided (read_triangles indices.now) from to x y result }
 {
+    // Kept: the loop goes on from each triangle that has the vertex to the next that does, which no range gives.
     let mut i = next_touching(indices, from, to, x, x);
     while i < to {
         if has_side_at(indices, i, x, y) {
@@ -23,25 +24,6 @@ fn has_side_in(indices: &[u16], from: usize, to: usize, x: u16, y: u16) -> bool
     false
 }
 
-// Returns `near` less `reach`, or 0.
-fn back_from(near: usize, reach: usize) -> usize
-    ensures { result ≡ near - reach }
-{
-    if reach < near { near - reach } else { 0 }
-}
-
-// Returns `near` plus `reach`, or `most`.
-fn on_from(near: usize, reach: usize, most: usize) -> usize
-    requires { near ≤ most }
-    ensures { (near ≤ result) × (result ≤ most) }
-{
-    if reach < most - near {
-        near + reach
-    } else {
-        most
-    }
-}
-
 // Whether a triangle has the directed side x→y. The triangles next to number `near` are tested first, then eight times as many, and so on.
 pub fn has_side_near(indices: &[u16], near: usize, x: u16, y: u16) -> bool
     requires { near ≤ length indices.now / 3 }
@@ -49,14 +31,11 @@ pub fn has_side_near(indices: &[u16], near: usize, x: u16, y: u16) -> bool
 {
     let count = indices.len() / 3;
     let mut reach = 2;
+    // Kept: the reach grows by a factor, which no range gives.
     while reach < count / 8 {
-        if has_side_in(
-            indices,
-            back_from(near, reach),
-            on_from(near, reach, count),
-            x,
-            y,
-        ) {
+        let from = near.saturating_sub(reach);
+        let to = near + reach.min(count - near);
+        if has_side_in(indices, from, to, x, y) {
             return true;
         }
         reach *= 8;

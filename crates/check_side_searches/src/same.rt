@@ -23,6 +23,7 @@ pub fn has_triangle_in(indices: &[u16], from: usize, to: usize, t: Triangle) -> 
     ensures { TriangleFound (read_triangles indices.now) from to t result }
 {
     let x = t.a;
+    // Kept: the loop goes on from each triangle that has the vertex to the next that does, which no range gives.
     let mut i = next_touching(indices, from, to, x, x);
     while i < to {
         if same_triangle(triangle_at(indices, i), t) {

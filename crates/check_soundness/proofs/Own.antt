@@ -1,6 +1,6 @@
 -- What the two drawing operations give for a patch is accepted: for every triangle and quad patch, and all settings with a good
 -- top level. Assumes nothing.
-use Rattle.std.specs.Prelude.{Ok}
+use Rattle.std.specs.Prelude.{Result, Ok}
 use Prim.Native.Nat.{ℕ, ◌+◌, ◌*◌}
 use mathlib.Core.Path.{◌≡◌, refl, sym, ap, ◌∙◌}
 use mathlib.Core.Bool.{Bool, true, false, cond}
@@ -14,8 +14,7 @@ use Rattle.patch.specs.declared.kinds.Patch.{Patch}
 use Rattle.patch.specs.declared.settings.Settings.{Settings}
 use Rattle.patch.specs.Subdivide.{discards}
 use Rattle.patch_mesh.specs.Demand.{Surface}
-use Rattle.tessellate.specs.declared.answer.PointsAnswer.{PointsAnswer}
-use Rattle.tessellate.specs.declared.answer.IndicesAnswer.{IndicesAnswer}
+use Rattle.tessellate.specs.declared.refusal.DrawRefusal.{DrawRefusal}
 use Rattle.measure.specs.Sizes.{points_of}
 use Rattle.tessellate.specs.Answers.{points_code, indices_code, list_verdict}
 use Rattle.answer_codes.specs.AnswerCode.{AnswerCode, refused, drew}
@@ -46,7 +45,7 @@ discarded_means set p short need have count e = go (is_top set.top) (discards p)
 
 module _ (set : Settings) (p : Patch) (surface : Surface p) (filled : set.point_mode ≡ false) (a : Verdict) where
   -- the drawn points and indices, read from the two lists by the counts
-  pub drawn_accepted : (r : PointsAnswer) (s : IndicesAnswer) {v v' i i' : List ℕ} {P I : ℕ} → DrewPoints set p v v' r → DrewIndices set p i i' s
+  pub drawn_accepted : (r s : Result ℕ DrawRefusal) {v v' i i' : List ℕ} {P I : ℕ} → DrewPoints set p v v' r → DrewIndices set p i i' s
       → points_code r ≡ drew P → indices_code s ≡ drew I → CheckedExactly set p (take (3 * P) v') (take I i') a → a ≡ Ok tt
   drawn_accepted r s d d' e e' c =
       let w = points_drawn set p r d e in
@@ -55,7 +54,7 @@ module _ (set : Settings) (p : Patch) (surface : Surface p) (filled : set.point_
       (answers set p _ _ (Ok tt) (inr (record { asked = record { top = w.0; surface = surface; filled = filled }; kept = w.1 }, drawn_words_sound set w.0 p surface w.1 filled)))
 
   -- nothing is drawn for a discarded patch, and two empty lists are accepted
-  pub discarded_accepted : (r : PointsAnswer) {v v' : List ℕ} → DrewPoints set p v v' r → points_code r ≡ refused 1 → CheckedExactly set p [] [] a → a ≡ Ok tt
+  pub discarded_accepted : (r : Result ℕ DrawRefusal) {v v' : List ℕ} → DrewPoints set p v v' r → points_code r ≡ refused 1 → CheckedExactly set p [] [] a → a ≡ Ok tt
   discarded_accepted r {v} d e c =
       let w = discarded_means set p 1 (3 * points_of set p) (length v) (points_of set p) (sym e ∙ d.answer) in
       is_verdict set p [] [] c.answer ∙ answers set p [] [] (Ok tt) (inl (record { top = w.0; surface = surface; filled = filled }, w.1, (refl, refl)))

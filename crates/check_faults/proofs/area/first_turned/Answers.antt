@@ -1,7 +1,7 @@
 use native.Mathlib.Omega.{arith}
 use mathlib.Core.Path.{refl}
 use Rattle.check_faults.specs.Turns.{first_turned}
-use Rattle.check_searches.proofs.First.{search_found, search_none}
+use Rattle.check_searches.proofs.First.{search_found, range_none}
 use Rattle.check_searches.proofs.Read.{triangles_count}
 use Rattle.check_faults.proofs.area.first_turned.Goals as goal
 
@@ -12,4 +12,4 @@ returns-then-not-turns_at c = search_found (triangles_count c.args.indices.now) 
 
 pub returns : goal.returns
 unfolding first_turned
-returns c = search_none (triangles_count c.args.indices.now) c.loop-k.invariant (omega arith)
+returns c = range_none (triangles_count c.args.indices.now) c.loop-k.invariant (omega arith)

@@ -7,6 +7,3 @@ use Rattle.check_faults.proofs.area.first_turned.Given as goal
 
 abbrev pub invariant-loop-k : goal.invariant-loop-k
 invariant-loop-k l = Passed (λ i. turns_wrong l.positive (read_points l.points) (triangle_at (read_triangles l.indices) i)) l.count l.k
-
-abbrev pub decreases-loop-k : goal.decreases-loop-k
-decreases-loop-k l = l.count - l.k

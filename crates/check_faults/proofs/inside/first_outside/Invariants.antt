@@ -8,6 +8,3 @@ use Rattle.check_faults.proofs.inside.first_outside.Given as goal
 
 abbrev pub invariant-loop-k : goal.invariant-loop-k
 invariant-loop-k l = Passed (λ i. not (inside l.triangles (at (read_points l.points) i))) l.count l.k
-
-abbrev pub decreases-loop-k : goal.decreases-loop-k
-decreases-loop-k l = l.count - l.k

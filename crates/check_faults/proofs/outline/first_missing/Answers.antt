@@ -2,7 +2,7 @@ use native.Mathlib.Omega.{arith}
 use mathlib.Core.Path.{refl}
 use Rattle.check_faults.specs.Outline.{first_missing}
 use Rattle.check_searches.proofs.Read.{points_count}
-use Rattle.check_searches.proofs.First.{search_found, search_none}
+use Rattle.check_searches.proofs.First.{search_found, range_none}
 use Rattle.check_faults.proofs.outline.first_missing.Goals as goal
 
 pub returns-then-not-is_drawn : goal.returns-then-not-is_drawn
@@ -17,4 +17,4 @@ returns-then-not-is_drawn c = search_found (points_count c.args.outline.now)
 
 pub returns : goal.returns
 unfolding first_missing
-returns c = search_none (points_count c.args.outline.now) c.loop-k.invariant (omega arith)
+returns c = range_none (points_count c.args.outline.now) c.loop-k.invariant (omega arith)

@@ -8,6 +8,3 @@ use Rattle.check_faults.proofs.outline.first_missing.Given as goal
 
 abbrev pub invariant-loop-k : goal.invariant-loop-k
 invariant-loop-k l = Passed (λ i. not (piece_drawn (judged l.positive (read_points l.outline) l.points l.indices) i)) l.count l.k
-
-abbrev pub decreases-loop-k : goal.decreases-loop-k
-decreases-loop-k l = l.count - l.k

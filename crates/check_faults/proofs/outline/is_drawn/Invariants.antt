@@ -8,6 +8,3 @@ use Rattle.check_faults.proofs.outline.is_drawn.Given as goal
 
 abbrev pub invariant-loop-k : goal.invariant-loop-k
 invariant-loop-k l = Passed (λ i. bounds (face_of (at (read_points l.points)) (triangle_at (read_triangles l.indices) i)) (record { start = l.p; end = l.q })) l.count l.k
-
-abbrev pub decreases-loop-k : goal.decreases-loop-k
-decreases-loop-k l = l.count - l.k

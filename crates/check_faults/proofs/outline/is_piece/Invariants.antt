@@ -8,6 +8,3 @@ use Rattle.check_faults.proofs.outline.is_piece.Given as goal
 
 abbrev pub invariant-loop-k : goal.invariant-loop-k
 invariant-loop-k l = Passed (λ i. same_ends (piece l.positive (read_points l.outline) i) (record { start = l.p; end = l.q })) (length l.outline / 3) l.k
-
-abbrev pub decreases-loop-k : goal.decreases-loop-k
-decreases-loop-k l = length l.outline / 3 - l.k

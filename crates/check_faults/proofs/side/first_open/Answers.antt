@@ -2,7 +2,7 @@ use native.Mathlib.Omega.{arith}
 use Prim.Native.Nat.{◌*◌}
 use mathlib.Core.Path.{ap, refl}
 use Rattle.check_searches.proofs.Read.{triangles_count}
-use Rattle.check_searches.proofs.First.{search_found, search_none}
+use Rattle.check_searches.proofs.First.{search_found, range_none}
 use Rattle.check_faults.specs.Outline.{first_open}
 use Rattle.check_faults.proofs.side.first_open.Goals as goal
 
@@ -13,4 +13,4 @@ returns-then-not-is_closed c = search_found (ap (λ n. n * 3) (triangles_count c
 
 pub returns : goal.returns
 unfolding first_open
-returns c = search_none (ap (λ n. n * 3) (triangles_count c.args.indices.now)) c.loop-m.invariant (omega arith)
+returns c = range_none (ap (λ n. n * 3) (triangles_count c.args.indices.now)) c.loop-m.invariant (omega arith)

@@ -8,6 +8,3 @@ use Rattle.check_faults.proofs.side.first_open.Given as goal
 
 abbrev pub invariant-loop-m : goal.invariant-loop-m
 invariant-loop-m l = Passed (λ i. not (closes (judged l.positive (read_points l.outline) l.points l.indices) i)) l.count l.m
-
-abbrev pub decreases-loop-m : goal.decreases-loop-m
-decreases-loop-m l = l.count - l.m

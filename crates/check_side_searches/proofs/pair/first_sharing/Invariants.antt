@@ -6,6 +6,3 @@ use Rattle.check_side_searches.proofs.pair.first_sharing.Given as goal
 
 abbrev pub invariant-loop-i : goal.invariant-loop-i
 invariant-loop-i l = Passed (λ k. share_side (triangle_at (read_triangles l.indices) k) l.t) l.end l.i
-
-abbrev pub decreases-loop-i : goal.decreases-loop-i
-decreases-loop-i l = l.end - l.i

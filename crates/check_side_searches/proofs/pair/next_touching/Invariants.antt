@@ -5,6 +5,3 @@ use Rattle.check_side_searches.proofs.pair.next_touching.Given as goal
 
 abbrev pub invariant-loop-at : goal.invariant-loop-at
 invariant-loop-at l = (l.at ≤ l.to) × Skips (read_triangles l.indices) l.from l.to l.x l.y l.at
-
-abbrev pub decreases-loop-at : goal.decreases-loop-at
-decreases-loop-at l = l.to - l.at

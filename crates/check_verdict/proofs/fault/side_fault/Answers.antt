@@ -12,8 +12,8 @@ returns-then-triangle-count c =
     let n = triangles_count c.args.indices.now in
     found Turned _ c.first_turned-triangle.ensures n c.if-triangle-count.true
 
-pub first_reused-reused-requires-clause-fact_1 : goal.first_reused-reused-requires-clause-fact_1
-first_reused-reused-requires-clause-fact_1 c = omega (arith, c.reach-known.ensures.once_most, triangles_count c.args.indices.now)
+pub first_reused-reused-requires-clause-within : goal.first_reused-reused-requires-clause-within
+first_reused-reused-requires-clause-within c = omega (arith, c.reach-known.ensures.once_most, triangles_count c.args.indices.now)
 
 pub returns-then-reused-count : goal.returns-then-reused-count
 unfolding side_fault
