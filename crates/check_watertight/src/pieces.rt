@@ -23,14 +23,12 @@ fn find_piece(outline: &[u32], near: usize, positive: bool, p: Point, q: Point) 
             return near;
         }
     }
-    let mut k = 0;
-    while k < count {
+    for k in 0..count {
         if is_piece_at(outline, k, positive, p, q) {
             return k;
         }
-        k += 1;
     }
-    k
+    count
 }
 
 // Sets mark k, if the list has it.
@@ -89,15 +87,13 @@ pub(crate) fn all_pieces(
 {
     let pieces = outline.len() / 3;
     let mut near = 0;
-    let mut k = 0;
-    while k < count {
+    for k in 0..count {
         let m = opens[k] as usize;
         let piece = mark_piece(outline, points, indices, marks, positive, near, m);
         if pieces <= piece {
             return m;
         }
         near = piece + 1;
-        k += 1;
     }
     indices.len() / 3 * 3
 }
@@ -106,15 +102,13 @@ pub(crate) fn all_pieces(
 pub(crate) fn first_unmarked(marks: &[u16], count: usize) -> usize
     ensures { (result ≤ count) × AllMarked marks.now result }
 {
-    let mut k = 0;
-    while k < count {
+    for k in 0..count {
         if marks.len() <= k {
             return k;
         }
         if marks[k] == 0 {
             return k;
         }
-        k += 1;
     }
-    k
+    count
 }

@@ -27,6 +27,7 @@ pub fn has_side(indices: &[u16], sides: usize, heads: &[u16], links: &[u32], x: 
     ensures { result ≡ some_below (is_side (read_triangles indices.now) x y) sides }
 {
     let mut k = heads[x as usize] as usize;
+    // Kept: the loop walks a chain of links, each of which holds the next number, so no range gives its steps.
     while 0 < k {
         let link = links[k - 1];
         if end_in(link) == y {

@@ -71,12 +71,10 @@ pub fn fill(
     ensures { FilledTo small (read_triangles indices.now) result rows.new heads.new links.new }
 {
     let count = indices.len() / 3;
-    let mut k = 0;
-    while k < count {
+    for k in 0..count {
         if !add_triangle(indices, k, small, rows, heads, links) {
             return k;
         }
-        k += 1;
     }
-    k
+    count
 }

@@ -112,10 +112,8 @@ pub fn open_sides(
 {
     let triangles = indices.len() / 3;
     let mut count = 0;
-    let mut k = 0;
-    while k < triangles {
+    for k in 0..triangles {
         count = list_triangle(indices, k, small, rows, heads, links, opens, count);
-        k += 1;
     }
     count
 }

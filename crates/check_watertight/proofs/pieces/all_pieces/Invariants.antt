@@ -9,6 +9,3 @@ use Rattle.check_watertight.proofs.pieces.all_pieces.Given as goal
 abbrev pub invariant-loop-k : goal.invariant-loop-k
 invariant-loop-k l = (l.k ≤ l.count) × OpensClosed (judged l.positive (read_points l.outline) l.points l.indices) l.opens l.k
     × MarksDrawn (judged l.positive (read_points l.outline) l.points l.indices) l.marks × (length l.marks ≡ length l.initial.marks)
-
-abbrev pub decreases-loop-k : goal.decreases-loop-k
-decreases-loop-k l = l.count - l.k

@@ -1,5 +1,7 @@
 use native.Mathlib.Omega.{arith}
-use mathlib.Core.Path.{refl}
+use Prim.Native.Nat.{◌/◌}
+use lib.ListN.{length}
+use mathlib.Core.Path.{◌≡◌, refl}
 use Rattle.check_searches.proofs.Read.{triangles_count}
 use Rattle.half_edges.proofs.Forms.{numbered_as, filled_none, filled_as}
 use Rattle.half_edges.proofs.filling.fill.Goals as goal
@@ -20,4 +22,5 @@ pub returns : goal.returns
 returns c =
     let l = c.loop-k in
     let n = triangles_count c.args.indices.now in
-    record { most = omega arith; once = l.invariant.1.once; all = λ e. filled_as (omega arith) l.invariant.1 }
+    let e : l.k ≡ length c.args.indices.now / 3 = omega arith in
+    record { most = omega arith; once = rw e at l.invariant.1.once; all = λ h. filled_as (omega (arith, h)) l.invariant.1 }

@@ -8,6 +8,3 @@ use Rattle.half_edges.proofs.filling.fill.Given as goal
 abbrev pub invariant-loop-k : goal.invariant-loop-k
 invariant-loop-k l = (l.k ≤ l.count) × FilledTable l.small (read_triangles l.indices) (l.k * 3) l.rows l.heads l.links ×
     (length l.rows ≡ length l.initial.rows) × (length l.heads ≡ length l.initial.heads) × (length l.links ≡ length l.initial.links)
-
-abbrev pub decreases-loop-k : goal.decreases-loop-k
-decreases-loop-k l = l.count - l.k

@@ -7,6 +7,3 @@ use Rattle.half_edges.proofs.opens.open_sides.Given as goal
 
 abbrev pub invariant-loop-k : goal.invariant-loop-k
 invariant-loop-k l = (l.k ≤ l.triangles) × Opens (read_triangles l.indices) (l.k * 3) l.opens l.count × (length l.opens ≡ length l.initial.opens)
-
-abbrev pub decreases-loop-k : goal.decreases-loop-k
-decreases-loop-k l = l.triangles - l.k
