@@ -2,8 +2,8 @@
 ghost use Rattle.call_answers.specs.Replies.{Says, two_words};
 ghost use Rattle.check_exports.specs.Founds.{check_says};
 
-use call_inputs::asked::{Asked, read_call};
-use check_words::found::{of_reply, of_verdict, say};
+use call_inputs::asked::read_call;
+use check_words::found::{PlacedReply, say};
 
 #[unsafe(no_mangle)]
 pub extern "C" fn yoktvarim_check_mesh(
@@ -16,13 +16,15 @@ pub extern "C" fn yoktvarim_check_mesh(
     ensures { Says two_words (check_says settings.now levels.now points.now indices.now) places.new result }
 {
     match read_call(settings, levels) {
-        Asked::Refused { reply } => say(of_reply(reply), places),
-        Asked::Known {
-            settings: set,
-            patch,
-        } => {
-            let verdict = check_mesh::check::check_mesh(patch, set, points, indices);
-            say(of_verdict(verdict), places)
+        Err(refusal) => say(PlacedReply::from(refusal), places),
+        Ok(request) => {
+            let verdict = check_mesh::check::check_mesh(
+                request.patch,
+                request.settings,
+                points,
+                indices,
+            );
+            say(PlacedReply::from(verdict), places)
         }
     }
 }

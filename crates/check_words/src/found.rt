@@ -25,30 +25,34 @@ fn told(number: u32, first: usize, second: usize) -> PlacedReply
     }
 }
 
-// Returns a refusal's number and values.
-pub fn of_reply(reply: Reply) -> PlacedReply
-    ensures { (result.number ≡ reply.number) × (result.first ≡ reply.first) × (result.second ≡ reply.second) }
-{
-    told(reply.number, reply.first as usize, reply.second as usize)
+impl From<Reply> for PlacedReply {
+    ghost from_gives = { λ reply placed. (placed.number ≡ reply.number) × (placed.first ≡ reply.first) × (placed.second ≡ reply.second) };
+
+    // Returns a refusal's number and values.
+    fn from(reply: Reply) -> PlacedReply {
+        told(reply.number, reply.first as usize, reply.second as usize)
+    }
 }
 
-pub fn of_verdict(verdict: Result<(), Fault>) -> PlacedReply
-    ensures { Finds (verdict_code verdict) result }
-{
-    match verdict {
-        Ok(()) => told(0, 0, 0),
-        Err(Fault::BadTop) => told(11, 0, 0),
-        Err(Fault::Isolines) => told(20, 0, 0),
-        Err(Fault::Dots) => told(21, 0, 0),
-        Err(Fault::ShouldBeDiscarded) => told(22, 0, 0),
-        Err(Fault::NotThrees) => told(23, 0, 0),
-        Err(Fault::UnknownIndex { place }) => told(24, place, 0),
-        Err(Fault::Outside { point }) => told(25, point, 0),
-        Err(Fault::EqualPoints { first, second }) => told(26, first, second),
-        Err(Fault::Turned { triangle }) => told(27, triangle, 0),
-        Err(Fault::SideTwice { first, second }) => told(28, first, second),
-        Err(Fault::OpenSide { triangle, corner }) => told(29, triangle, corner),
-        Err(Fault::MissingPiece { piece }) => told(30, piece, 0),
+impl From<Result<(), Fault>> for PlacedReply {
+    ghost from_gives = { λ verdict placed. Finds (verdict_code verdict) placed };
+
+    fn from(verdict: Result<(), Fault>) -> PlacedReply {
+        match verdict {
+            Ok(()) => told(0, 0, 0),
+            Err(Fault::BadTop) => told(11, 0, 0),
+            Err(Fault::Isolines) => told(20, 0, 0),
+            Err(Fault::Dots) => told(21, 0, 0),
+            Err(Fault::ShouldBeDiscarded) => told(22, 0, 0),
+            Err(Fault::NotThrees) => told(23, 0, 0),
+            Err(Fault::UnknownIndex { place }) => told(24, place, 0),
+            Err(Fault::Outside { point }) => told(25, point, 0),
+            Err(Fault::EqualPoints { first, second }) => told(26, first, second),
+            Err(Fault::Turned { triangle }) => told(27, triangle, 0),
+            Err(Fault::SideTwice { first, second }) => told(28, first, second),
+            Err(Fault::OpenSide { triangle, corner }) => told(29, triangle, corner),
+            Err(Fault::MissingPiece { piece }) => told(30, piece, 0),
+        }
     }
 }
 

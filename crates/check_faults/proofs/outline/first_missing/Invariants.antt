@@ -1,4 +1,3 @@
-use Prim.Native.Nat.{◌-◌}
 use mathlib.Core.Bool.{not}
 use Rattle.mesh_geometry.specs.Words.{read_points}
 use Rattle.check_faults.specs.JudgedMesh.{judged}

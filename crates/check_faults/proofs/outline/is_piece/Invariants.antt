@@ -1,4 +1,4 @@
-use Prim.Native.Nat.{◌-◌, ◌/◌}
+use Prim.Native.Nat.{◌/◌}
 use lib.ListN.{length}
 use Rattle.mesh_geometry.specs.Cover.{piece}
 use Rattle.mesh_geometry.specs.Words.{read_points}

@@ -1,4 +1,3 @@
-use Prim.Native.Nat.{◌-◌}
 use Rattle.mesh_geometry.specs.Words.{read_triangles}
 use Rattle.check_searches.specs.Triangles.{triangle_at, share_side}
 use Rattle.check_searches.proofs.First.{Passed}

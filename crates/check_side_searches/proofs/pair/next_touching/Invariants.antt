@@ -1,4 +1,4 @@
-use Prim.Native.Nat.{◌-◌, ◌≤◌}
+use Prim.Native.Nat.{◌≤◌}
 use Rattle.mesh_geometry.specs.Words.{read_triangles}
 use Rattle.check_side_searches.specs.Skips.{Skips}
 use Rattle.check_side_searches.proofs.pair.next_touching.Given as goal

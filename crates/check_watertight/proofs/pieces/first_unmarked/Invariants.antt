@@ -1,4 +1,4 @@
-use Prim.Native.Nat.{◌-◌, ◌≤◌}
+use Prim.Native.Nat.{◌≤◌}
 use Rattle.check_watertight.specs.Closing.{AllMarked}
 use Rattle.check_watertight.proofs.pieces.first_unmarked.Given as goal
 
