@@ -13,6 +13,7 @@ ghost use Rattle.quad_point_rows.specs.Parts.{quad_outline, quad_inside};
 
 use vertices::place::quad_place;
 
+// Kept: `triangle_point_rows` has this loop for its points; a closure for the point would need clauses on what it requires and gives.
 // Writes the points of edge k of the outline, one per place.
 fn write_edge(out: &mut [u32], at: usize, row: &[u32], k: u32) -> usize
     requires edge { k < 4 }
@@ -73,6 +74,7 @@ pub fn write_inside(out: &mut [u32], at: usize, rows: &[u32], columns: &[u32]) -
     vertices::grid::write_grid(out, at, &rows[1..m], &columns[1..n])
 }
 
+// Kept: two functions with one contract, as the caller knows which is faster; a flag in place of the names is no plainer.
 // The same point by point, which is faster for a small grid.
 pub fn write_small_inside(out: &mut [u32], at: usize, rows: &[u32], columns: &[u32]) -> usize
     requires rows { GoodRow rows.now × GoodRow columns.now }

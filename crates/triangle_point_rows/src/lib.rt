@@ -14,13 +14,14 @@ ghost use Rattle.triangle_point_rows.specs.Parts.{triangle_outline, triangle_ins
 
 use vertices::place::triangle_place;
 
-// Writes edge k of the ring `depth` units inside, a point for each place; `high` is 196608 - depth.
-fn write_edge(out: &mut [u32], at: usize, row: &[u32], depth: u32, high: u32, k: u32) -> usize
-    requires edge { (k < 3) × (high + depth ≡ 196608) }
+// Writes edge k of the ring `depth` units inside, a point for each place.
+fn write_edge(out: &mut [u32], at: usize, row: &[u32], k: u32, depth: u32) -> usize
+    requires edge { (k < 3) × (depth ≤ 65536) }
     requires clear { ClearOfEnds depth (listed row.now) }
     requires room { at + 3 * length row.now ≤ length out.old }
     ensures { Wrote out.old at (vertex_words (edge_points triangle_place k (listed row.now) depth)) out.new result }
 {
+    let high = 196608 - depth;
     let mut to = at;
     for x in row {
         let p = triangle_place(k, *x, depth, high);
@@ -35,9 +36,9 @@ fn write_edges(out: &mut [u32], at: usize, e0: &[u32], e1: &[u32], e2: &[u32]) -
     requires room { at + 3 * length (ring triangle_place 0 (listed e0.now ∷ listed e1.now ∷ listed e2.now ∷ []) 0) ≤ length out.old }
     ensures { Wrote out.old at (vertex_words (ring triangle_place 0 (listed e0.now ∷ listed e1.now ∷ listed e2.now ∷ []) 0)) out.new result }
 {
-    let w = write_edge(out, at, e0, 0, 196608, 0);
-    let w = write_edge(out, w, e1, 0, 196608, 1);
-    write_edge(out, w, e2, 0, 196608, 2)
+    let w = write_edge(out, at, e0, 0, 0);
+    let w = write_edge(out, w, e1, 1, 0);
+    write_edge(out, w, e2, 2, 0)
 }
 
 // Writes an inner ring; each edge is without its end, and the first place is the ring's depth.
@@ -48,10 +49,9 @@ fn write_ring(out: &mut [u32], at: usize, row: &[u32]) -> usize
     ensures { Wrote out.old at (vertex_words (ring_points row.now)) out.new result }
 {
     let depth = row[0];
-    let high = 196608 - depth;
-    let w = write_edge(out, at, row, depth, high, 0);
-    let w = write_edge(out, w, row, depth, high, 1);
-    write_edge(out, w, row, depth, high, 2)
+    let w = write_edge(out, at, row, 0, depth);
+    let w = write_edge(out, w, row, 1, depth);
+    write_edge(out, w, row, 2, depth)
 }
 
 // Writes a ring and all rings inside it. The next ring has the same places without the first and the last; the innermost ring has three
@@ -194,6 +194,8 @@ fn write_laid_rings(out: &mut [u32], at: usize, base: &[u32], other: &[u32], row
     write_rings(out, to, inner)
 }
 
+// Lays out the outline's points at the places of the row, and writes all rings from them.
+// Kept: arrays that have room for the longest row, since nothing here uses the heap.
 fn write_wide_rings(out: &mut [u32], at: usize, row: &[u32]) -> usize
     requires inward { Inward row.now × (length row.now ≤ 65) }
     requires room { at + 3 * length (rings_of row.now) ≤ length out.old }
@@ -201,8 +203,8 @@ fn write_wide_rings(out: &mut [u32], at: usize, row: &[u32]) -> usize
 {
     let mut base = [0u32; 195];
     let mut other = [0u32; 195];
-    write_edge(&mut base, 0, row, 0, 196608, 0);
-    write_edge(&mut other, 0, row, 0, 196608, 1);
+    write_edge(&mut base, 0, row, 0, 0);
+    write_edge(&mut other, 0, row, 1, 0);
     write_laid_rings(out, at, &base, &other, row)
 }
 
@@ -240,6 +242,7 @@ pub fn write_inside(out: &mut [u32], at: usize, row: &[u32]) -> usize
     write_all_rings(out, at, &row[1..n])
 }
 
+// Kept: two functions with one contract, as the caller knows which is faster; a flag in place of the names is no plainer.
 // The same point by point, which is faster for small rings.
 pub fn write_small_inside(out: &mut [u32], at: usize, row: &[u32]) -> usize
     requires good { GoodRow row.now × (3 ≤ length row.now) }

@@ -38,6 +38,7 @@ pub fn write_each(out: &mut [u32], at: usize, rows: &[u32], columns: &[u32]) -> 
     to
 }
 
+// Kept: an array that has room for the longest row, since nothing here uses the heap.
 // The same from one row, of which only the heights change.
 fn write_raised(out: &mut [u32], at: usize, rows: &[u32], columns: &[u32]) -> usize
     requires short { length columns.now ≤ 65 }

@@ -5,6 +5,7 @@ ghost use Rattle.mesh_geometry.specs.QuadPoints.{quad_place};
 
 use mesh_geometry::Point;
 
+// Kept: an edge is its number k here and below, since the definitions `triangle_place`, `quad_place` and `ring` count edges.
 // Returns the point at place x of edge k of a triangle patch, on the ring d units inside; `high` is 196608 - d, the start coordinate at place 0.
 pub fn triangle_place(k: u32, x: u32, d: u32, high: u32) -> Point
     requires { (k < 3) × (d ≤ x) × (x + d ≤ 65536) × (high + d ≡ 196608) }
