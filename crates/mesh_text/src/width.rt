@@ -11,23 +11,7 @@ pub fn width_of(patch: Patch, point_mode: bool) -> usize
         return 1;
     }
     match patch {
-        Patch::Triangles {
-            outer0: _,
-            outer1: _,
-            outer2: _,
-            inner0: _,
-        } => 3,
-        Patch::Quads {
-            outer0: _,
-            outer1: _,
-            outer2: _,
-            outer3: _,
-            inner0: _,
-            inner1: _,
-        } => 3,
-        Patch::Isolines {
-            outer0: _,
-            outer1: _,
-        } => 2,
+        Patch::Triangles { .. } | Patch::Quads { .. } => 3,
+        Patch::Isolines { .. } => 2,
     }
 }

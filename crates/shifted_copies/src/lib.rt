@@ -7,8 +7,8 @@ ghost use Rattle.shifted_copies.specs.Copies.{shifted, copy};
 
 // Writes the n words from `from` on again, each plus `by`, modulo 65536. A single plain loop, so that it compiles to vector code.
 fn write_copy(out: &mut [u16], from: usize, at: usize, n: usize, by: usize) -> usize
-    requires fact_1 { (from + n ≤ at) × (by ≤ 65536) }
-    requires fact_2 { at + n ≤ length out.old }
+    requires apart { (from + n ≤ at) × (by ≤ 65536) }
+    requires room { at + n ≤ length out.old }
     ensures { Wrote out.old at (shifted by (take n (drop from out.old))) out.new result }
 {
     let mut to = at;
@@ -21,8 +21,8 @@ fn write_copy(out: &mut [u16], from: usize, at: usize, n: usize, by: usize) -> u
 
 // Writes copies of the n words from `at` on until there are k in all; each round copies all that are there, or as many as are left to write.
 pub fn write_copies(out: &mut [u16], at: usize, n: usize, k: usize, by: usize) -> usize
-    requires fact_1 { (1 ≤ k) × (k ≤ 64) × (by ≤ 1024) }
-    requires fact_2 { at + k * n ≤ length out.old }
+    requires counts { (1 ≤ k) × (k ≤ 64) × (by ≤ 1024) }
+    requires room { at + k * n ≤ length out.old }
     ensures { Wrote out.old (at + n) (flat (copy by (take n (drop at out.old))) 1 (k - 1)) out.new result }
 {
     let mut to = at + n;

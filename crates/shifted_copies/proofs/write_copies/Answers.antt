@@ -9,8 +9,8 @@ loop-r-init c =
     let a = c.args in
     copying_start a.out.now a.at a.n a.k a.by (omega arith) (omega arith)
 
-pub write_copy-to-requires-clause-fact_1 : goal.write_copy-to-requires-clause-fact_1
-write_copy-to-requires-clause-fact_1 c =
+pub write_copy-to-requires-clause-apart : goal.write_copy-to-requires-clause-apart
+write_copy-to-requires-clause-apart c =
     let a = c.args in
     let l = c.loop-r in
     let m = c.min-m.result in
@@ -22,8 +22,8 @@ write_copy-to-requires-clause-fact_1 c =
     let same = l.invariant.left.same in
     (omega (arith, mul-le-mul_right a.n inside), omega (arith, mul-le-mul r by))
 
-pub write_copy-to-requires-clause-fact_2 : goal.write_copy-to-requires-clause-fact_2
-write_copy-to-requires-clause-fact_2 c =
+pub write_copy-to-requires-clause-room : goal.write_copy-to-requires-clause-room
+write_copy-to-requires-clause-room c =
     let a = c.args in
     let l = c.loop-r in
     let m = c.min-m.result in
