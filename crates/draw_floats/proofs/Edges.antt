@@ -24,11 +24,12 @@ use Rattle.patch_mesh.specs.Coordinates.{one}
 use Rattle.patch_mesh.specs.Demand.{Surface, outer_level, edges, Demand}
 use Rattle.patch_mesh.proofs.Runs.{good_run}
 use Rattle.patch_mesh.proofs.Seams.{seam}
-use Rattle.tessellate.specs.declared.answer.PointsAnswer.TheVariants.{Drawn}
+use Rattle.std.proofs.Common.{Result, Ok}
+use Rattle.measure.specs.declared.size.DrawnCounts.{DrawnCounts}
 use Rattle.level.proofs.Top.{top_as}
 use Rattle.tessellate.proofs.Together.{points_drawn}
 use Rattle.coordinate.specs.Coordinate.{coordinate}
-use Rattle.draw_floats.specs.declared.answer.FloatsAnswer.{FloatsAnswer}
+use Rattle.draw_floats.specs.declared.refusal.FloatsRefusal.{FloatsRefusal}
 use Rattle.answer_codes.specs.AnswerCode.{drew_both}
 use Rattle.draw_floats.specs.Answers.{floats_code}
 use Rattle.draw_floats.specs.Draws.{MeshLists, DrewWithFloats}
@@ -62,7 +63,7 @@ word_of ps (suc (suc zero)) j h l =
     rw z (ap (λ (q : Point). q.w) (sym (point_at ps j (3 * j) l refl)))
 word_of ps (suc (suc (suc n))) j h l = absurd (omega arith)
 
-module _ (set : Settings) (p : Patch) (r : FloatsAnswer) {before after : MeshLists} {P I : ℕ}
+module _ (set : Settings) (p : Patch) (r : Result DrawnCounts FloatsRefusal) {before after : MeshLists} {P I : ℕ}
     (d : DrewWithFloats set p before after r) (e : floats_code r ≡ drew_both P I) where
   abbrev drawn : List Point
   drawn = points (subdivision_of set p)
@@ -82,7 +83,7 @@ module _ (set : Settings) (p : Patch) (r : FloatsAnswer) {before after : MeshLis
   -- the float of a point on outer edge k is that of its place, both read from the lists
   pub edge_float_lem : Surface p → (k j : ℕ) → j < P → (edges p k).on (get_or (read_points (take (3 * P) after.vertices)) j missing) ≡ true
       → get_or after.floats (axis p k + 3 * j) nan ≡ edge_float p k ((edges p k).along (get_or (read_points (take (3 * P) after.vertices)) j missing))
-  edge_float_lem = rw (points_drawn set p (Drawn P) (as_points set p r d e) refl).2 at_place
+  edge_float_lem = rw (points_drawn set p (Ok P) (as_points set p r d e) refl).2 at_place
 
 -- ---- two edges
 map_reverse_aux : {A B : Type 0} (g : A → B) (xs ys : List A) → map g (reverse_aux xs ys) ≡ reverse_aux (map g xs) (map g ys)

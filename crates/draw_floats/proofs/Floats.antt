@@ -23,7 +23,9 @@ use Rattle.tessellate.specs.Draws.{point_words}
 use Rattle.level.proofs.Top.{top_as}
 use Rattle.coordinate.specs.Coordinate.{coordinate}
 use Rattle.coordinate.proofs.Laws.{exact, near, triangle_apart, quad_apart}
-use Rattle.draw_floats.specs.declared.answer.FloatsAnswer.{FloatsAnswer}
+use Rattle.std.proofs.Common.{Result}
+use Rattle.measure.specs.declared.size.DrawnCounts.{DrawnCounts}
+use Rattle.draw_floats.specs.declared.refusal.FloatsRefusal.{FloatsRefusal}
 use Rattle.answer_codes.specs.AnswerCode.{drew_both}
 use Rattle.draw_floats.specs.Answers.{floats_code}
 use Rattle.draw_floats.specs.Draws.{float_words, MeshLists, DrewWithFloats}
@@ -50,7 +52,7 @@ point_at [] j n h e = absurd (omega arith)
 point_at (p ∷ ps) zero n h e = let z : n ≡ 0 = omega arith in rw z
 point_at (p ∷ ps) (suc j) n h e = let z : n ≡ suc (suc (suc (3 * j))) = omega arith in rw z (point_at ps j (3 * j) (omega arith) refl)
 
-module _ (set : Settings) (p : Patch) (r : FloatsAnswer) {before after : MeshLists} {P I : ℕ}
+module _ (set : Settings) (p : Patch) (r : Result DrawnCounts FloatsRefusal) {before after : MeshLists} {P I : ℕ}
     (d : DrewWithFloats set p before after r) (e : floats_code r ≡ drew_both P I) where
   pub many : 3 * P ≡ length (point_words set p)
   many = counted set p (fits set p r d e)

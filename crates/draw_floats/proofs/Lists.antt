@@ -17,8 +17,8 @@ use Rattle.mesh_geometry.proofs.Words.{words_length}
 use Rattle.patch_mesh.specs.Points.{points}
 use Rattle.patch_mesh.specs.Coordinates.{one}
 use Rattle.patch_mesh.proofs.InPatch.{words_up_to}
-use Rattle.tessellate.specs.declared.answer.PointsAnswer.{PointsAnswer}
-use Rattle.tessellate.specs.declared.answer.IndicesAnswer.{IndicesAnswer}
+use Rattle.std.proofs.Common.{Result}
+use Rattle.tessellate.specs.declared.refusal.DrawRefusal.{DrawRefusal}
 use Rattle.measure.specs.Sizes.{points_of, indices_of}
 use Rattle.tessellate.specs.Answers.{points_code, indices_code}
 use Rattle.answer_codes.specs.AnswerCode.{drew}
@@ -38,12 +38,12 @@ one_small (Isolines a b) = omega arith
 -- vs, is and fs are the lists at entry
 module _ (set : Settings) (p : Patch) {vs is : List ℕ} {fs : List Float} {P I : ℕ} (fits : Fits set p vs is fs P I) where
   -- each operation draws
-  pub points_over : (r : PointsAnswer) {vs' : List ℕ} → DrewPoints set p vs vs' r → vs' ≡ over vs 0 (point_words set p)
+  pub points_over : (r : Result ℕ DrawRefusal) {vs' : List ℕ} → DrewPoints set p vs vs' r → vs' ≡ over vs 0 (point_words set p)
   points_over r d =
       let e : points_code r ≡ drew (points_of set p) = d.answer ∙ told_drawn set p 3 _ _ _ fits.top fits.drawn fits.vertices in
       d.list ∙ rw e
 
-  pub indices_over : (r : IndicesAnswer) {is' : List ℕ} → DrewIndices set p is is' r → is' ≡ over is 0 (connection_words set p)
+  pub indices_over : (r : Result ℕ DrawRefusal) {is' : List ℕ} → DrewIndices set p is is' r → is' ≡ over is 0 (connection_words set p)
   indices_over r d =
       let e : indices_code r ≡ drew (indices_of set p) = d.answer ∙ told_drawn set p 4 _ _ _ fits.top fits.drawn fits.corners in
       d.list ∙ rw e

@@ -1,6 +1,6 @@
 -- Which answer drawing with floats gives, by what was found. Assumes nothing.
 use Prim.Native.Nat.{ℕ, ◌+◌, ◌*◌, ◌≤◌}
-use mathlib.Core.Path.{◌≡◌, refl, sym, ap, ◌∙◌}
+use mathlib.Core.Path.{◌≡◌, refl, ap, ◌∙◌}
 use mathlib.Core.Bool.{Bool, true, false, cond}
 use mathlib.Core.List.{List}
 use native.Mathlib.Omega.{arith}
@@ -12,33 +12,39 @@ use Rattle.level.specs.Top.{is_top}
 use Rattle.patch.specs.declared.kinds.Patch.{Patch}
 use Rattle.patch.specs.declared.settings.Settings.{Settings}
 use Rattle.patch.specs.Subdivide.{discards}
+use Rattle.std.proofs.Common.{Result, Ok, Err}
+use Rattle.measure.specs.declared.cut.NotDrawn.{NotDrawn}
+use Rattle.measure.specs.declared.cut.NotDrawn.TheVariants.{BadTop, Discarded}
 use Rattle.measure.specs.declared.size.Size.{Size}
-use Rattle.measure.specs.declared.size.Size.TheVariants.{Counts, Discarded, BadTop}
 use Rattle.measure.specs.Sizes.{points_of, indices_of, size_code, measure_verdict}
 use Rattle.answer_codes.specs.AnswerCode.{AnswerCode, refused, drew_both}
 use Rattle.measure.proofs.Measured.{measured, is_measured}
-use Rattle.draw_floats.specs.declared.answer.FloatsAnswer.{FloatsAnswer}
-use Rattle.draw_floats.specs.declared.answer.FloatsAnswer.TheVariants.{Drawn}
-use Rattle.draw_floats.specs.Answers.{floats_code, floats_room_verdict, floats_verdict}
+use Rattle.draw_floats.specs.Answers.{refusal_of, floats_code, floats_room_verdict, floats_verdict}
 
 module _ (v i f : ℕ) where
   -- by the result of measuring
-  abbrev pub size_verdict : Size → AnswerCode
-  size_verdict (Counts points indices c) = floats_room_verdict points indices v i f
-  size_verdict Discarded = refused 1
-  size_verdict BadTop = refused 11
+  abbrev pub size_verdict : Result Size NotDrawn → AnswerCode
+  size_verdict (Ok size) = floats_room_verdict size.points size.indices v i f
+  size_verdict (Err Discarded) = refused 1
+  size_verdict (Err BadTop) = refused 11
 
   by_size : (set : Settings) (p : Patch) → size_verdict (measured set p) ≡ floats_verdict set p v i f
   unfolding measured floats_verdict
   by_size set p = go (is_top set.top) (discards p) _
     where
-      go : (a b : Bool) (s : Size) → size_verdict (cond a (cond b Discarded s) BadTop) ≡ cond a (cond b (refused 1) (size_verdict s)) (refused 11)
+      go : (a b : Bool) (s : Result Size NotDrawn)
+          → size_verdict (cond a (cond b (Err Discarded) s) (Err BadTop)) ≡ cond a (cond b (refused 1) (size_verdict s)) (refused 11)
       go true true s = refl
       go true false s = refl
       go false b s = refl
 
-  pub judged : (set : Settings) (p : Patch) {size s : Size} {t : AnswerCode} → size_code size ≡ measure_verdict set p → size ≡ s → t ≡ size_verdict s → t ≡ floats_verdict set p v i f
-  judged set p e is h = h ∙ ap size_verdict (sym is ∙ is_measured set p e) ∙ by_size set p
+  pub judged : (set : Settings) (p : Patch) (s : Result Size NotDrawn) → size_code s ≡ measure_verdict set p → size_verdict s ≡ floats_verdict set p v i f
+  judged set p s e = ap size_verdict (is_measured set p e) ∙ by_size set p
+
+  -- a patch that is not measured is refused for the same reason
+  pub judged_refused : (set : Settings) (p : Patch) (e : NotDrawn) → size_code (Err e) ≡ measure_verdict set p → floats_code (Err (refusal_of e)) ≡ floats_verdict set p v i f
+  judged_refused set p BadTop h = judged set p (Err BadTop) h
+  judged_refused set p Discarded h = judged set p (Err Discarded) h
 
 -- what "drawn" means: the top level is good, the patch is not discarded, each list has room, and the counts are right
 pub record Fits (set : Settings) (p : Patch) (vs is : List ℕ) (fs : List Float) (points indices : ℕ) : Type 0 where
@@ -80,8 +86,3 @@ drawn_fits set p vs is fs P I e =
       point_count_lem = ap (λ (t : AnswerCode). get_or t.values 0 0) h;
       index_count_lem = ap (λ (t : AnswerCode). get_or t.values 1 0) h;
     }
-
--- for an answer by its name
-pub answer_fits : (set : Settings) (p : Patch) (vs is : List ℕ) (fs : List Float) {P I : ℕ} (r : FloatsAnswer) → r ≡ Drawn P I
-    → floats_code r ≡ floats_verdict set p (length vs) (length is) (length fs) → Fits set p vs is fs P I
-answer_fits set p vs is fs {P} {I} r e h = drawn_fits set p vs is fs P I (ap floats_code (sym e) ∙ h)

@@ -1,21 +1,29 @@
 -- The numbers and values of the answers of drawing with floats, and which answer applies. Assumes nothing.
-use Rattle.std.specs.Prelude.{ℕ, ◌*◌, cond, ltb}
+use Rattle.std.specs.Prelude.{ℕ, ◌*◌, cond, ltb, Result, Ok, Err}
 use Rattle.patch.specs.declared.kinds.Patch.{Patch}
 use Rattle.patch.specs.declared.settings.Settings.{Settings}
 use Rattle.measure.specs.IfDrawn.{if_drawn}
 use Rattle.measure.specs.Sizes.{points_of, indices_of}
 use Rattle.answer_codes.specs.AnswerCode.{AnswerCode, refused, drew_both}
-use Rattle.draw_floats.specs.declared.answer.FloatsAnswer.{FloatsAnswer}
-use Rattle.draw_floats.specs.declared.answer.FloatsAnswer.TheVariants.{Drawn, Discarded, NoRoomForVertices, NoRoomForIndices, NoRoomForFloats, BadTop}
+use Rattle.measure.specs.declared.cut.NotDrawn.{NotDrawn}
+use Rattle.measure.specs.declared.cut.NotDrawn.TheVariants as reason
+use Rattle.measure.specs.declared.size.DrawnCounts.{DrawnCounts}
+use Rattle.draw_floats.specs.declared.refusal.FloatsRefusal.{FloatsRefusal}
+use Rattle.draw_floats.specs.declared.refusal.FloatsRefusal.TheVariants.{BadTop, Discarded, NoRoomForVertices, NoRoomForIndices, NoRoomForFloats}
+
+-- a patch that is not cut is not drawn, for the same reason
+abbrev pub refusal_of : NotDrawn → FloatsRefusal
+refusal_of reason.BadTop = BadTop
+refusal_of reason.Discarded = Discarded
 
 -- the numbers are those of the two drawing operations, and 9 if there is no room for the floats
-abbrev pub floats_code : FloatsAnswer → AnswerCode
-floats_code (Drawn points indices) = drew_both points indices
-floats_code Discarded = refused 1
-floats_code NoRoomForVertices = refused 3
-floats_code NoRoomForIndices = refused 4
-floats_code NoRoomForFloats = refused 9
-floats_code BadTop = refused 11
+abbrev pub floats_code : Result DrawnCounts FloatsRefusal → AnswerCode
+floats_code (Ok counts) = drew_both counts.points counts.indices
+floats_code (Err Discarded) = refused 1
+floats_code (Err NoRoomForVertices) = refused 3
+floats_code (Err NoRoomForIndices) = refused 4
+floats_code (Err NoRoomForFloats) = refused 9
+floats_code (Err BadTop) = refused 11
 
 -- the answer for this many points and indices, with lists of v, i and f words: each point takes three words and three floats;
 -- of the refusals that apply the lowest number is given

@@ -2,9 +2,14 @@
 // again as a float.
 ghost use Rattle.draw_floats.specs.Draws.{DrewWithFloats};
 
-use crate::answer::FloatsAnswer;
+use crate::one::one_of;
+use crate::refusal::FloatsRefusal;
+use crate::room::judge;
+use coordinate::write_coordinates;
+use measure::size::DrawnCounts;
 use patch::kinds::Patch;
 use patch::settings::Settings;
+use tessellate::draw::{draw_indices, draw_points};
 
 pub fn draw_with_floats(
     patch: Patch,
@@ -12,22 +17,19 @@ pub fn draw_with_floats(
     vertices: &mut [u32],
     indices: &mut [u16],
     floats: &mut [f32],
-) -> FloatsAnswer
+) -> Result<DrawnCounts, FloatsRefusal>
     ensures { DrewWithFloats settings patch (record { vertices = vertices.old; indices = indices.old; floats = floats.old })
         (record { vertices = vertices.new; indices = indices.new; floats = floats.new }) result }
 {
-    let answer = crate::room::judge(patch, settings, vertices.len(), indices.len(), floats.len());
-    let FloatsAnswer::Drawn { points, indices: _ } = answer else {
-        return answer;
-    };
+    let counts = judge(patch, settings, vertices.len(), indices.len(), floats.len())?;
     // Both operations draw, as all room was tested above.
-    tessellate::draw::draw_points(patch, settings, vertices);
-    tessellate::draw::draw_indices(patch, settings, indices);
-    coordinate::write_coordinates(
+    let _points = draw_points(patch, settings, vertices);
+    let _indices = draw_indices(patch, settings, indices);
+    write_coordinates(
         floats,
         vertices,
-        3 * (points as usize),
-        crate::one::one_of(patch),
+        3 * (counts.points as usize),
+        one_of(patch),
     );
-    answer
+    Ok(counts)
 }

@@ -1,11 +1,25 @@
-// The answers of drawing with floats. If drawn, the lists begin with this many points and indices, and with three floats per
-// point; otherwise nothing was written.
-#[derive(Clone, Copy, Drop)]
-pub enum FloatsAnswer {
-    Drawn { points: u32, indices: u32 },
+// Why nothing was drawn into the three lists.
+ghost use Rattle.std.specs.Prelude.{◌≡◌};
+ghost use Rattle.draw_floats.specs.Answers.{refusal_of};
+
+use measure::cut::NotDrawn;
+
+#[derive(Clone, Copy, Debug, PartialEq, Eq, Drop)]
+pub enum FloatsRefusal {
+    BadTop,
     Discarded,
     NoRoomForVertices,
     NoRoomForIndices,
     NoRoomForFloats,
-    BadTop,
+}
+
+impl From<NotDrawn> for FloatsRefusal {
+    ghost from_gives = { λ reason refusal. refusal ≡ refusal_of reason };
+
+    fn from(reason: NotDrawn) -> FloatsRefusal {
+        match reason {
+            NotDrawn::BadTop => FloatsRefusal::BadTop,
+            NotDrawn::Discarded => FloatsRefusal::Discarded,
+        }
+    }
 }

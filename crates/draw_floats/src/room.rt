@@ -2,32 +2,32 @@
 ghost use Rattle.std.specs.Prelude.{◌≡◌};
 ghost use Rattle.draw_floats.specs.Answers.{floats_code, floats_room_verdict, floats_verdict};
 
-use crate::answer::FloatsAnswer;
-use measure::size::Size;
+use crate::refusal::FloatsRefusal;
+use measure::measure;
+use measure::size::DrawnCounts;
 use patch::kinds::Patch;
 use patch::settings::Settings;
 
-// The answer for this many points and indices, with lists of these lengths.
+// The counts again, if lists of these lengths have room for so many points and indices.
 fn find_room(
-    points: u32,
-    indices: u32,
+    counts: DrawnCounts,
     vertex_words: usize,
     index_words: usize,
     float_words: usize,
-) -> FloatsAnswer
-    ensures { floats_code result ≡ floats_room_verdict points indices vertex_words index_words float_words }
+) -> Result<DrawnCounts, FloatsRefusal>
+    ensures { floats_code result ≡ floats_room_verdict counts.points counts.indices vertex_words index_words float_words }
 {
-    let words = 3 * (points as usize);
+    let words = 3 * (counts.points as usize);
     if vertex_words < words {
-        return FloatsAnswer::NoRoomForVertices;
+        return Err(FloatsRefusal::NoRoomForVertices);
     }
-    if index_words < indices as usize {
-        return FloatsAnswer::NoRoomForIndices;
+    if index_words < counts.indices as usize {
+        return Err(FloatsRefusal::NoRoomForIndices);
     }
     if float_words < words {
-        return FloatsAnswer::NoRoomForFloats;
+        return Err(FloatsRefusal::NoRoomForFloats);
     }
-    FloatsAnswer::Drawn { points, indices }
+    Ok(counts)
 }
 
 pub(crate) fn judge(
@@ -36,17 +36,13 @@ pub(crate) fn judge(
     vertex_words: usize,
     index_words: usize,
     float_words: usize,
-) -> FloatsAnswer
+) -> Result<DrawnCounts, FloatsRefusal>
     ensures { floats_code result ≡ floats_verdict settings patch vertex_words index_words float_words }
 {
-    let size = measure::measure(patch, settings);
-    match size {
-        Size::Counts {
-            points,
-            indices,
-            clamps: _,
-        } => find_room(points, indices, vertex_words, index_words, float_words),
-        Size::Discarded => FloatsAnswer::Discarded,
-        Size::BadTop => FloatsAnswer::BadTop,
-    }
+    let size = measure(patch, settings)?;
+    let counts = DrawnCounts {
+        points: size.points,
+        indices: size.indices,
+    };
+    find_room(counts, vertex_words, index_words, float_words)
 }

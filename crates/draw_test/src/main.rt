@@ -6,11 +6,15 @@ ghost use Rattle.std.specs.Prelude.{◌≤◌};
 
 use level::{Clamp, Spacing};
 use level_clamps::Clamps;
+use measure::cut::NotDrawn;
+use measure::measure;
 use measure::size::Size;
 use patch::kinds::Patch;
 use patch::settings::{DomainOrigin, Settings, VertexOrder};
+use std::fmt::Display;
 use std::io::{self, Print, Stdout};
-use tessellate::answer::{IndicesAnswer, PointsAnswer};
+use tessellate::draw::{draw_indices, draw_points};
+use tessellate::refusal::DrawRefusal;
 
 fn main(rt: HostRuntime) -> io::Result<()> {
     let out = rt.stdout();
@@ -34,8 +38,7 @@ fn main(rt: HostRuntime) -> io::Result<()> {
         9,
     )?;
     each_clamp(out)?;
-    each_top(out)?;
-    Ok(())
+    each_top(out)
 }
 
 // Levels below, inside and above the range of odd spacing; the number of isolines has equal spacing.
@@ -49,24 +52,22 @@ fn each_clamp(out: Stdout) -> io::Result<()> {
         inner0: 0.0 / 0.0,
         inner1: 63.5,
     };
-    write_size(out, measure::measure(quads, odd))?;
+    write_size(out, measure(quads, odd))?;
     let isolines = Patch::Isolines {
         outer0: 64.0,
         outer1: 64.0,
     };
-    write_size(out, measure::measure(isolines, odd))?;
-    Ok(())
+    write_size(out, measure(isolines, odd))
 }
 
 // Smaller top levels, and numbers that are not top levels: a bad top level comes before every other answer, and every list stays unchanged.
 fn each_top(out: Stdout) -> io::Result<()> {
-    write_size(out, measure::measure(triangles(3.0), odd_up_to(2)))?;
+    write_size(out, measure(triangles(3.0), odd_up_to(2)))?;
     draw_into(out, triangles(3.0), odd_up_to(2), 9, 3)?;
-    write_size(out, measure::measure(triangles(9.0), odd_up_to(4)))?;
-    write_size(out, measure::measure(isolines(0.0), odd_up_to(3)))?;
+    write_size(out, measure(triangles(9.0), odd_up_to(4)))?;
+    write_size(out, measure(isolines(0.0), odd_up_to(3)))?;
     draw_into(out, isolines(0.0), odd_up_to(0), 0, 0)?;
-    draw_into(out, triangles(2.0), odd_up_to(66), 12, 9)?;
-    Ok(())
+    draw_into(out, triangles(2.0), odd_up_to(66), 12, 9)
 }
 
 fn odd_up_to(top: u32) -> Settings {
@@ -121,13 +122,12 @@ fn each_room(out: Stdout, patch: Patch, v: usize, i: usize) -> io::Result<()>
     requires { (1 ≤ v) × (v ≤ 30) × (1 ≤ i) × (i ≤ 30) }
 {
     let usual = settings(VertexOrder::CounterClockwise, false);
-    write_size(out, measure::measure(patch, usual))?;
+    write_size(out, measure(patch, usual))?;
     draw_into(out, patch, usual, v, i)?;
     draw_into(out, patch, usual, v - 1, i)?;
     draw_into(out, patch, usual, v, i - 1)?;
     draw_into(out, patch, usual, v - 1, i - 1)?;
-    draw_into(out, patch, usual, v + 2, i + 2)?;
-    Ok(())
+    draw_into(out, patch, usual, v + 2, i + 2)
 }
 
 // Draws points and indices into the first v and i words of two lists of 32 sevens, and writes both lists in full.
@@ -136,34 +136,24 @@ fn draw_into(out: Stdout, patch: Patch, settings: Settings, v: usize, i: usize) 
 {
     let mut vertices = [7u32; 32];
     let mut indices = [7u16; 32];
-    write_points_answer(
-        out,
-        tessellate::draw::draw_points(patch, settings, &mut vertices[0..v]),
-    )?;
-    write_indices_answer(
-        out,
-        tessellate::draw::draw_indices(patch, settings, &mut indices[0..i]),
-    )?;
-    write_vertices(out, &vertices)?;
-    write_indices(out, &indices)?;
-    Ok(())
+    let drawn = draw_points(patch, settings, &mut vertices[0..v]);
+    write_answer(out, "points", drawn)?;
+    let drawn = draw_indices(patch, settings, &mut indices[0..i]);
+    write_answer(out, "indices", drawn)?;
+    write_words(out, &vertices)?;
+    write_words(out, &indices)
 }
 
-fn write_size(out: Stdout, size: Size) -> io::Result<()> {
-    match size {
-        Size::Counts {
-            points,
-            indices,
-            clamps,
-        } => {
-            write_count(out, b"measured points ", points)?;
-            write_count(out, b"measured indices ", indices)?;
-            write_clamps(out, clamps)?;
+fn write_size(out: Stdout, answer: Result<Size, NotDrawn>) -> io::Result<()> {
+    match answer {
+        Ok(size) => {
+            println!(out; "measured points {}", size.points)?;
+            println!(out; "measured indices {}", size.indices)?;
+            write_clamps(out, size.clamps)
         }
-        Size::Discarded => write_word(out, b"measured discarded\n")?,
-        Size::BadTop => write_word(out, b"measured bad top\n")?,
+        Err(NotDrawn::Discarded) => println!(out; "measured discarded"),
+        Err(NotDrawn::BadTop) => println!(out; "measured bad top"),
     }
-    Ok(())
 }
 
 // Writes where each level that counts lies, outer levels first.
@@ -174,12 +164,7 @@ fn write_clamps(out: Stdout, clamps: Clamps) -> io::Result<()> {
             outer1,
             outer2,
             inner0,
-        } => {
-            write_clamp(out, outer0)?;
-            write_clamp(out, outer1)?;
-            write_clamp(out, outer2)?;
-            write_clamp(out, inner0)?;
-        }
+        } => write_each(out, &[outer0, outer1, outer2, inner0]),
         Clamps::Quads {
             outer0,
             outer1,
@@ -187,86 +172,37 @@ fn write_clamps(out: Stdout, clamps: Clamps) -> io::Result<()> {
             outer3,
             inner0,
             inner1,
-        } => {
-            write_clamp(out, outer0)?;
-            write_clamp(out, outer1)?;
-            write_clamp(out, outer2)?;
-            write_clamp(out, outer3)?;
-            write_clamp(out, inner0)?;
-            write_clamp(out, inner1)?;
+        } => write_each(out, &[outer0, outer1, outer2, outer3, inner0, inner1]),
+        Clamps::Isolines { outer0, outer1 } => write_each(out, &[outer0, outer1]),
+    }
+}
+
+fn write_each(out: Stdout, clamps: &[Clamp]) -> io::Result<()> {
+    for clamp in clamps {
+        match clamp {
+            Clamp::Below => println!(out; "below")?,
+            Clamp::Inside => println!(out; "inside")?,
+            Clamp::Above => println!(out; "above")?,
         }
-        Clamps::Isolines { outer0, outer1 } => {
-            write_clamp(out, outer0)?;
-            write_clamp(out, outer1)?;
-        }
     }
     Ok(())
 }
 
-fn write_clamp(out: Stdout, clamp: Clamp) -> io::Result<()> {
-    match clamp {
-        Clamp::Below => write_word(out, b"below\n")?,
-        Clamp::Inside => write_word(out, b"inside\n")?,
-        Clamp::Above => write_word(out, b"above\n")?,
-    }
-    Ok(())
-}
-
-fn write_points_answer(out: Stdout, answer: PointsAnswer) -> io::Result<()> {
+// Writes the answer of drawing the `kind`, points or indices.
+fn write_answer(out: Stdout, kind: &str, answer: Result<u32, DrawRefusal>) -> io::Result<()> {
     match answer {
-        PointsAnswer::Drawn { points } => write_count(out, b"points drawn ", points)?,
-        PointsAnswer::Discarded => write_word(out, b"points discarded\n")?,
-        PointsAnswer::NoRoomForVertices => write_word(out, b"no room for vertices\n")?,
-        PointsAnswer::BadTop => write_word(out, b"points bad top\n")?,
+        Ok(count) => println!(out; "{kind} drawn {count}"),
+        Err(DrawRefusal::Discarded) => println!(out; "{kind} discarded"),
+        Err(DrawRefusal::NoRoomForVertices) => println!(out; "no room for vertices"),
+        Err(DrawRefusal::NoRoomForIndices) => println!(out; "no room for indices"),
+        Err(DrawRefusal::BadTop) => println!(out; "{kind} bad top"),
     }
-    Ok(())
 }
 
-fn write_indices_answer(out: Stdout, answer: IndicesAnswer) -> io::Result<()> {
-    match answer {
-        IndicesAnswer::Drawn { indices } => write_count(out, b"indices drawn ", indices)?,
-        IndicesAnswer::Discarded => write_word(out, b"indices discarded\n")?,
-        IndicesAnswer::NoRoomForIndices => write_word(out, b"no room for indices\n")?,
-        IndicesAnswer::BadTop => write_word(out, b"indices bad top\n")?,
+// Writes the words of a list in one line.
+fn write_words<T: Display>(out: Stdout, words: &[T]) -> io::Result<()> {
+    for word in words {
+        print!(out; " {word}")?;
     }
-    Ok(())
-}
-
-fn write_word(out: Stdout, word: &[u8]) -> io::Result<()> {
-    out.write_all(word)?;
-    Ok(())
-}
-
-fn write_count(out: Stdout, word: &[u8], count: u32) -> io::Result<()> {
-    out.write_all(word)?;
-    print!(out; "{count}")?;
-    out.write_all(b"\n")?;
-    Ok(())
-}
-
-fn write_number(out: Stdout, x: u32) -> io::Result<()> {
-    out.write_all(b" ")?;
-    print!(out; "{x}")?;
-    Ok(())
-}
-
-fn write_index(out: Stdout, x: u16) -> io::Result<()> {
-    write_number(out, x as u32)?;
-    Ok(())
-}
-
-fn write_vertices(out: Stdout, words: &[u32; 32]) -> io::Result<()> {
-    for k in 0..32usize {
-        write_number(out, words[k])?;
-    }
-    write_word(out, b"\n")?;
-    Ok(())
-}
-
-fn write_indices(out: Stdout, words: &[u16; 32]) -> io::Result<()> {
-    for k in 0..32usize {
-        write_index(out, words[k])?;
-    }
-    write_word(out, b"\n")?;
-    Ok(())
+    println!(out)
 }

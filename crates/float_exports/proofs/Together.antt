@@ -16,11 +16,17 @@ use Rattle.answer_codes.specs.AnswerCode.{AnswerCode, refused, drew_both}
 use Rattle.call_answers.specs.Replies.{two_words}
 use Rattle.call_inputs.specs.Inputs.{patch_in, settings_in}
 use Rattle.call_inputs.proofs.Known.{known_zero}
-use Rattle.draw_floats.specs.declared.answer.FloatsAnswer.TheVariants.{Drawn}
+use Rattle.std.proofs.Common.{Result, Ok}
+use Rattle.measure.specs.declared.size.DrawnCounts.{DrawnCounts}
+use Rattle.draw_floats.specs.declared.refusal.FloatsRefusal.{FloatsRefusal}
 use Rattle.draw_floats.specs.Answers.{floats_verdict}
 use Rattle.draw_floats.specs.Draws.{MeshLists, DrewWithFloats}
 use Rattle.draw_floats.proofs.Together.{together_with_floats}
 use Rattle.float_exports.specs.Calls.{FloatsCalled}
+
+-- the answer that the counts in memory tell
+abbrev pub told_counts : List ℕ → Result DrawnCounts FloatsRefusal
+told_counts c' = Ok (record { points = get_or c' 0 0; indices = get_or c' 1 0 })
 
 module _ (bs : List ℕ) (xs : List Float) where
   abbrev points : ℕ
@@ -44,7 +50,7 @@ module _ (bs : List ℕ) (xs : List Float) where
 
   module _ {before after : MeshLists} {c' : List ℕ} (d : FloatsCalled bs xs before after c' 0) where
     -- such a call is a drawing with both counts in memory
-    pub called_drew : DrewWithFloats (settings_in bs) (patch_in bs xs) before after (Drawn (get_or c' 0 0) (get_or c' 1 0))
+    pub called_drew : DrewWithFloats (settings_in bs) (patch_in bs xs) before after (told_counts c')
     called_drew =
         let v = length before.vertices in
         let i = length before.indices in
@@ -58,4 +64,4 @@ module _ (bs : List ℕ) (xs : List Float) where
         record { answer = rw (first, second) (sym z); vertices = d.vertices; indices = d.indices; floats = d.floats }
 
     pub called_with_floats : Demand (settings_in bs) (patch_in bs xs) (read_points (take (3 * get_or c' 0 0) after.vertices)) (take (get_or c' 1 0) after.indices)
-    called_with_floats = together_with_floats (settings_in bs) (patch_in bs xs) (Drawn (get_or c' 0 0) (get_or c' 1 0)) called_drew refl
+    called_with_floats = together_with_floats (settings_in bs) (patch_in bs xs) (told_counts c') called_drew refl

@@ -9,20 +9,21 @@ ghost use Rattle.call_answers.specs.Replies.{IsReply};
 ghost use Rattle.float_exports.specs.Calls.{FloatsCalled};
 
 use call_answers::reply::{Reply, bad_top, refusal, say_two, success};
-use call_inputs::asked::{Asked, read_call};
-use draw_floats::answer::FloatsAnswer;
+use call_inputs::asked::read_call;
 use draw_floats::draw::draw_with_floats;
+use draw_floats::refusal::FloatsRefusal;
+use measure::size::DrawnCounts;
 
-fn of_floats(answer: FloatsAnswer) -> Reply
+fn of_floats(answer: Result<DrawnCounts, FloatsRefusal>) -> Reply
     ensures { IsReply (floats_code answer) result }
 {
     match answer {
-        FloatsAnswer::Drawn { points, indices } => success(points, indices),
-        FloatsAnswer::Discarded => refusal(1),
-        FloatsAnswer::NoRoomForVertices => refusal(3),
-        FloatsAnswer::NoRoomForIndices => refusal(4),
-        FloatsAnswer::NoRoomForFloats => refusal(9),
-        FloatsAnswer::BadTop => bad_top(),
+        Ok(counts) => success(counts.points, counts.indices),
+        Err(FloatsRefusal::Discarded) => refusal(1),
+        Err(FloatsRefusal::NoRoomForVertices) => refusal(3),
+        Err(FloatsRefusal::NoRoomForIndices) => refusal(4),
+        Err(FloatsRefusal::NoRoomForFloats) => refusal(9),
+        Err(FloatsRefusal::BadTop) => bad_top(),
     }
 }
 
@@ -40,13 +41,12 @@ pub extern "C" fn yoktvarim_draw_with_floats(
         (record { vertices = vertices.new; indices = indices.new; floats = floats.new }) counts.new result }
 {
     match read_call(settings, levels) {
-        Asked::Refused { reply } => say_two(reply, counts),
-        Asked::Known {
-            settings: set,
-            patch,
-        } => {
-            let answer = draw_with_floats(patch, set, vertices, indices, floats);
+        Ok(request) => {
+            let answer = draw_with_floats(
+                request.patch, request.settings, vertices, indices, floats,
+            );
             say_two(of_floats(answer), counts)
         }
+        Err(reply) => say_two(reply, counts),
     }
 }

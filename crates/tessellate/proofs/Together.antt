@@ -84,14 +84,14 @@ module _ (set : Settings) (p : Patch) where
       (f.top, f.drawn, front I I d e f.count)
 
   -- demand 3 for what the two operations give for the same patch and settings
-  pub demand_together : (r : Result ℕ DrawRefusal) (s : Result ℕ DrawRefusal) {v v' i i' : List ℕ} {P I : ℕ} → DrewPoints set p v v' r → DrewIndices set p i i' s
+  pub demand_together : (r s : Result ℕ DrawRefusal) {v v' i i' : List ℕ} {P I : ℕ} → DrewPoints set p v v' r → DrewIndices set p i i' s
       → points_code r ≡ drew P → indices_code s ≡ drew I → Demand set p (read_points (take (3 * P) v')) (take I i')
   demand_together r s d d' e e' =
       let ps = points_drawn r d e in
       rw (ps.2, (indices_drawn s d' e').2) (demand set ps.0 p ps.1)
 
   -- exactly one triangle holds each spot
-  pub once_together : (r : Result ℕ DrawRefusal) (s : Result ℕ DrawRefusal) {v v' i i' : List ℕ} {P I : ℕ} → DrewPoints set p v v' r → DrewIndices set p i i' s
+  pub once_together : (r s : Result ℕ DrawRefusal) {v v' i i' : List ℕ} {P I : ℕ} → DrewPoints set p v v' r → DrewIndices set p i i' s
       → points_code r ≡ drew P → indices_code s ≡ drew I → SpotsOnce set p (read_points (take (3 * P) v')) (take I i')
   once_together r s d d' e e' = demand_once set (points_drawn r d e).0 p (demand_together r s d d' e e')
 

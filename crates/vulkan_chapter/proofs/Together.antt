@@ -12,8 +12,8 @@ use Rattle.patch.specs.declared.kinds.Patch.{Patch}
 use Rattle.patch.specs.declared.settings.Settings.{Settings}
 use Rattle.patch.specs.Subdivide.{discards}
 use Rattle.mesh_geometry.specs.Words.{read_points}
-use Rattle.tessellate.specs.declared.answer.PointsAnswer.{PointsAnswer}
-use Rattle.tessellate.specs.declared.answer.IndicesAnswer.{IndicesAnswer}
+use Rattle.std.proofs.Common.{Result}
+use Rattle.tessellate.specs.declared.refusal.DrawRefusal.{DrawRefusal}
 use Rattle.measure.specs.Sizes.{points_of, indices_of}
 use Rattle.tessellate.specs.Answers.{points_code, indices_code, list_verdict}
 use Rattle.answer_codes.specs.AnswerCode.{AnswerCode, refused, drew}
@@ -29,7 +29,7 @@ use Rattle.vulkan_chapter.proofs.Drawn.{chapter}
 
 module _ (set : Settings) (p : Patch) where
   -- both operations said "drawn", with P points and I indices: what their lists begin with meets the chapter
-  pub chapter_together : (r : PointsAnswer) (s : IndicesAnswer) {v v' i i' : List ℕ} {P I : ℕ} → DrewPoints set p v v' r → DrewIndices set p i i' s
+  pub chapter_together : (r s : Result ℕ DrawRefusal) {v v' i i' : List ℕ} {P I : ℕ} → DrewPoints set p v v' r → DrewIndices set p i i' s
       → points_code r ≡ drew P → indices_code s ≡ drew I → Chapter our_edges set p (read_points (take (3 * P) v')) (take I i')
   chapter_together r s d d' e e' =
       let ps = points_drawn set p r d e in
@@ -59,8 +59,8 @@ module _ (set : Settings) (p : Patch) where
   }
 
   -- with a good top level, each operation answers "discarded" exactly if the chapter discards the patch
-  pub discarded_points : Top set.top → (r : PointsAnswer) {v v' : List ℕ} → DrewPoints set p v v' r → DiscardedExactly p (points_code r) v v'
+  pub discarded_points : Top set.top → (r : Result ℕ DrawRefusal) {v v' : List ℕ} → DrewPoints set p v v' r → DiscardedExactly p (points_code r) v v'
   discarded_points top r {v} d = discarded_by 3 (3 * points_of set p) (length v) (points_of set p) (λ e. omega arith) top d
 
-  pub discarded_indices : Top set.top → (r : IndicesAnswer) {i i' : List ℕ} → DrewIndices set p i i' r → DiscardedExactly p (indices_code r) i i'
+  pub discarded_indices : Top set.top → (r : Result ℕ DrawRefusal) {i i' : List ℕ} → DrewIndices set p i i' r → DiscardedExactly p (indices_code r) i i'
   discarded_indices top r {i} d = discarded_by 4 (indices_of set p) (length i) (indices_of set p) (λ e. omega arith) top d

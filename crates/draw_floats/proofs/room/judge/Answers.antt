@@ -1,12 +1,13 @@
-use mathlib.Core.Path.{refl}
-use Rattle.draw_floats.proofs.Verdicts.{judged}
+use mathlib.Core.Path.{◌∙◌}
+use Rattle.std.proofs.Common.{Ok}
+use Rattle.std.proofs.lemmas.Result.{err_from_is_err_and}
+use Rattle.draw_floats.proofs.Verdicts.{judged, judged_refused}
 use Rattle.draw_floats.proofs.room.judge.Goals as goal
 
-pub returns-in-Counts : goal.returns-in-Counts
-returns-in-Counts c = judged _ _ _ _ _ c.measure-size.ensures c.in-Counts.is c.find_room.ensures
+pub returns-in_err-size : goal.returns-in_err-size
+returns-in_err-size c =
+    let p = err_from_is_err_and c.from_residual.result c.from_residual.ensures.1 in
+    rw (p.1, p.2) (judged_refused _ _ _ c.args.settings c.args.patch _ c.in_err-size.ensures)
 
-pub returns-in-Discarded : goal.returns-in-Discarded
-returns-in-Discarded c = judged _ _ _ _ _ c.measure-size.ensures c.in-Discarded.is refl
-
-pub returns-in-BadTop : goal.returns-in-BadTop
-returns-in-BadTop c = judged _ _ _ _ _ c.measure-size.ensures c.in-BadTop.is refl
+pub returns : goal.returns
+returns c = c.find_room.ensures ∙ judged _ _ _ c.args.settings c.args.patch (Ok c.in_ok-size.size) c.in_ok-size.ensures
