@@ -3,8 +3,6 @@ use Prim.Native.Nat.{ℕ, suc}
 use mathlib.Core.Path.{◌≡◌, sym, ◌∙◌}
 use mathlib.Core.List.{List, [], ◌∷◌}
 use lib.Ieee.{Float}
-use Rattle.patch.specs.declared.kinds.Patch.{Patch}
-use Rattle.patch.specs.declared.settings.Settings.{Settings}
 use Rattle.std.proofs.Common.{Result, Ok, Err}
 use Rattle.measure.specs.declared.size.DrawnCounts.{DrawnCounts}
 use Rattle.draw_floats.specs.declared.refusal.FloatsRefusal.{FloatsRefusal}

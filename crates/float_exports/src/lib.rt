@@ -43,7 +43,11 @@ pub extern "C" fn yoktvarim_draw_with_floats(
     match read_call(settings, levels) {
         Ok(request) => {
             let answer = draw_with_floats(
-                request.patch, request.settings, vertices, indices, floats,
+                request.patch,
+                request.settings,
+                vertices,
+                indices,
+                floats,
             );
             say_two(of_floats(answer), counts)
         }
