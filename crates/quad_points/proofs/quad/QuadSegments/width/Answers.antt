@@ -1,5 +1,5 @@
 use Rattle.vertices.specs.Rows.{last, then}
-use Rattle.quad_points.proofs.quad.width_of.Goals as goal
+use Rattle.quad_points.proofs.quad.QuadSegments.width.Goals as goal
 
 pub returns : goal.returns
 returns c = then c.widest-most.ensures (then c.widest-most-2.ensures

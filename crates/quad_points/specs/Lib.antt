@@ -1,0 +1,2 @@
+-- The definitions of `quad_points`.
+pub mod Patches
