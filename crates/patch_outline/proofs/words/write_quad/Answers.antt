@@ -8,8 +8,8 @@ use Rattle.mesh_geometry.proofs.Ring.{ring_length}
 use Rattle.patch_outline.proofs.Fronts.{outlined_length, none_inside, outline_front}
 use Rattle.patch_outline.proofs.words.write_quad.Goals as goal
 
-pub write_quad_patch-requires-clause-fact_3 : goal.write_quad_patch-requires-clause-fact_3
-write_quad_patch-requires-clause-fact_3 c = let a = c.args in
+pub write_quad_patch-requires-clause-room : goal.write_quad_patch-requires-clause-room
+write_quad_patch-requires-clause-room c = let a = c.args in
     let one = run (record { count = 1; scaled = 65536 }) in
     let o = none_inside (run a.e0) (run a.e1) (run a.e2) (run a.e3) one one refl in omega (arith, c.requires.room, outlined_length quad_place (run a.e0 ∷ run a.e1 ∷ run a.e2 ∷ run a.e3 ∷ []) o)
 

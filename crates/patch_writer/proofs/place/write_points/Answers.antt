@@ -22,9 +22,9 @@ pub write_plain_quad-requires : goal.write_plain_quad-requires
 unfolding points
 write_plain_quad-requires c = omega (arith, room_as (λ d. 3 * length (points d)) {d = PlainQuad} c.requires.room c.in-PlainQuad.is)
 
-pub write_quad_patch-requires-clause-fact_3 : goal.write_quad_patch-requires-clause-fact_3
+pub write_quad_patch-requires-clause-room : goal.write_quad_patch-requires-clause-room
 unfolding points
-write_quad_patch-requires-clause-fact_3 c = let e = c.in-Quad.is in
+write_quad_patch-requires-clause-room c = let e = c.in-Quad.is in
     let v = valid_as c.requires.valid e in
     let room = room_as (λ d. 3 * length (points d)) c.requires.room e in omega arith
 
