@@ -7,8 +7,9 @@ use mathlib.Core.Logic.{◌↔◌}
 use lib.Dec.{eqb}
 use lib.ListN.{length, get_or}
 use Rattle.compare_meshes.specs.declared.answer.Fault.TheVariants.{NotThrees, UnknownIndex, EqualPoints}
-use Rattle.compare_meshes.specs.declared.answer.Comparison.{Comparison}
-use Rattle.compare_meshes.specs.declared.answer.Comparison.TheVariants.{Differences, NoRoom, LeftRefused, RightRefused}
+use Rattle.compare_meshes.specs.declared.answer.CompareRefusal.{CompareRefusal}
+use Rattle.compare_meshes.specs.declared.answer.CompareRefusal.TheVariants.{NoRoom, Left, Right}
+use Rattle.std.specs.Prelude.{Result, Ok, Err}
 use Rattle.compare_meshes.specs.Answers.{MeshWords, comparison_code, compare_verdict}
 use Rattle.call_answers.specs.Replies.{one_word}
 use Rattle.compare_sameness.specs.Refusals.{AnswerMeans}
@@ -18,33 +19,33 @@ use Rattle.answer_codes.proofs.Exactly.{told_back, number_exactly, answered_exac
 use Rattle.compare_exports.specs.Calls.{CompareCalled, CompareExactly}
 
 -- the answer with this number and this count
-abbrev answer_in : ℕ → List ℕ → Comparison
+abbrev answer_in : ℕ → List ℕ → Result ℕ CompareRefusal
 answer_in n c =
-    cond (eqb n 0) (Differences (get_or c 0 0))
-    (cond (eqb n 40) (NoRoom (get_or c 0 0))
-    (cond (eqb n 41) (LeftRefused NotThrees)
-    (cond (eqb n 42) (LeftRefused UnknownIndex)
-    (cond (eqb n 43) (LeftRefused EqualPoints)
-    (cond (eqb n 44) (RightRefused NotThrees) (cond (eqb n 45) (RightRefused UnknownIndex) (RightRefused EqualPoints)))))))
+    cond (eqb n 0) (Ok (get_or c 0 0))
+    (cond (eqb n 40) (Err (NoRoom (get_or c 0 0)))
+    (cond (eqb n 41) (Err (Left NotThrees))
+    (cond (eqb n 42) (Err (Left UnknownIndex))
+    (cond (eqb n 43) (Err (Left EqualPoints))
+    (cond (eqb n 44) (Err (Right NotThrees)) (cond (eqb n 45) (Err (Right UnknownIndex)) (Err (Right EqualPoints))))))))
 
-abbrev number_of : Comparison → ℕ
+abbrev number_of : Result ℕ CompareRefusal → ℕ
 number_of a = (comparison_code a).number
 
-abbrev words_of : Comparison → List ℕ
+abbrev words_of : Result ℕ CompareRefusal → List ℕ
 words_of a = one_word (comparison_code a).values
 
-same_answer : (a : Comparison) → answer_in (number_of a) (words_of a) ≡ a
-same_answer (Differences n) = refl
-same_answer (NoRoom n) = refl
-same_answer (LeftRefused NotThrees) = refl
-same_answer (LeftRefused UnknownIndex) = refl
-same_answer (LeftRefused EqualPoints) = refl
-same_answer (RightRefused NotThrees) = refl
-same_answer (RightRefused UnknownIndex) = refl
-same_answer (RightRefused EqualPoints) = refl
+same_answer : (a : Result ℕ CompareRefusal) → answer_in (number_of a) (words_of a) ≡ a
+same_answer (Ok n) = refl
+same_answer (Err (NoRoom n)) = refl
+same_answer (Err (Left NotThrees)) = refl
+same_answer (Err (Left UnknownIndex)) = refl
+same_answer (Err (Left EqualPoints)) = refl
+same_answer (Err (Right NotThrees)) = refl
+same_answer (Err (Right UnknownIndex)) = refl
+same_answer (Err (Right EqualPoints)) = refl
 
 module _ (left right : MeshWords) where
-  exactly : (room : ℕ) (a : Comparison) → compare_verdict left right room ≡ a ↔ AnswerMeans a left right room
+  exactly : (room : ℕ) (a : Result ℕ CompareRefusal) → compare_verdict left right room ≡ a ↔ AnswerMeans a left right room
   exactly room a = (λ e. rw e at (answer_means left right room), means_answer left right room a)
 
   pub compare_call_exactly : {xs xs' c' : List ℕ} {r : ℕ} → CompareCalled left right xs xs' c' r → CompareExactly left right (length xs) c' r

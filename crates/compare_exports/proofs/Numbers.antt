@@ -6,7 +6,8 @@ use native.Mathlib.Nat.{add-zero}
 use native.Mathlib.Omega.{arith}
 use Rattle.compare_meshes.specs.declared.answer.Fault.{Fault}
 use Rattle.compare_meshes.specs.declared.answer.Fault.TheVariants.{NotThrees, UnknownIndex, EqualPoints}
-use Rattle.compare_meshes.specs.declared.answer.Comparison.{Comparison}
+use Rattle.compare_meshes.specs.declared.answer.CompareRefusal.{CompareRefusal}
+use Rattle.std.specs.Prelude.{Result}
 use Rattle.compare_meshes.specs.Answers.{fault_code, comparison_code, ListAnswered}
 use Rattle.answer_codes.specs.Drew.{list_after}
 use Rattle.draw_exports.specs.Calls.{ListCalled}
@@ -25,10 +26,10 @@ fault_told n UnknownIndex = refl
 fault_told n EqualPoints = refl
 
 -- the call reports the answer by its number and count
-pub called : (right a : Comparison) (ws xs xs' : List ℕ) (p : CountReply) → ListAnswered right a ws xs xs' → p ≡ comparison_reply (comparison_code a) → ListCalled
+pub called : (right a : Result ℕ CompareRefusal) (ws xs xs' : List ℕ) (p : CountReply) → ListAnswered right a ws xs xs' → p ≡ comparison_reply (comparison_code a) → ListCalled
     (comparison_code right) ws xs xs' (p.count ∷ []) p.number
 called right a ws xs xs' p h e =
-    let f : p ≡ comparison_reply (comparison_code right) = e ∙ ap (λ (b : Comparison). comparison_reply (comparison_code b)) h.answer in
+    let f : p ≡ comparison_reply (comparison_code right) = e ∙ ap (λ (b : Result ℕ CompareRefusal). comparison_reply (comparison_code b)) h.answer in
     record {
       says = record { number = ap (λ (q : CountReply). q.number) f; counts = ap (λ (q : CountReply). q.count ∷ []) f };
       list = h.list ∙ ap (λ (q : CountReply). list_after q.number xs ws) (sym e);

@@ -1,6 +1,6 @@
 -- What a call answers and leaves, for every input: `left` and `right` are the words of the two meshes, xs and xs' the list of
 -- differences at entry and at exit, and c' the count at exit. Assumes nothing.
-use Rattle.std.specs.Prelude.{ℕ, ◌≡◌, List, [], ◌∷◌, ◌↔◌, length, get_or}
+use Rattle.std.specs.Prelude.{ℕ, ◌≡◌, List, [], ◌∷◌, ◌↔◌, Ok, Err, length, get_or}
 use Rattle.answer_codes.specs.AnswerCode.{AnswerCode}
 use Rattle.draw_exports.specs.Calls.{ListCalled}
 use Rattle.call_answers.specs.Replies.{one_word}
@@ -9,7 +9,7 @@ use Rattle.compare_differences.specs.Differences.{differences, words}
 use Rattle.compare_meshes.specs.Answers.{MeshWords, mesh_in, compare_verdict, comparison_code}
 use Rattle.compare_meshes.specs.declared.answer.Fault.{Fault}
 use Rattle.compare_meshes.specs.declared.answer.Fault.TheVariants.{NotThrees, UnknownIndex, EqualPoints}
-use Rattle.compare_meshes.specs.declared.answer.Comparison.TheVariants.{Differences, NoRoom, LeftRefused, RightRefused}
+use Rattle.compare_meshes.specs.declared.answer.CompareRefusal.TheVariants.{NoRoom, Left, Right}
 use Rattle.compare_sameness.specs.Same.{SameMesh}
 use Rattle.compare_sameness.specs.Refusals.{Comparable, AnswerMeans}
 use Rattle.compare_exports.specs.declared.reply.CountReply.{CountReply}
@@ -36,11 +36,11 @@ pub record CompareExactly (left right : MeshWords) (room : ℕ) (c' : List ℕ) 
   -- the same for each number; 0 with the count 0: both meshes can be compared, and have the same points and triangles
   pub same : ((r ≡ 0) × (c' ≡ 0 ∷ []))
       ↔ (Comparable left.points left.indices × Comparable right.points right.indices × SameMesh (mesh_in left) (mesh_in right))
-  pub compared : (r ≡ 0) ↔ AnswerMeans (Differences (get_or c' 0 0)) left right room
-  pub no_room : (r ≡ 40) ↔ AnswerMeans (NoRoom (get_or c' 0 0)) left right room
-  pub left_not_threes : (r ≡ 41) ↔ AnswerMeans (LeftRefused NotThrees) left right room
-  pub left_unknown_index : (r ≡ 42) ↔ AnswerMeans (LeftRefused UnknownIndex) left right room
-  pub left_equal_points : (r ≡ 43) ↔ AnswerMeans (LeftRefused EqualPoints) left right room
-  pub right_not_threes : (r ≡ 44) ↔ AnswerMeans (RightRefused NotThrees) left right room
-  pub right_unknown_index : (r ≡ 45) ↔ AnswerMeans (RightRefused UnknownIndex) left right room
-  pub right_equal_points : (r ≡ 46) ↔ AnswerMeans (RightRefused EqualPoints) left right room
+  pub compared : (r ≡ 0) ↔ AnswerMeans (Ok (get_or c' 0 0)) left right room
+  pub no_room : (r ≡ 40) ↔ AnswerMeans (Err (NoRoom (get_or c' 0 0))) left right room
+  pub left_not_threes : (r ≡ 41) ↔ AnswerMeans (Err (Left NotThrees)) left right room
+  pub left_unknown_index : (r ≡ 42) ↔ AnswerMeans (Err (Left UnknownIndex)) left right room
+  pub left_equal_points : (r ≡ 43) ↔ AnswerMeans (Err (Left EqualPoints)) left right room
+  pub right_not_threes : (r ≡ 44) ↔ AnswerMeans (Err (Right NotThrees)) left right room
+  pub right_unknown_index : (r ≡ 45) ↔ AnswerMeans (Err (Right UnknownIndex)) left right room
+  pub right_equal_points : (r ≡ 46) ↔ AnswerMeans (Err (Right EqualPoints)) left right room

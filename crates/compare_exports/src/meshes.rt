@@ -2,6 +2,8 @@
 ghost use Rattle.compare_exports.specs.Calls.{CompareCalled};
 
 use crate::reply::reply_to;
+use compare_meshes::tool::compare;
+use mesh_geometry::Mesh;
 
 #[unsafe(no_mangle)]
 pub extern "C" fn yoktvarim_compare_meshes(
@@ -16,14 +18,15 @@ pub extern "C" fn yoktvarim_compare_meshes(
         (record { points = right_points.now; indices = right_indices.now })
         differences.old differences.new count.new result }
 {
-    let answer = compare_meshes::tool::compare(
-        left_points,
-        left_indices,
-        right_points,
-        right_indices,
-        differences,
-    );
-    let reply = reply_to(answer);
+    let left = Mesh {
+        points: left_points,
+        indices: left_indices,
+    };
+    let right = Mesh {
+        points: right_points,
+        indices: right_indices,
+    };
+    let reply = reply_to(compare(left, right, differences));
     *count = [reply.count];
     reply.number
 }

@@ -3,7 +3,7 @@ ghost use Rattle.std.specs.Prelude.{◌≡◌, ◌+◌};
 ghost use Rattle.compare_meshes.specs.Answers.{comparison_code};
 ghost use Rattle.compare_exports.specs.Calls.{comparison_reply, shift_of};
 
-use compare_meshes::answer::{Comparison, Fault};
+use compare_meshes::answer::{CompareRefusal, Fault};
 
 #[derive(Clone, Copy, Drop)]
 pub struct CountReply {
@@ -22,23 +22,23 @@ fn shift_of(fault: Fault) -> u32
     }
 }
 
-pub(crate) fn reply_to(answer: Comparison) -> CountReply
+pub(crate) fn reply_to(answer: Result<usize, CompareRefusal>) -> CountReply
     ensures { result ≡ comparison_reply (comparison_code answer) }
 {
     match answer {
-        Comparison::Differences(n) => CountReply {
+        Ok(n) => CountReply {
             number: 0,
             count: n as u64,
         },
-        Comparison::NoRoom(n) => CountReply {
+        Err(CompareRefusal::NoRoom(n)) => CountReply {
             number: 40,
             count: n as u64,
         },
-        Comparison::LeftRefused(fault) => CountReply {
+        Err(CompareRefusal::Left(fault)) => CountReply {
             number: 41 + shift_of(fault),
             count: 0,
         },
-        Comparison::RightRefused(fault) => CountReply {
+        Err(CompareRefusal::Right(fault)) => CountReply {
             number: 44 + shift_of(fault),
             count: 0,
         },

@@ -1,59 +1,66 @@
 // The comparison of two meshes.
-ghost use Rattle.std.specs.Prelude.{◌≡◌};
-ghost use Rattle.compare_differences.specs.Meshes.{DistinctAndNumbered, read_mesh};
+ghost use Rattle.std.specs.Prelude.{◌≡◌, IfOk, MatchResult, Ok, Err};
+ghost use Rattle.compare_differences.specs.Meshes.{read_mesh};
 ghost use Rattle.compare_differences.specs.Differences.{differences};
 ghost use Rattle.compare_table_flags.specs.Flags.{MeshFlags};
 ghost use Rattle.compare_meshes.specs.Answers.{checked, DifferencesListed, Compared};
 
-use crate::answer::{Checked, Comparison, Fault};
+use crate::answer::{CompareRefusal, Fault};
 use crate::same::same_mesh;
+use compare_differences::mesh::SoundMesh;
 use compare_lists::all::{count_differences, write_differences};
+use mesh_geometry::Mesh;
 
 // Whether a mesh can be compared.
-fn check_mesh(points: &[u32], indices: &[u16]) -> Checked
+fn check_mesh(points: &[u32], indices: &[u16]) -> Result<(), Fault>
     ensures { result ≡ checked points.now indices.now }
 {
     if points.len() % 3 != 0 {
-        return Checked::Refused(Fault::NotThrees);
+        return Err(Fault::NotThrees);
     }
     if indices.len() % 3 != 0 {
-        return Checked::Refused(Fault::NotThrees);
+        return Err(Fault::NotThrees);
     }
     let count = points.len() / 3;
     if check_searches::index::first_unknown(indices, count) < indices.len() {
-        return Checked::Refused(Fault::UnknownIndex);
+        return Err(Fault::UnknownIndex);
     }
     if equal_points::search::first_repeated(points) < count {
-        return Checked::Refused(Fault::EqualPoints);
+        return Err(Fault::EqualPoints);
     }
-    Checked::Sound
+    Ok(())
+}
+
+// Returns the mesh if it can be compared.
+fn sound_mesh<'a>(points: &'a [u32], indices: &'a [u16]) -> Result<SoundMesh<'a>, Fault>
+    ensures verdict { MatchResult result (λ _. checked points.now indices.now ≡ Ok tt) (λ f. checked points.now indices.now ≡ Err f) }
+    ensures words { IfOk result (λ m. (m.points.now ≡ points.now) × (m.indices.now ≡ indices.now)) }
+{
+    check_mesh(points, indices)?;
+    Ok(SoundMesh { points, indices })
 }
 
 // Counts the differences between two meshes, and writes them to the front of the list if they fit.
 fn list_by_flags(
-    left_points: &[u32],
-    left_indices: &[u16],
-    right_points: &[u32],
-    right_indices: &[u16],
+    left: SoundMesh,
+    right: SoundMesh,
     left_point_flags: &[u8],
     left_face_flags: &[u8],
     right_point_flags: &[u8],
     right_face_flags: &[u8],
     known: bool,
     out: &mut [u64],
-) -> Comparison
-    requires fact_1 { DistinctAndNumbered left_points.now left_indices.now }
-    requires fact_2 { DistinctAndNumbered right_points.now right_indices.now }
-    requires fact_3 { MeshFlags known left_points.now left_indices.now right_points.now right_indices.now left_point_flags.now left_face_flags.now
+) -> Result<usize, CompareRefusal>
+    requires { MeshFlags known left.points.now left.indices.now right.points.now right.indices.now left_point_flags.now left_face_flags.now
         right_point_flags.now right_face_flags.now }
-    ensures { DifferencesListed (differences (read_mesh left_points.now left_indices.now)
-        (read_mesh right_points.now right_indices.now)) out.old out.new result }
+    ensures { DifferencesListed (differences (read_mesh left.entry.points.now left.entry.indices.now)
+        (read_mesh right.entry.points.now right.entry.indices.now)) out.old out.new result }
 {
     let n = count_differences(
-        left_points,
-        left_indices,
-        right_points,
-        right_indices,
+        left.points,
+        left.indices,
+        right.points,
+        right.indices,
         known,
         left_point_flags,
         left_face_flags,
@@ -61,61 +68,55 @@ fn list_by_flags(
         right_face_flags,
     );
     if n == 0 {
-        return Comparison::Differences(0);
+        return Ok(0);
     }
     if out.len() / 3 < n {
-        return Comparison::NoRoom(n);
+        return Err(CompareRefusal::NoRoom(n));
     }
     write_differences(
         out,
-        left_points,
-        left_indices,
-        right_points,
-        right_indices,
+        left.points,
+        left.indices,
+        right.points,
+        right.indices,
         known,
         left_point_flags,
         left_face_flags,
         right_point_flags,
         right_face_flags,
     );
-    Comparison::Differences(n)
+    Ok(n)
 }
 
 // The same without given flags. Meshes with the same words have no differences; for others flags are set first, if the tables have room.
 fn list_differences(
-    left_points: &[u32],
-    left_indices: &[u16],
-    right_points: &[u32],
-    right_indices: &[u16],
+    left: SoundMesh,
+    right: SoundMesh,
     out: &mut [u64],
-) -> Comparison
-    requires fact_1 { DistinctAndNumbered left_points.now left_indices.now }
-    requires fact_2 { DistinctAndNumbered right_points.now right_indices.now }
-    ensures { DifferencesListed (differences (read_mesh left_points.now left_indices.now)
-        (read_mesh right_points.now right_indices.now)) out.old out.new result }
+) -> Result<usize, CompareRefusal>
+    ensures { DifferencesListed (differences (read_mesh left.entry.points.now left.entry.indices.now)
+        (read_mesh right.entry.points.now right.entry.indices.now)) out.old out.new result }
 {
-    if same_mesh(left_points, left_indices, right_points, right_indices) {
-        return Comparison::Differences(0);
+    if same_mesh(left.points, left.indices, right.points, right.indices) {
+        return Ok(0);
     }
     let mut left_point_flags = [1u8; 8192];
     let mut left_face_flags = [1u8; 8448];
     let mut right_point_flags = [1u8; 8192];
     let mut right_face_flags = [1u8; 8448];
     let known = compare_flags::meshes::flag_meshes(
-        left_points,
-        left_indices,
-        right_points,
-        right_indices,
+        left.points,
+        left.indices,
+        right.points,
+        right.indices,
         &mut left_point_flags,
         &mut left_face_flags,
         &mut right_point_flags,
         &mut right_face_flags,
     );
     list_by_flags(
-        left_points,
-        left_indices,
-        right_points,
-        right_indices,
+        left,
+        right,
         &left_point_flags,
         &left_face_flags,
         &right_point_flags,
@@ -125,24 +126,18 @@ fn list_differences(
     )
 }
 
-// Compares two meshes: writes three words for each point and triangle that only one of them has, or refuses.
-pub fn compare(
-    left_points: &[u32],
-    left_indices: &[u16],
-    right_points: &[u32],
-    right_indices: &[u16],
-    out: &mut [u64],
-) -> Comparison
-    ensures { Compared (record { points = left_points.now; indices = left_indices.now })
-        (record { points = right_points.now; indices = right_indices.now }) out.old out.new result }
+// Compares two meshes: writes three words for each point and triangle that only one of them has, and returns how many there are.
+pub fn compare(left: Mesh, right: Mesh, out: &mut [u64]) -> Result<usize, CompareRefusal>
+    ensures { Compared (record { points = left.entry.points.now; indices = left.entry.indices.now })
+        (record { points = right.entry.points.now; indices = right.entry.indices.now }) out.old out.new result }
 {
-    let left = check_mesh(left_points, left_indices);
-    if let Checked::Refused(fault) = left {
-        return Comparison::LeftRefused(fault);
-    }
-    let right = check_mesh(right_points, right_indices);
-    if let Checked::Refused(fault) = right {
-        return Comparison::RightRefused(fault);
-    }
-    list_differences(left_points, left_indices, right_points, right_indices, out)
+    let sound_left = match sound_mesh(left.points, left.indices) {
+        Ok(mesh) => mesh,
+        Err(fault) => return Err(CompareRefusal::Left(fault)),
+    };
+    let sound_right = match sound_mesh(right.points, right.indices) {
+        Ok(mesh) => mesh,
+        Err(fault) => return Err(CompareRefusal::Right(fault)),
+    };
+    list_differences(sound_left, sound_right, out)
 }

@@ -16,10 +16,10 @@ use Rattle.check_searches.specs.Points.{same_point, repeats, first_repeated}
 use Rattle.check_searches.proofs.First.{some_which, some_here, some_none, some_all}
 use Rattle.check_searches.proofs.Equal.{same_is, is_same}
 use Rattle.compare_meshes.specs.declared.answer.Fault.TheVariants.{NotThrees, UnknownIndex, EqualPoints}
-use Rattle.compare_meshes.specs.declared.answer.Checked.{Checked}
-use Rattle.compare_meshes.specs.declared.answer.Checked.TheVariants.{Sound, Refused}
-use Rattle.compare_meshes.specs.declared.answer.Comparison.{Comparison}
-use Rattle.compare_meshes.specs.declared.answer.Comparison.TheVariants.{Differences, NoRoom, LeftRefused, RightRefused}
+use Rattle.compare_meshes.specs.declared.answer.Fault.{Fault}
+use Rattle.compare_meshes.specs.declared.answer.CompareRefusal.{CompareRefusal}
+use Rattle.compare_meshes.specs.declared.answer.CompareRefusal.TheVariants.{NoRoom, Left, Right}
+use Rattle.std.specs.Prelude.{⊤, Result, Ok, Err}
 use Rattle.compare_meshes.specs.Answers.{MeshWords, mesh_in, checked, unless_fault, compare_verdict}
 use Rattle.compare_differences.specs.Differences.{differences}
 use Rattle.compare_sameness.specs.Same.{SameMesh}
@@ -112,18 +112,18 @@ module _ (pw iw : List ℕ) where
   check_means = go threes unknown equal refl refl refl
     where
       go : (t u v : Bool) → threes ≡ t → unknown ≡ u → equal ≡ v
-          → CheckMeans (cond t (cond u (Refused UnknownIndex) (cond v (Refused EqualPoints) Sound)) (Refused NotThrees)) pw iw
+          → CheckMeans (cond t (cond u (Err UnknownIndex) (cond v (Err EqualPoints) (Ok tt))) (Err NotThrees)) pw iw
       go false u v a b c = λ h. true≢false (sym (is_threes h) ∙ a)
       go true true v a b c = (threes_is a, unknown_is b)
       go true false true a b c = (threes_is a, known_is b, equal_is c)
       go true false false a b c = record { threes = threes_is a; numbered = known_is b; distinct = apart_is c }
 
-  pub means_check : (x : Checked) → CheckMeans x pw iw → checked pw iw ≡ x
+  pub means_check : (x : Result ⊤ Fault) → CheckMeans x pw iw → checked pw iw ≡ x
   unfolding checked
-  means_check Sound h = rw (is_threes h.threes, is_known h.numbered, is_apart h.distinct)
-  means_check (Refused NotThrees) h = rw (not_threes h)
-  means_check (Refused UnknownIndex) h = rw (is_threes h.0, is_unknown h.1)
-  means_check (Refused EqualPoints) h = rw (is_threes h.0, is_known h.1, is_equal h.2)
+  means_check (Ok u) h = rw (is_threes h.threes, is_known h.numbered, is_apart h.distinct)
+  means_check (Err NotThrees) h = rw (not_threes h)
+  means_check (Err UnknownIndex) h = rw (is_threes h.0, is_unknown h.1)
+  means_check (Err EqualPoints) h = rw (is_threes h.0, is_known h.1, is_equal h.2)
 
 -- ---- the answer
 module _ (left right : MeshWords) (room : ℕ) where
@@ -136,25 +136,25 @@ module _ (left right : MeshWords) (room : ℕ) where
       go (checked left.points left.indices) (checked right.points right.indices) (ltb room (3 * total))
       (check_means left.points left.indices) (check_means right.points right.indices) refl
     where
-      go : (a b : Checked) (s : Bool) → CheckMeans a left.points left.indices → CheckMeans b right.points right.indices → ltb room (3 * total) ≡ s
-          → AnswerMeans (unless_fault LeftRefused a (unless_fault RightRefused b (cond s (NoRoom total) (Differences total)))) left right room
-      go (Refused f) b s l r e = l
-      go Sound (Refused f) s l r e = (l, r)
-      go Sound Sound true l r e = ((l, r, refl), ltb-true room (3 * total) e)
-      go Sound Sound false l r e = ((l, r, refl), ltb-false room (3 * total) e)
+      go : (a b : Result ⊤ Fault) (s : Bool) → CheckMeans a left.points left.indices → CheckMeans b right.points right.indices → ltb room (3 * total) ≡ s
+          → AnswerMeans (unless_fault Left a (unless_fault Right b (cond s (Err (NoRoom total)) (Ok total)))) left right room
+      go (Err f) b s l r e = l
+      go (Ok u) (Err f) s l r e = (l, r)
+      go (Ok u) (Ok v) true l r e = ((l, r, refl), ltb-true room (3 * total) e)
+      go (Ok u) (Ok v) false l r e = ((l, r, refl), ltb-false room (3 * total) e)
 
-  pub means_answer : (a : Comparison) → AnswerMeans a left right room → compare_verdict left right room ≡ a
+  pub means_answer : (a : Result ℕ CompareRefusal) → AnswerMeans a left right room → compare_verdict left right room ≡ a
   unfolding compare_verdict
-  means_answer (LeftRefused f) h = rw (means_check left.points left.indices (Refused f) h)
-  means_answer (RightRefused f) h = rw (means_check left.points left.indices Sound h.0, means_check right.points right.indices (Refused f) h.1)
-  means_answer (NoRoom n) h = rw (means_check left.points left.indices Sound h.0.0, means_check right.points right.indices Sound h.0.1, h.0.2, lt-ltb room (3 * n) h.1)
-  means_answer (Differences n) h = rw (means_check left.points left.indices Sound h.0.0, means_check right.points right.indices Sound h.0.1, h.0.2, le-ltb room (3 * n) h.1)
+  means_answer (Err (Left f)) h = rw (means_check left.points left.indices (Err f) h)
+  means_answer (Err (Right f)) h = rw (means_check left.points left.indices (Ok tt) h.0, means_check right.points right.indices (Err f) h.1)
+  means_answer (Err (NoRoom n)) h = rw (means_check left.points left.indices (Ok tt) h.0.0, means_check right.points right.indices (Ok tt) h.0.1, h.0.2, lt-ltb room (3 * n) h.1)
+  means_answer (Ok n) h = rw (means_check left.points left.indices (Ok tt) h.0.0, means_check right.points right.indices (Ok tt) h.0.1, h.0.2, le-ltb room (3 * n) h.1)
 
   -- "no differences" is answered exactly if both meshes can be compared and have the same points and triangles, whatever the room
-  pub same_told : Comparable left.points left.indices → Comparable right.points right.indices → SameMesh (mesh_in left) (mesh_in right) → compare_verdict left right room ≡ Differences 0
-  same_told l r s = means_answer (Differences 0) ((l, r, ap length (same_none (mesh_in left) (mesh_in right) s)), omega arith)
+  pub same_told : Comparable left.points left.indices → Comparable right.points right.indices → SameMesh (mesh_in left) (mesh_in right) → compare_verdict left right room ≡ Ok 0
+  same_told l r s = means_answer (Ok 0) ((l, r, ap length (same_none (mesh_in left) (mesh_in right) s)), omega arith)
 
-  pub told_same : compare_verdict left right room ≡ Differences 0 → Comparable left.points left.indices × Comparable right.points right.indices × SameMesh (mesh_in left) (mesh_in right)
+  pub told_same : compare_verdict left right room ≡ Ok 0 → Comparable left.points left.indices × Comparable right.points right.indices × SameMesh (mesh_in left) (mesh_in right)
   told_same e =
       let w = rw e at answer_means in
       (w.0.0, w.0.1, none_same (mesh_in left) (mesh_in right) (empty _ w.0.2))

@@ -1,15 +1,13 @@
 -- Why a mesh is refused, in terms of its points and indices. Assumes nothing.
-use Rattle.std.specs.Prelude.{ℕ, ◌*◌, ◌%◌, ◌≤◌, ◌<◌, ◌≡◌, List, length, get_or}
+use Rattle.std.specs.Prelude.{ℕ, ◌*◌, ◌%◌, ◌≤◌, ◌<◌, ◌≡◌, List, ⊤, Result, Ok, Err, length, get_or}
 use Rattle.mesh_geometry.specs.Cover.{AllDistinct}
 use Rattle.mesh_geometry.specs.Faces.{at}
 use Rattle.mesh_geometry.specs.Words.{read_points}
 use Rattle.check_searches.specs.Indices.{AllNumbered}
 use Rattle.compare_meshes.specs.declared.answer.Fault.{Fault}
 use Rattle.compare_meshes.specs.declared.answer.Fault.TheVariants.{NotThrees, UnknownIndex, EqualPoints}
-use Rattle.compare_meshes.specs.declared.answer.Checked.{Checked}
-use Rattle.compare_meshes.specs.declared.answer.Checked.TheVariants.{Sound, Refused}
-use Rattle.compare_meshes.specs.declared.answer.Comparison.{Comparison}
-use Rattle.compare_meshes.specs.declared.answer.Comparison.TheVariants.{Differences, NoRoom, LeftRefused, RightRefused}
+use Rattle.compare_meshes.specs.declared.answer.CompareRefusal.{CompareRefusal}
+use Rattle.compare_meshes.specs.declared.answer.CompareRefusal.TheVariants.{NoRoom, Left, Right}
 use Rattle.compare_differences.specs.Differences.{differences}
 use Rattle.compare_meshes.specs.Answers.{MeshWords, mesh_in}
 
@@ -45,9 +43,9 @@ FaultMeans UnknownIndex pw iw = InThrees pw iw × PastPoints pw iw
 FaultMeans EqualPoints pw iw = InThrees pw iw × AllNumbered (length (read_points pw)) iw × TwoEqual pw
 
 -- what the check of one mesh means
-abbrev pub CheckMeans : Checked → List ℕ → List ℕ → Type 0
-CheckMeans Sound pw iw = Comparable pw iw
-CheckMeans (Refused f) pw iw = FaultMeans f pw iw
+abbrev pub CheckMeans : Result ⊤ Fault → List ℕ → List ℕ → Type 0
+CheckMeans (Ok u) pw iw = Comparable pw iw
+CheckMeans (Err f) pw iw = FaultMeans f pw iw
 
 -- both meshes can be compared, and have n differences
 abbrev pub HasDifferences : MeshWords → MeshWords → ℕ → Type 0
@@ -55,8 +53,8 @@ HasDifferences left right n =
     Comparable left.points left.indices × Comparable right.points right.indices × (length (differences (mesh_in left) (mesh_in right)) ≡ n)
 
 -- what each answer means, for a list of `room` words: the left mesh is checked first, and room last
-abbrev pub AnswerMeans : Comparison → MeshWords → MeshWords → ℕ → Type 0
-AnswerMeans (LeftRefused f) left right room = FaultMeans f left.points left.indices
-AnswerMeans (RightRefused f) left right room = Comparable left.points left.indices × FaultMeans f right.points right.indices
-AnswerMeans (NoRoom n) left right room = HasDifferences left right n × (room < 3 * n)
-AnswerMeans (Differences n) left right room = HasDifferences left right n × (3 * n ≤ room)
+abbrev pub AnswerMeans : Result ℕ CompareRefusal → MeshWords → MeshWords → ℕ → Type 0
+AnswerMeans (Err (Left f)) left right room = FaultMeans f left.points left.indices
+AnswerMeans (Err (Right f)) left right room = Comparable left.points left.indices × FaultMeans f right.points right.indices
+AnswerMeans (Err (NoRoom n)) left right room = HasDifferences left right n × (room < 3 * n)
+AnswerMeans (Ok n) left right room = HasDifferences left right n × (3 * n ≤ room)

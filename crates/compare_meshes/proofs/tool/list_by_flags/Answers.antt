@@ -11,6 +11,6 @@ returns-then-n-eq0 c = listed_none _ _ _ c.count_differences-n.ensures c.if-n-eq
 pub write_differences-requires-clause-fact_4 : goal.write_differences-requires-clause-fact_4
 write_differences-requires-clause-fact_4 c =
     let a = c.args in
-    let l = read_mesh a.left_points.now a.left_indices.now in
-    let r = read_mesh a.right_points.now a.right_indices.now in
+    let l = read_mesh a.left.points.now a.left.indices.now in
+    let r = read_mesh a.right.points.now a.right.indices.now in
     omega (arith, words_length (differences l r), c.count_differences-n.ensures, c.if-out-n.false)
