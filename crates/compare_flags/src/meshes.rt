@@ -1,65 +1,52 @@
 // The flags of two meshes.
 ghost use Rattle.std.specs.Prelude.{◌≡◌, true};
-ghost use Rattle.compare_differences.specs.Meshes.{DistinctAndNumbered};
 ghost use Rattle.compare_table_flags.specs.Flags.{ManySides, AllSet, MeshFlags};
 
 use crate::side::flag_side;
+use compare_differences::mesh::SoundMesh;
+use compare_table_flags::flags::Flags;
 
 // Whether the tables have room for a mesh: up to 8192 points and 8448 triangles. The largest patch has 4225 points and 8192 triangles.
-fn has_room(points: &[u32], indices: &[u16]) -> bool
-    ensures { result ≡ true → ManySides points.now indices.now }
+fn has_room(mesh: SoundMesh) -> bool
+    ensures { result ≡ true → ManySides mesh.entry.points.now mesh.entry.indices.now }
 {
-    if 24576 < points.len() {
-        return false;
-    }
-    if 25344 < indices.len() {
-        return false;
-    }
-    true
+    mesh.points.len() <= 24576 && mesh.indices.len() <= 25344
 }
 
 // Clears the flags of all points and triangles that are not differences; returns false, with no flags known, if a mesh is too large for the
-// tables. Every flag is 1 before the call.
+// tables. Every flag is set before the call.
 pub fn flag_meshes(
-    left_points: &[u32],
-    left_indices: &[u16],
-    right_points: &[u32],
-    right_indices: &[u16],
-    left_point_flags: &mut [u8],
-    left_face_flags: &mut [u8],
-    right_point_flags: &mut [u8],
-    right_face_flags: &mut [u8],
+    left: SoundMesh,
+    right: SoundMesh,
+    left_flags: &mut Flags,
+    right_flags: &mut Flags,
 ) -> bool
-    requires fact_1 { DistinctAndNumbered left_points.now left_indices.now }
-    requires fact_2 { DistinctAndNumbered right_points.now right_indices.now }
-    requires fact_3 { AllSet 8192 left_point_flags.old × AllSet 8448 left_face_flags.old × AllSet 8192 right_point_flags.old × AllSet 8448
-        right_face_flags.old }
-    ensures { MeshFlags result left_points.now left_indices.now right_points.now right_indices.now
-        left_point_flags.new left_face_flags.new right_point_flags.new right_face_flags.new }
+    requires left_set { AllSet 8192 left_flags.old.points × AllSet 8448 left_flags.old.faces }
+    requires right_set { AllSet 8192 right_flags.old.points × AllSet 8448 right_flags.old.faces }
+    ensures left_told { result ≡ true → MeshFlags left.entry.points.now left.entry.indices.now right.entry.points.now right.entry.indices.now
+        left_flags.new.points left_flags.new.faces }
+    ensures right_told { result ≡ true → MeshFlags right.entry.points.now right.entry.indices.now left.entry.points.now left.entry.indices.now
+        right_flags.new.points right_flags.new.faces }
 {
-    if !has_room(left_points, left_indices) {
+    if !has_room(left) {
         return false;
     }
-    if !has_room(right_points, right_indices) {
+    if !has_room(right) {
         return false;
     }
     flag_side(
-        left_points,
-        left_indices,
-        right_points,
-        right_indices,
-        left_point_flags,
-        left_face_flags,
-        right_face_flags,
+        left,
+        right,
+        &mut left_flags.points,
+        &mut left_flags.faces,
+        &mut right_flags.faces,
     );
     flag_side(
-        right_points,
-        right_indices,
-        left_points,
-        left_indices,
-        right_point_flags,
-        right_face_flags,
-        left_face_flags,
+        right,
+        left,
+        &mut right_flags.points,
+        &mut right_flags.faces,
+        &mut left_flags.faces,
     );
     true
 }

@@ -6,6 +6,7 @@ use mathlib.Core.List.{List, [], ◌∷◌, ◌++◌}
 use native.Mathlib.Nat.{add-zero}
 use native.Mathlib.Omega.{arith}
 use lib.ListN.{length, length-append}
+use mir.Val.{bool_byte}
 use Rattle.buffer.specs.Over.{flat}
 use Rattle.buffer.proofs.Laws.{flat_step, flat_all, flat_done}
 use Rattle.shifted_copies.proofs.Shifts.{flat_below}
@@ -19,7 +20,6 @@ use Rattle.compare_differences.specs.Lacking.{Row, passing, lacks, lacking}
 use Rattle.compare_differences.specs.Meshes.{Mesh, read_mesh, point_row, face_row, same_face}
 use Rattle.compare_differences.proofs.Tests.{lacks_found, in_order}
 use Rattle.compare_table_flags.specs.Flags.{is_set, Flagged}
-use Rattle.compare_table_flags.proofs.Tables.{flag_tells}
 use Rattle.compare_differences.specs.Differences.{Difference, each, differences, words, words_if}
 
 -- the number k, if it passes
@@ -51,16 +51,24 @@ tally_step {t} {k} {n} {c} {d} l e h =
     let m = cond_most (t k) in
     record { within = omega arith; small = omega arith; left = omega arith }
 
+byte_is : (b : Bool) → ◌≡◌ {A = ℕ} (bool_byte b) (cond b 1 0)
+byte_is true = refl
+byte_is false = refl
+
+-- a number is counted if a test of it, as a number, says so
+pub tally_told : {t : ℕ → Bool} {k n c d : ℕ} (b : Bool) → k < n → d ≡ bool_byte b → b ≡ t k → Tally t k n c → Tally t (k + 1) n (c + d)
+tally_told b l e h = tally_step l (e ∙ byte_is b ∙ ap (λ (x : Bool). cond x 1 0) h)
+
 pub tally_done : {t : ℕ → Bool} {k n c : ℕ} → n ≤ k → Tally t k n c → c ≡ length (passing t n)
 tally_done {t} {k} {n} {c} l h =
     let s = ap length (flat_done (one t) k n l) in
     omega arith
 
 -- the flags that are set are those of the numbers that pass the test
-pub flags_pass : {t : ℕ → Bool} {n m c : ℕ} {fs : List ℕ} → Flagged t n fs → n ≡ m → c ≡ length (passing (is_set fs) n) → c ≡ length (passing t m)
+pub flags_pass : {t : ℕ → Bool} {n m c : ℕ} {fs : List Bool} → Flagged t n fs → n ≡ m → c ≡ length (passing (is_set fs) n) → c ≡ length (passing t m)
 unfolding passing
 flags_pass {t} {n} {m} {c} {fs} h e p =
-    p ∙ ap length (flat_below (one (is_set fs)) (one t) 0 n (λ j l. ap (λ (b : Bool). cond b (j ∷ []) []) (flag_tells h j (omega arith)))) ∙ ap (λ (k : ℕ). length (flat (one t) 0 k)) e
+    p ∙ ap length (flat_below (one (is_set fs)) (one t) 0 n (λ j l. ap (λ (b : Bool). cond b (j ∷ []) []) (h.each j (omega arith)))) ∙ ap (λ (k : ℕ). length (flat (one t) 0 k)) e
 
 -- no more than all numbers pass
 flat_most : (t : ℕ → Bool) (i k : ℕ) → length (flat (one t) i k) ≤ k

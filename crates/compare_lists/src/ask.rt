@@ -2,51 +2,27 @@
 ghost use Rattle.std.specs.Prelude.{◌≡◌, ◌/◌, ◌<◌, length};
 ghost use Rattle.check_searches.specs.Points.{same_point};
 ghost use Rattle.compare_differences.specs.Lacking.{lacks};
-ghost use Rattle.compare_differences.specs.Meshes.{NoneRepeated, DistinctAndNumbered, point_row, face_row, same_face};
-ghost use Rattle.compare_table_flags.specs.Flags.{PointFlags, FaceFlags};
+ghost use Rattle.compare_differences.specs.Meshes.{point_row, face_row, same_face};
 
-use compare_differences::mesh::SoundMesh;
+use crate::side::Side;
 
-pub(crate) fn lacks_point(
-    points: &[u32],
-    k: usize,
-    others: &[u32],
-    known: bool,
-    flags: &[u8],
-) -> bool
-    requires fact_1 { k < length points.now / 3 }
-    requires fact_2 { NoneRepeated points.now }
-    requires fact_3 { PointFlags known points.now others.now flags.now }
-    ensures { result ≡ lacks same_point (point_row points.now) (point_row others.now) k }
+pub(crate) fn lacks_point(side: Side, k: usize) -> bool
+    requires { k < length side.mesh.points.now / 3 }
+    ensures { result ≡ lacks same_point (point_row side.entry.mesh.points.now) (point_row side.entry.other.points.now) k }
 {
-    if known {
-        return flags[k] == 1;
+    match side.flags {
+        Some(flags) => flags.points[k],
+        None => compare_differences::side::lacks_point(side.mesh.points, k, side.other.points),
     }
-    compare_differences::side::lacks_point(points, k, others)
 }
 
-pub(crate) fn lacks_face(
-    points: &[u32],
-    indices: &[u16],
-    k: usize,
-    other_points: &[u32],
-    other_indices: &[u16],
-    known: bool,
-    flags: &[u8],
-) -> bool
-    requires fact_1 { k < length indices.now / 3 }
-    requires fact_2 { DistinctAndNumbered points.now indices.now }
-    requires fact_3 { DistinctAndNumbered other_points.now other_indices.now }
-    requires fact_4 { FaceFlags known points.now indices.now other_points.now other_indices.now flags.now }
-    ensures { result ≡ lacks same_face (face_row points.now indices.now) (face_row other_points.now other_indices.now) k }
+pub(crate) fn lacks_face(side: Side, k: usize) -> bool
+    requires { k < length side.mesh.indices.now / 3 }
+    ensures { result ≡ lacks same_face (face_row side.entry.mesh.points.now side.entry.mesh.indices.now)
+        (face_row side.entry.other.points.now side.entry.other.indices.now) k }
 {
-    if known {
-        return flags[k] == 1;
+    match side.flags {
+        Some(flags) => flags.faces[k],
+        None => compare_differences::side::lacks_face(side.mesh, k, side.other),
     }
-    let mesh = SoundMesh { points, indices };
-    let other = SoundMesh {
-        points: other_points,
-        indices: other_indices,
-    };
-    compare_differences::side::lacks_face(mesh, k, other)
 }

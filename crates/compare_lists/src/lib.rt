@@ -5,3 +5,4 @@
 pub mod all;
 mod ask;
 mod list;
+mod side;

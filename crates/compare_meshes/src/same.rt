@@ -1,6 +1,8 @@
 // Whether two meshes have the same words.
 ghost use Rattle.std.specs.Prelude.{◌≡◌, true, length};
 
+use compare_differences::mesh::SoundMesh;
+
 // Whether two lists of points of the same length have the same words. It always reads all of them, so that it can compare several at
 // once.
 fn same_points(xs: &[u32], ys: &[u32]) -> bool
@@ -31,22 +33,17 @@ fn same_indices(xs: &[u16], ys: &[u16]) -> bool
 }
 
 // Whether two meshes are equal word by word.
-pub(crate) fn same_mesh(
-    left_points: &[u32],
-    left_indices: &[u16],
-    right_points: &[u32],
-    right_indices: &[u16],
-) -> bool
-    ensures { result ≡ true → (left_points.now ≡ right_points.now) × (left_indices.now ≡ right_indices.now) }
+pub(crate) fn same_mesh(left: SoundMesh, right: SoundMesh) -> bool
+    ensures { result ≡ true → (left.entry.points.now ≡ right.entry.points.now) × (left.entry.indices.now ≡ right.entry.indices.now) }
 {
-    if left_points.len() != right_points.len() {
+    if left.points.len() != right.points.len() {
         return false;
     }
-    if left_indices.len() != right_indices.len() {
+    if left.indices.len() != right.indices.len() {
         return false;
     }
-    if !same_points(left_points, right_points) {
+    if !same_points(left.points, right.points) {
         return false;
     }
-    same_indices(left_indices, right_indices)
+    same_indices(left.indices, right.indices)
 }

@@ -1,4 +1,5 @@
 // The comparison of two meshes.
+ghost use Rattle.std.specs.Option.{ForSome};
 ghost use Rattle.std.specs.Prelude.{◌≡◌, IfOk, MatchResult, Ok, Err};
 ghost use Rattle.compare_differences.specs.Meshes.{read_mesh};
 ghost use Rattle.compare_differences.specs.Differences.{differences};
@@ -8,7 +9,9 @@ ghost use Rattle.compare_meshes.specs.Answers.{checked, DifferencesListed, Compa
 use crate::answer::{CompareRefusal, Fault};
 use crate::same::same_mesh;
 use compare_differences::mesh::SoundMesh;
+use compare_flags::meshes::flag_meshes;
 use compare_lists::all::{count_differences, write_differences};
+use compare_table_flags::flags::Flags;
 use mesh_geometry::Mesh;
 
 // Whether a mesh can be compared.
@@ -44,47 +47,25 @@ fn sound_mesh<'a>(points: &'a [u32], indices: &'a [u16]) -> Result<SoundMesh<'a>
 fn list_by_flags(
     left: SoundMesh,
     right: SoundMesh,
-    left_point_flags: &[u8],
-    left_face_flags: &[u8],
-    right_point_flags: &[u8],
-    right_face_flags: &[u8],
-    known: bool,
+    left_flags: Option<&Flags>,
+    right_flags: Option<&Flags>,
     out: &mut [u64],
 ) -> Result<usize, CompareRefusal>
-    requires { MeshFlags known left.points.now left.indices.now right.points.now right.indices.now left_point_flags.now left_face_flags.now
-        right_point_flags.now right_face_flags.now }
+    requires left_told { ForSome left_flags (λ f. MeshFlags left.points.now left.indices.now right.points.now right.indices.now
+        f.now.points f.now.faces) }
+    requires right_told { ForSome right_flags (λ f. MeshFlags right.points.now right.indices.now left.points.now left.indices.now
+        f.now.points f.now.faces) }
     ensures { DifferencesListed (differences (read_mesh left.entry.points.now left.entry.indices.now)
         (read_mesh right.entry.points.now right.entry.indices.now)) out.old out.new result }
 {
-    let n = count_differences(
-        left.points,
-        left.indices,
-        right.points,
-        right.indices,
-        known,
-        left_point_flags,
-        left_face_flags,
-        right_point_flags,
-        right_face_flags,
-    );
+    let n = count_differences(left, right, left_flags, right_flags);
     if n == 0 {
         return Ok(0);
     }
     if out.len() / 3 < n {
         return Err(CompareRefusal::NoRoom(n));
     }
-    write_differences(
-        out,
-        left.points,
-        left.indices,
-        right.points,
-        right.indices,
-        known,
-        left_point_flags,
-        left_face_flags,
-        right_point_flags,
-        right_face_flags,
-    );
+    write_differences(out, left, right, left_flags, right_flags);
     Ok(n)
 }
 
@@ -97,33 +78,21 @@ fn list_differences(
     ensures { DifferencesListed (differences (read_mesh left.entry.points.now left.entry.indices.now)
         (read_mesh right.entry.points.now right.entry.indices.now)) out.old out.new result }
 {
-    if same_mesh(left.points, left.indices, right.points, right.indices) {
+    if same_mesh(left, right) {
         return Ok(0);
     }
-    let mut left_point_flags = [1u8; 8192];
-    let mut left_face_flags = [1u8; 8448];
-    let mut right_point_flags = [1u8; 8192];
-    let mut right_face_flags = [1u8; 8448];
-    let known = compare_flags::meshes::flag_meshes(
-        left.points,
-        left.indices,
-        right.points,
-        right.indices,
-        &mut left_point_flags,
-        &mut left_face_flags,
-        &mut right_point_flags,
-        &mut right_face_flags,
-    );
-    list_by_flags(
-        left,
-        right,
-        &left_point_flags,
-        &left_face_flags,
-        &right_point_flags,
-        &right_face_flags,
-        known,
-        out,
-    )
+    let mut left_flags = Flags {
+        points: [true; 8192],
+        faces: [true; 8448],
+    };
+    let mut right_flags = Flags {
+        points: [true; 8192],
+        faces: [true; 8448],
+    };
+    if flag_meshes(left, right, &mut left_flags, &mut right_flags) {
+        return list_by_flags(left, right, Some(&left_flags), Some(&right_flags), out);
+    }
+    list_by_flags(left, right, None, None, out)
 }
 
 // Compares two meshes: writes three words for each point and triangle that only one of them has, and returns how many there are.

@@ -1,12 +1,12 @@
 -- How partners and flags are updated, and what follows from them. Assumes nothing.
 use Prim.Native.Nat.{ℕ, zero, suc, ◌+◌, ◌/◌, ◌≤◌, ◌<◌}
 use mathlib.Core.Path.{◌≡◌, refl, sym, ap, ◌∙◌}
-use mathlib.Core.Bool.{Bool, true, false, cond, not, ◌&&◌, true≢false}
+use mathlib.Core.Bool.{Bool, true, false, not, ◌&&◌}
 use mathlib.Core.List.{List}
 use native.Mathlib.Omega.{arith}
 use native.Mathlib.Decide.{dec_le}
-use lib.Dec.{eqb}
-use borrow.Author.Tests.{eq-eqb, ne_eqb}
+use lib.Dec.{leb}
+use borrow.Author.Tests.{le-leb, lt-leb}
 use lib.ListN.{length, get_or, set, length-set, replicate}
 use lib.Seq.{get_or-set_same, get_or-set_other}
 use Rattle.mesh_geometry.specs.declared.Point.{Point}
@@ -14,7 +14,7 @@ use Rattle.mesh_geometry.specs.Cover.{Face}
 use Rattle.mesh_geometry.specs.Faces.{at, face_of}
 use Rattle.mesh_geometry.specs.Words.{read_points, read_triangles}
 use Rattle.check_searches.specs.First.{some_below}
-use Rattle.check_searches.specs.Points.{first_repeated}
+use Rattle.check_searches.specs.Points.{same_point, first_repeated}
 use Rattle.check_searches.specs.Triangles.{triangle_at}
 use Rattle.check_searches.proofs.Read.{points_count, triangles_count}
 use Rattle.check_side_searches.specs.Same.{same_triangle}
@@ -23,12 +23,12 @@ use Rattle.check_searches.specs.Indices.{AllNumbered}
 use Rattle.point_table.specs.Trees.{PointTable}
 use Rattle.triangle_table.specs.Hits.{some_face}
 use Rattle.std.specs.Prelude.{Some, None}
-use Rattle.compare_differences.specs.Lacking.{among}
-use Rattle.compare_differences.specs.Meshes.{NoneRepeated, DistinctAndNumbered, face_row, same_face}
+use Rattle.compare_differences.specs.Lacking.{among, lacks}
+use Rattle.compare_differences.specs.Meshes.{NoneRepeated, DistinctAndNumbered, point_row, face_row, same_face}
 use Rattle.compare_differences.specs.Found.{PointFound, Cornered}
 use Rattle.compare_differences.proofs.Numbers.{match_found, missing_p, missing_q, missing_r}
-use Rattle.compare_differences.proofs.Lacks.{has_found, has_missing, among_own}
-use Rattle.compare_table_flags.specs.Flags.{Partners, Partnered, AllSet, Narrowed, Flagged, KnownFlags, no_same_face, is_first}
+use Rattle.compare_differences.proofs.Lacks.{point_found, point_missing, has_found, has_missing, among_own}
+use Rattle.compare_table_flags.specs.Flags.{Partners, Partnered, AllSet, Narrowed, Flagged, no_same_face, is_first}
 
 -- ---- a table of all points
 pub table_whole : {ow : List ℕ} {slots r : ℕ} {t : List ℕ} → NoneRepeated ow → r ≡ first_repeated (read_points ow) → PointTable (read_points ow) slots r t →
@@ -50,42 +50,39 @@ partners_more {pw} {ow} {ms} {n} p r h l e f = record { each = one }
     ]
 
 -- ---- flags
-pub narrowed_none : (t : ℕ → Bool) (fs : List ℕ) → Narrowed t 0 fs fs
+pub narrowed_none : (t : ℕ → Bool) (fs : List Bool) → Narrowed t 0 fs fs
 narrowed_none t fs = record { size = refl; each = λ k l. absurd (omega arith); rest = λ k l. refl }
 
-pub narrowed_more : {t : ℕ → Bool} {fs gs : List ℕ} {n : ℕ} (r : ℕ) → Narrowed t n fs gs → n < length gs → r ≡ cond (eqb (get_or gs n 0) 1 && t n) 1 0 → Narrowed t (n + 1) fs (set gs n r)
+pub narrowed_more : {t : ℕ → Bool} {fs gs : List Bool} {n : ℕ} (r : Bool) → Narrowed t n fs gs → n < length gs → r ≡ (get_or gs n false && t n)
+    → Narrowed t (n + 1) fs (set gs n r)
 narrowed_more {t} {fs} {gs} {n} r h l e = record {
   size = length-set gs n r ∙ h.size;
   each = one;
-  rest = λ k m. get_or-set_other gs n k r 0 (λ d. omega arith) ∙ h.rest k (omega arith);
+  rest = λ k m. get_or-set_other gs n k r false (λ d. omega arith) ∙ h.rest k (omega arith);
 }
   where
-    one : (k : ℕ) → k < n + 1 → get_or (set gs n r) k 0 ≡ cond (eqb (get_or fs k 0) 1 && t k) 1 0
+    one : (k : ℕ) → k < n + 1 → get_or (set gs n r) k false ≡ (get_or fs k false && t k)
     one k m = elim (dec_le n k) [
-      | yes q ↦ (let d : k ≡ n = omega arith in rw (d, get_or-set_same gs n r 0 l) (e ∙ ap (λ (f : ℕ). cond (eqb f 1 && t n) 1 0) (h.rest n (omega arith))))
-      | no q ↦ get_or-set_other gs n k r 0 (λ d. q (omega arith)) ∙ h.each k (omega arith)
+      | yes q ↦ (let d : k ≡ n = omega arith in rw (d, get_or-set_same gs n r false l) (e ∙ ap (λ (f : Bool). f && t n) (h.rest n (omega arith))))
+      | no q ↦ get_or-set_other gs n k r false (λ d. q (omega arith)) ∙ h.each k (omega arith)
     ]
 
-pub narrowed_all : {t : ℕ → Bool} {m n : ℕ} {fs gs : List ℕ} → Narrowed t m fs gs → m ≡ n → Narrowed t n fs gs
+pub narrowed_all : {t : ℕ → Bool} {m n : ℕ} {fs gs : List Bool} → Narrowed t m fs gs → m ≡ n → Narrowed t n fs gs
 narrowed_all h e = rw e at h
 
 -- flags that were all set, narrowed by one test and by two tests
-pub flagged_once : {t : ℕ → Bool} {m n : ℕ} {fs gs : List ℕ} → AllSet m fs → n ≤ m → Narrowed t n fs gs → Flagged t n gs
+pub flagged_once : {t : ℕ → Bool} {m n : ℕ} {fs gs : List Bool} → AllSet m fs → n ≤ m → Narrowed t n fs gs → Flagged t n gs
 flagged_once {t} {m} {n} {fs} {gs} a l h = record {
   room = omega (arith, a.room, h.size);
-  each = λ k b. h.each k b ∙ ap (λ (f : ℕ). cond (eqb f 1 && t k) 1 0) (a.each k (omega arith));
+  each = λ k b. h.each k b ∙ ap (λ (f : Bool). f && t k) (a.each k (omega arith));
 }
 
-flag_and : (b c : Bool) → ◌≡◌ {A = ℕ} (cond (eqb (cond b 1 0) 1 && c) 1 0) (cond (b && c) 1 0)
-flag_and true c = refl
-flag_and false c = refl
-
-pub flagged_twice : {s t u : ℕ → Bool} {m n : ℕ} {fs gs hs : List ℕ} → AllSet m fs → n ≤ m → Narrowed s n fs gs → Narrowed t n gs hs → ((k : ℕ) → (s k && t k) ≡ u k) → Flagged u n hs
+pub flagged_twice : {s t u : ℕ → Bool} {m n : ℕ} {fs gs hs : List Bool} → AllSet m fs → n ≤ m → Narrowed s n fs gs → Narrowed t n gs hs → ((k : ℕ) → (s k && t k) ≡ u k) → Flagged u n hs
 flagged_twice {s} {t} {u} a l g h e =
     let f = flagged_once a l g in
     record {
       room = omega (arith, f.room, h.size);
-      each = λ k b. h.each k b ∙ ap (λ (x : ℕ). cond (eqb x 1 && t k) 1 0) (f.each k b) ∙ flag_and (s k) (t k) ∙ ap (λ (x : Bool). cond x 1 0) (e k);
+      each = λ k b. h.each k b ∙ ap (λ (x : Bool). x && t k) (f.each k b) ∙ e k;
     }
 
 pub and_turned : (b c : Bool) → (b && c) ≡ (c && b)
@@ -94,30 +91,28 @@ and_turned true false = refl
 and_turned false true = refl
 and_turned false false = refl
 
-one_at : (n k : ℕ) → k < n → ◌≡◌ {A = ℕ} (get_or (replicate n 1) k 0) 1
-one_at zero k l = absurd (omega arith)
-one_at (suc n) zero l = refl
-one_at (suc n) (suc k) l = one_at n k (omega arith)
+set_at : (n k : ℕ) → k < n → get_or (replicate n true) k false ≡ true
+set_at zero k l = absurd (omega arith)
+set_at (suc n) zero l = refl
+set_at (suc n) (suc k) l = set_at n k (omega arith)
 
-pub all_set : (n : ℕ) → n ≤ length (replicate {A = ℕ} n 1) → AllSet n (replicate n 1)
-all_set n l = record { room = l; each = one_at n }
+pub all_set : (n : ℕ) → n ≤ length (replicate n true) → AllSet n (replicate n true)
+all_set n l = record { room = l; each = set_at n }
 
-flag_test : (b : Bool) → eqb (cond b 1 0) 1 ≡ b
-flag_test true = refl
-flag_test false = refl
+-- a flag that a test decides, and one that was cleared before
+pub flag_asked : (flag r b : Bool) → flag ≡ true → r ≡ b → r ≡ (flag && b)
+flag_asked flag r b e f = rw e f
 
-pub flag_tells : {t : ℕ → Bool} {n : ℕ} {fs : List ℕ} → Flagged t n fs → (k : ℕ) → k < n → eqb (get_or fs k 0) 1 ≡ t k
-flag_tells {t} h k l = rw (h.each k l) (flag_test (t k))
+pub flag_gone : (flag b : Bool) → flag ≡ false → flag ≡ (flag && b)
+flag_gone flag b e = rw e
 
--- a flag that was 0, a flag that a test clears, and a flag that stays
-pub flag_gone : (flag : ℕ) (b : Bool) → (flag ≡ 1 → ⊥) → ◌≡◌ {A = ℕ} 0 (cond (eqb flag 1 && b) 1 0)
-flag_gone flag b e = rw (ne_eqb flag 1 e)
-
-pub flag_falls : (flag : ℕ) (r b : Bool) → flag ≡ 1 → r ≡ true → not r ≡ b → ◌≡◌ {A = ℕ} 0 (cond (eqb flag 1 && b) 1 0)
-flag_falls flag r b e h f = rw (eq-eqb flag 1 e, ← f, h)
-
-pub flag_stays : (flag : ℕ) (r b : Bool) → flag ≡ 1 → r ≡ false → not r ≡ b → ◌≡◌ {A = ℕ} 1 (cond (eqb flag 1 && b) 1 0)
-flag_stays flag r b e h f = rw (eq-eqb flag 1 e, ← f, h)
+-- ---- a point whose partner is known
+pub point_asked : (pw ow : List ℕ) (k r : ℕ) → NoneRepeated pw → k < length pw / 3 → PointFound (read_points ow) (length ow / 3) (at (read_points pw) k) r
+    → leb (length ow / 3) r ≡ lacks same_point (point_row pw) (point_row ow) k
+point_asked pw ow k r s m h = elim (dec_le (length ow / 3) r) [
+  | yes q ↦ rw (le-leb (length ow / 3) r q) (sym (point_missing pw ow k _ r refl s m h q))
+  | no q ↦ rw (lt-leb (length ow / 3) r (omega arith)) (sym (point_found pw ow k _ r refl h (omega arith)))
+]
 
 -- ---- the corners of a triangle by their partners
 module _ (pw ow jw ms : List ℕ) (g : DistinctAndNumbered ow jw) (small : (k : ℕ) → get_or jw k 0 < 65536) (p : Partnered pw ow ms) (t : Triangle) (m : Cornered (length pw / 3) t) where
@@ -156,13 +151,6 @@ pub first_is : (pw iw : List ℕ) (k : ℕ) (t : Triangle) (q : Bool) → t ≡ 
     ((i : ℕ) → get_or iw i 0 < 65536) → k < length iw / 3 → q ≡ some_face (read_triangles iw) t k
     → not q ≡ is_first pw iw k
 first_is pw iw k t q e g small l h = ap not (h ∙ ap (λ (u : Triangle). some_below (λ i. same_triangle (triangle_at (read_triangles iw) i) u) k) e ∙ among_own pw iw g small k l)
-
--- ---- flags that are known, and those that are not
-pub known_all : {t : ℕ → Bool} {n : ℕ} {fs : List ℕ} → Flagged t n fs → KnownFlags true t n fs
-known_all h = record { is = λ e. h }
-
-pub known_none : {t : ℕ → Bool} {n : ℕ} {fs : List ℕ} → KnownFlags false t n fs
-known_none = record { is = λ e. absurd (true≢false (sym e)) }
 
 -- ---- the indices of a mesh that can be compared fit a table for its points
 pub numbered_in : (pw iw : List ℕ) (n : ℕ) → DistinctAndNumbered pw iw → length pw / 3 ≤ n → AllNumbered n iw

@@ -1,5 +1,5 @@
 -- Partners of points, and flags. Assumes nothing.
-use Rattle.std.specs.Prelude.{ℕ, ◌*◌, ◌/◌, ◌≤◌, ◌<◌, ◌≡◌, Bool, true, cond, not, ◌&&◌, List, eqb, length, get_or}
+use Rattle.std.specs.Prelude.{ℕ, ◌*◌, ◌/◌, ◌≤◌, ◌<◌, ◌≡◌, Bool, true, false, not, ◌&&◌, List, length, get_or}
 use Rattle.mesh_geometry.specs.Faces.{at}
 use Rattle.mesh_geometry.specs.Words.{read_points, read_triangles}
 use Rattle.half_edge_chains.specs.Links.{Linked}
@@ -37,41 +37,35 @@ no_same_face pw iw ow jw k = not (among same_face (face_row ow jw) (face_row ow 
 abbrev pub is_first : List ℕ → List ℕ → ℕ → Bool
 is_first pw iw k = not (among same_face (face_row pw iw) k ((face_row pw iw).entry k))
 
--- the first n flags are there and are 1
-pub record AllSet (n : ℕ) (fs : List ℕ) : Type 0 where
+-- the first n flags are there and are set
+pub record AllSet (n : ℕ) (fs : List Bool) : Type 0 where
   pub room : n ≤ length fs
-  pub each : (k : ℕ) → k < n → get_or fs k 0 ≡ 1
+  pub each : (k : ℕ) → k < n → get_or fs k false ≡ true
 
--- each of the first n flags that is 1 and passes the test stays 1, and the others of them become 0
-pub record Narrowed (t : ℕ → Bool) (n : ℕ) (fs gs : List ℕ) : Type 0 where
+-- each of the first n flags that is set and passes the test stays set, and the others of them are cleared
+pub record Narrowed (t : ℕ → Bool) (n : ℕ) (fs gs : List Bool) : Type 0 where
   pub size : length gs ≡ length fs
-  pub each : (k : ℕ) → k < n → get_or gs k 0 ≡ cond (eqb (get_or fs k 0) 1 && t k) 1 0
-  pub rest : (k : ℕ) → n ≤ k → get_or gs k 0 ≡ get_or fs k 0
+  pub each : (k : ℕ) → k < n → get_or gs k false ≡ (get_or fs k false && t k)
+  pub rest : (k : ℕ) → n ≤ k → get_or gs k false ≡ get_or fs k false
 
--- whether flag k is 1
-abbrev pub is_set : List ℕ → ℕ → Bool
-is_set fs k = eqb (get_or fs k 0) 1
+-- whether flag k is set
+abbrev pub is_set : List Bool → ℕ → Bool
+is_set fs k = get_or fs k false
 
--- flag k is 1 for each of the first n numbers k that passes the test, and 0 for the others of them
-pub record Flagged (t : ℕ → Bool) (n : ℕ) (fs : List ℕ) : Type 0 where
+-- flag k is set for each of the first n numbers k that passes the test, and not for the others of them
+pub record Flagged (t : ℕ → Bool) (n : ℕ) (fs : List Bool) : Type 0 where
   pub room : n ≤ length fs
-  pub each : (k : ℕ) → k < n → get_or fs k 0 ≡ cond (t k) 1 0
+  pub each : (k : ℕ) → k < n → get_or fs k false ≡ t k
 
--- the same, if the flags are known
-pub record KnownFlags (known : Bool) (t : ℕ → Bool) (n : ℕ) (fs : List ℕ) : Type 0 where
-  pub is : known ≡ true → Flagged t n fs
-
--- the flags of all points, if they are known: whether the other mesh lacks the point
-abbrev pub PointFlags : Bool → List ℕ → List ℕ → List ℕ → Type 0
-PointFlags known pw ow fs = KnownFlags known (lacks same_point (point_row pw) (point_row ow)) (length pw / 3) fs
+-- the flags of all points: whether the other mesh lacks the point
+abbrev pub PointFlags : List ℕ → List ℕ → List Bool → Type 0
+PointFlags pw ow fs = Flagged (lacks same_point (point_row pw) (point_row ow)) (length pw / 3) fs
 
 -- the same for all triangles
-abbrev pub FaceFlags : Bool → List ℕ → List ℕ → List ℕ → List ℕ → List ℕ → Type 0
-FaceFlags known pw iw ow jw fs = KnownFlags known (lacks same_face (face_row pw iw) (face_row ow jw)) (length iw / 3) fs
+abbrev pub FaceFlags : List ℕ → List ℕ → List ℕ → List ℕ → List Bool → Type 0
+FaceFlags pw iw ow jw fs = Flagged (lacks same_face (face_row pw iw) (face_row ow jw)) (length iw / 3) fs
 
--- the flags of all points and triangles of a left and a right mesh, if they are known
-pub record MeshFlags (known : Bool) (lp li rp ri left_points_lem left_faces_lem right_points_lem right_faces_lem : List ℕ) : Type 0 where
-  pub points : PointFlags known lp rp left_points_lem
-  pub faces : FaceFlags known lp li rp ri left_faces_lem
-  pub back_points : PointFlags known rp lp right_points_lem
-  pub back_faces : FaceFlags known rp ri lp li right_faces_lem
+-- the flags of all points and triangles of a mesh
+pub record MeshFlags (pw iw ow jw : List ℕ) (points faces : List Bool) : Type 0 where
+  pub points_told : PointFlags pw ow points
+  pub faces_told : FaceFlags pw iw ow jw faces

@@ -7,6 +7,7 @@ ghost use Rattle.compare_differences.specs.Meshes.{face_row, same_face};
 ghost use Rattle.compare_differences.specs.Found.{Cornered};
 ghost use Rattle.compare_table_flags.specs.Flags.{SideTable, Partnered};
 
+use compare_differences::mesh::SoundMesh;
 use strip::triangle::Triangle;
 use triangle_table::has_triangle;
 
@@ -14,33 +15,29 @@ use triangle_table::has_triangle;
 pub(crate) fn has_face(
     points: &[u32],
     t: Triangle,
-    others: &[u32],
-    other_indices: &[u16],
+    other: SoundMesh,
     partners: &[u16],
     heads: &[u16],
     links: &[u32],
 ) -> bool
-    requires fact_1 { Cornered (length points.now / 3) t }
-    requires fact_2 { SideTable others.now other_indices.now heads.now links.now }
-    requires fact_3 { Partnered points.now others.now partners.now }
-    ensures { result ≡ among same_face (face_row others.now other_indices.now)
-        (face_row others.now other_indices.now).count (face_of (at (read_points points.now)) t) }
+    requires cornered { Cornered (length points.now / 3) t }
+    requires table { SideTable other.points.now other.indices.now heads.now links.now }
+    requires partnered { Partnered points.now other.points.now partners.now }
+    ensures { result ≡ among same_face (face_row other.entry.points.now other.entry.indices.now)
+        (face_row other.entry.points.now other.entry.indices.now).count (face_of (at (read_points points.now)) t) }
 {
-    let count = others.len() / 3;
-    let a = t.a;
-    let x = partners[a as usize];
+    let count = other.points.len() / 3;
+    let x = partners[t.a as usize];
     if count <= x as usize {
         return false;
     }
-    let b = t.b;
-    let y = partners[b as usize];
+    let y = partners[t.b as usize];
     if count <= y as usize {
         return false;
     }
-    let c = t.c;
-    let z = partners[c as usize];
+    let z = partners[t.c as usize];
     if count <= z as usize {
         return false;
     }
-    has_triangle(other_indices, heads, links, Triangle { a: x, b: y, c: z })
+    has_triangle(other.indices, heads, links, Triangle { a: x, b: y, c: z })
 }

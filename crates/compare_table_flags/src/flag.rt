@@ -1,148 +1,97 @@
-// The flags of points and triangles. Each flag starts as 1, and stays 1 if it passes every test.
-ghost use Rattle.std.specs.Prelude.{◌≡◌, ◌&&◌, cond, ◌/◌, ◌≤◌, ◌<◌, eqb, length};
+// The flags of points and triangles. Each flag is set at first, and stays set if it passes every test.
+ghost use Rattle.std.specs.Prelude.{◌≡◌, ◌&&◌, ◌/◌, ◌≤◌, ◌<◌, length};
 ghost use Rattle.check_searches.specs.Points.{same_point};
 ghost use Rattle.compare_differences.specs.Lacking.{lacks};
-ghost use Rattle.compare_differences.specs.Meshes.{NoneRepeated, DistinctAndNumbered, point_row};
+ghost use Rattle.compare_differences.specs.Meshes.{NoneRepeated, point_row};
 ghost use Rattle.compare_table_flags.specs.Flags.{SideTable, Partnered, Narrowed, no_same_face, is_first};
 
 use crate::face::has_face;
 use check_searches::triangle::triangle_at;
+use compare_differences::mesh::SoundMesh;
 use triangle_table::has_earlier;
 
-// Returns the flag of point k: unchanged if the other mesh lacks the point, else 0.
-fn point_flag(points: &[u32], k: usize, others: &[u32], partners: &[u16], flag: u8) -> u8
-    requires fact_1 { k < length points.now / 3 }
-    requires fact_2 { NoneRepeated points.now }
-    requires fact_3 { Partnered points.now others.now partners.now }
-    ensures { result ≡ cond (eqb flag 1 && lacks same_point (point_row points.now) (point_row others.now) k) 1 0 }
+// Returns the flag of point k: unchanged if the other mesh lacks the point.
+fn point_flag(points: &[u32], k: usize, others: &[u32], partners: &[u16], flag: bool) -> bool
+    requires in_range { k < length points.now / 3 }
+    requires distinct { NoneRepeated points.now }
+    requires partnered { Partnered points.now others.now partners.now }
+    ensures { result ≡ (flag && lacks same_point (point_row points.now) (point_row others.now) k) }
 {
-    let count = others.len() / 3;
-    if flag != 1 {
-        return 0;
-    }
-    if (partners[k] as usize) < count {
-        return 0;
-    }
-    1
+    flag && others.len() / 3 <= partners[k] as usize
 }
 
-pub fn flag_points(points: &[u32], others: &[u32], partners: &[u16], flags: &mut [u8])
-    requires fact_1 { NoneRepeated points.now }
-    requires fact_2 { Partnered points.now others.now partners.now }
-    requires fact_3 { length points.now / 3 ≤ length flags.old }
+pub fn flag_points(points: &[u32], others: &[u32], partners: &[u16], flags: &mut [bool])
+    requires distinct { NoneRepeated points.now }
+    requires partnered { Partnered points.now others.now partners.now }
+    requires room { length points.now / 3 ≤ length flags.old }
     ensures { Narrowed (lacks same_point (point_row points.now) (point_row others.now)) (length points.now / 3) flags.old flags.new }
 {
-    let count = points.len() / 3;
-    let mut k = 0;
-    while k < count {
+    for k in 0..points.len() / 3 {
         flags[k] = point_flag(points, k, others, partners, flags[k]);
-        k += 1;
     }
 }
 
-// Returns the flag of triangle k: unchanged if the other mesh lacks the triangle, else 0.
+// Returns the flag of triangle k: unchanged if the other mesh lacks the triangle.
 fn missing_flag(
-    points: &[u32],
-    indices: &[u16],
+    mesh: SoundMesh,
     k: usize,
-    others: &[u32],
-    other_indices: &[u16],
+    other: SoundMesh,
     partners: &[u16],
     heads: &[u16],
     links: &[u32],
-    flag: u8,
-) -> u8
-    requires fact_1 { k < length indices.now / 3 }
-    requires fact_2 { DistinctAndNumbered points.now indices.now }
-    requires fact_3 { SideTable others.now other_indices.now heads.now links.now }
-    requires fact_4 { Partnered points.now others.now partners.now }
-    ensures { result ≡ cond (eqb flag 1 && no_same_face points.now indices.now others.now other_indices.now k) 1 0 }
+    flag: bool,
+) -> bool
+    requires in_range { k < length mesh.indices.now / 3 }
+    requires table { SideTable other.points.now other.indices.now heads.now links.now }
+    requires partnered { Partnered mesh.points.now other.points.now partners.now }
+    ensures { result ≡ (flag && no_same_face mesh.entry.points.now mesh.entry.indices.now other.entry.points.now other.entry.indices.now k) }
 {
-    if flag != 1 {
-        return 0;
-    }
-    if has_face(
-        points,
-        triangle_at(indices, k),
-        others,
-        other_indices,
+    flag && !has_face(
+        mesh.points,
+        triangle_at(mesh.indices, k),
+        other,
         partners,
         heads,
         links,
-    ) {
-        return 0;
-    }
-    1
+    )
 }
 
 // Sets the flags of all triangles to that, with a table of the other mesh's sides.
 pub fn flag_missing(
-    points: &[u32],
-    indices: &[u16],
-    others: &[u32],
-    other_indices: &[u16],
+    mesh: SoundMesh,
+    other: SoundMesh,
     partners: &[u16],
     heads: &[u16],
     links: &[u32],
-    flags: &mut [u8],
+    flags: &mut [bool],
 )
-    requires fact_1 { DistinctAndNumbered points.now indices.now }
-    requires fact_2 { SideTable others.now other_indices.now heads.now links.now }
-    requires fact_3 { Partnered points.now others.now partners.now }
-    requires fact_4 { length indices.now / 3 ≤ length flags.old }
-    ensures { Narrowed (no_same_face points.now indices.now others.now other_indices.now)
-        (length indices.now / 3) flags.old flags.new }
+    requires table { SideTable other.points.now other.indices.now heads.now links.now }
+    requires partnered { Partnered mesh.points.now other.points.now partners.now }
+    requires room { length mesh.indices.now / 3 ≤ length flags.old }
+    ensures { Narrowed (no_same_face mesh.entry.points.now mesh.entry.indices.now other.entry.points.now other.entry.indices.now)
+        (length mesh.entry.indices.now / 3) flags.old flags.new }
 {
-    let count = indices.len() / 3;
-    let mut k = 0;
-    while k < count {
-        flags[k] = missing_flag(
-            points,
-            indices,
-            k,
-            others,
-            other_indices,
-            partners,
-            heads,
-            links,
-            flags[k],
-        );
-        k += 1;
+    for k in 0..mesh.indices.len() / 3 {
+        flags[k] = missing_flag(mesh, k, other, partners, heads, links, flags[k]);
     }
 }
 
-// Returns the flag of triangle k: unchanged if no earlier triangle of its own mesh is the same, else 0.
-fn first_flag(
-    points: &[u32],
-    indices: &[u16],
-    k: usize,
-    heads: &[u16],
-    links: &[u32],
-    flag: u8,
-) -> u8
-    requires fact_1 { k < length indices.now / 3 }
-    requires fact_2 { SideTable points.now indices.now heads.now links.now }
-    ensures { result ≡ cond (eqb flag 1 && is_first points.now indices.now k) 1 0 }
+// Returns the flag of triangle k: unchanged if no earlier triangle of its own mesh is the same.
+fn first_flag(mesh: SoundMesh, k: usize, heads: &[u16], links: &[u32], flag: bool) -> bool
+    requires in_range { k < length mesh.indices.now / 3 }
+    requires table { SideTable mesh.points.now mesh.indices.now heads.now links.now }
+    ensures { result ≡ (flag && is_first mesh.entry.points.now mesh.entry.indices.now k) }
 {
-    if flag != 1 {
-        return 0;
-    }
-    if has_earlier(indices, heads, links, k, triangle_at(indices, k)) {
-        return 0;
-    }
-    1
+    flag && !has_earlier(mesh.indices, heads, links, k, triangle_at(mesh.indices, k))
 }
 
 // Sets the flags of all triangles to that, with a table of the mesh's own sides.
-pub fn flag_first(points: &[u32], indices: &[u16], heads: &[u16], links: &[u32], flags: &mut [u8])
-    requires fact_1 { SideTable points.now indices.now heads.now links.now }
-    requires fact_2 { length indices.now / 3 ≤ length flags.old }
-    ensures { Narrowed (is_first points.now indices.now) (length indices.now / 3) flags.old flags.new }
+pub fn flag_first(mesh: SoundMesh, heads: &[u16], links: &[u32], flags: &mut [bool])
+    requires table { SideTable mesh.points.now mesh.indices.now heads.now links.now }
+    requires room { length mesh.indices.now / 3 ≤ length flags.old }
+    ensures { Narrowed (is_first mesh.entry.points.now mesh.entry.indices.now) (length mesh.entry.indices.now / 3) flags.old flags.new }
 {
-    let count = indices.len() / 3;
-    let mut k = 0;
-    while k < count {
-        flags[k] = first_flag(points, indices, k, heads, links, flags[k]);
-        k += 1;
+    for k in 0..mesh.indices.len() / 3 {
+        flags[k] = first_flag(mesh, k, heads, links, flags[k]);
     }
 }

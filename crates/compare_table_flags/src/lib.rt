@@ -4,4 +4,5 @@
 
 mod face;
 pub mod flag;
+pub mod flags;
 pub mod partner;

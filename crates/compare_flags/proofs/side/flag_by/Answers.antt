@@ -4,4 +4,4 @@ use Rattle.compare_flags.proofs.side.flag_by.Goals as goal
 pub fill-requires-clause-numbered : goal.fill-requires-clause-numbered
 fill-requires-clause-numbered c =
     let p = c.requires in
-    numbered_in _ _ _ p.fact_1.others p.fact_4.0
+    numbered_in _ _ _ p.flaggable.others p.room.0

@@ -1,4 +1,3 @@
-use Prim.Native.Nat.{◌-◌}
 use Rattle.check_searches.specs.Points.{same_point}
 use Rattle.compare_differences.specs.Lacking.{lacks}
 use Rattle.compare_differences.specs.Meshes.{point_row}
@@ -6,7 +5,4 @@ use Rattle.compare_lists.proofs.Passing.{Tally}
 use Rattle.compare_lists.proofs.list.count_points.Given as goal
 
 abbrev pub invariant-loop-k : goal.invariant-loop-k
-invariant-loop-k l = Tally (lacks same_point (point_row l.points) (point_row l.others)) l.k l.count l.n
-
-abbrev pub decreases-loop-k : goal.decreases-loop-k
-decreases-loop-k l = l.count - l.k
+invariant-loop-k l = Tally (lacks same_point (point_row l.side.mesh.points.now) (point_row l.side.other.points.now)) l.k l.count l.n

@@ -1,12 +1,13 @@
 use native.Mathlib.Omega.{arith}
-use Rattle.compare_lists.proofs.Passing.{tally_start, tally_step, tally_done}
+use mathlib.Core.Path.{refl}
+use Rattle.compare_lists.proofs.Passing.{tally_start, tally_told, tally_done}
 use Rattle.compare_lists.proofs.list.count_set.Goals as goal
 
 pub loop-k-init : goal.loop-k-init
 loop-k-init c = tally_start
 
 pub loop-k-preserved : goal.loop-k-preserved
-loop-k-preserved c = tally_step (omega arith) c.one_if-n.ensures c.loop-k.invariant
+loop-k-preserved c = tally_told _ (omega arith) c.from-n.ensures refl c.loop-k.invariant
 
 pub returns : goal.returns
 returns c = tally_done c.loop-k-test.false c.loop-k.invariant

@@ -1,10 +1,6 @@
-use Prim.Native.Nat.{◌-◌}
 use Rattle.compare_table_flags.specs.Flags.{is_set}
 use Rattle.compare_lists.proofs.Passing.{Tally}
 use Rattle.compare_lists.proofs.list.count_set.Given as goal
 
 abbrev pub invariant-loop-k : goal.invariant-loop-k
 invariant-loop-k l = Tally (is_set l.flags) l.k l.count l.n
-
-abbrev pub decreases-loop-k : goal.decreases-loop-k
-decreases-loop-k l = l.count - l.k

@@ -12,21 +12,21 @@ use Rattle.compare_lists.proofs.list.write_faces.Goals as goal
 
 pub loop-k-init : goal.loop-k-init
 loop-k-init c =
-    let a = c.args in
-    let e = passing_words 1 a.side (lacks same_face (face_row a.points.now a.indices.now) (face_row a.other_points.now a.other_indices.now)) _ _ (triangles_count a.indices.now) in
-    count_start (omega (arith, ap length e, c.requires.fact_4))
+    let s = c.args.side in
+    let e = passing_words 1 c.args.number (lacks same_face (face_row s.mesh.points.now s.mesh.indices.now) (face_row s.other.points.now s.other.indices.now)) _ _ (triangles_count s.mesh.indices.now) in
+    count_start (omega (arith, ap length e, c.requires))
 
 pub put_if-to-requires : goal.put_if-to-requires
-put_if-to-requires c = rw c.lacks_face-is.ensures (count_fits (omega arith) c.loop-k.invariant)
+put_if-to-requires c = rw c.lacks_face.ensures (count_fits (omega arith) c.loop-k.invariant)
 
 pub loop-k-preserved : goal.loop-k-preserved
 loop-k-preserved c =
     let l = c.loop-k in
-    let side = c.args.side in
-    count_step (omega arith) (wrote_as (λ (b : Bool). words_if 1 side b l.k) (sym c.lacks_face-is.ensures) c.put_if-to.ensures) l.invariant
+    let number = c.args.number in
+    count_step (omega arith) (wrote_as (λ (b : Bool). words_if 1 number b l.k) (sym c.lacks_face.ensures) c.put_if-to.ensures) l.invariant
 
 pub returns : goal.returns
 returns c =
-    let a = c.args in
-    let e = passing_words 1 a.side (lacks same_face (face_row a.points.now a.indices.now) (face_row a.other_points.now a.other_indices.now)) _ _ (triangles_count a.indices.now) in
+    let s = c.args.side in
+    let e = passing_words 1 c.args.number (lacks same_face (face_row s.mesh.points.now s.mesh.indices.now) (face_row s.other.points.now s.other.indices.now)) _ _ (triangles_count s.mesh.indices.now) in
     rw e (count_done c.loop-k-test.false c.loop-k.invariant)

@@ -1,4 +1,5 @@
-use Prim.Native.Nat.{◌-◌}
+use Prim.Native.Nat.{◌/◌}
+use lib.ListN.{length}
 use Rattle.buffer.proofs.Laws.{Counting}
 use Rattle.compare_differences.specs.Lacking.{lacks}
 use Rattle.compare_differences.specs.Meshes.{face_row, same_face}
@@ -6,8 +7,5 @@ use Rattle.compare_differences.specs.Differences.{words_if}
 use Rattle.compare_lists.proofs.list.write_faces.Given as goal
 
 abbrev pub invariant-loop-k : goal.invariant-loop-k
-invariant-loop-k l = Counting
-    (λ i. words_if 1 l.side (lacks same_face (face_row l.points l.indices) (face_row l.other_points l.other_indices) i) i) l.k l.count l.out l.to l.initial.out l.at
-
-abbrev pub decreases-loop-k : goal.decreases-loop-k
-decreases-loop-k l = l.count - l.k
+invariant-loop-k l = Counting (λ i. words_if 1 l.number (lacks same_face (face_row l.side.mesh.points.now l.side.mesh.indices.now) (face_row l.side.other.points.now l.side.other.indices.now) i) i) l.k
+    (length l.side.mesh.indices.now / 3) l.out l.to l.initial.out l.at

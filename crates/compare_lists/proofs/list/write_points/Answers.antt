@@ -13,9 +13,9 @@ use Rattle.compare_lists.proofs.list.write_points.Goals as goal
 
 pub loop-k-init : goal.loop-k-init
 loop-k-init c =
-    let a = c.args in
-    let e = passing_words 0 a.side (lacks same_point (point_row a.points.now) (point_row a.others.now)) _ _ (points_count a.points.now) in
-    count_start (omega (arith, ap length e, c.requires.fact_3))
+    let s = c.args.side in
+    let e = passing_words 0 c.args.number (lacks same_point (point_row s.mesh.points.now) (point_row s.other.points.now)) _ _ (points_count s.mesh.points.now) in
+    count_start (omega (arith, ap length e, c.requires))
 
 pub put_if-to-requires : goal.put_if-to-requires
 put_if-to-requires c = rw c.lacks_point.ensures (count_fits (omega arith) c.loop-k.invariant)
@@ -23,11 +23,11 @@ put_if-to-requires c = rw c.lacks_point.ensures (count_fits (omega arith) c.loop
 pub loop-k-preserved : goal.loop-k-preserved
 loop-k-preserved c =
     let l = c.loop-k in
-    let side = c.args.side in
-    count_step (omega arith) (wrote_as (λ (b : Bool). words_if 0 side b l.k) (sym c.lacks_point.ensures) c.put_if-to.ensures) l.invariant
+    let number = c.args.number in
+    count_step (omega arith) (wrote_as (λ (b : Bool). words_if 0 number b l.k) (sym c.lacks_point.ensures) c.put_if-to.ensures) l.invariant
 
 pub returns : goal.returns
 returns c =
-    let a = c.args in
-    let e = passing_words 0 a.side (lacks same_point (point_row a.points.now) (point_row a.others.now)) _ _ (points_count a.points.now) in
+    let s = c.args.side in
+    let e = passing_words 0 c.args.number (lacks same_point (point_row s.mesh.points.now) (point_row s.other.points.now)) _ _ (points_count s.mesh.points.now) in
     rw e (count_done c.loop-k-test.false c.loop-k.invariant)

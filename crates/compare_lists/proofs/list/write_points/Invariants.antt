@@ -1,4 +1,5 @@
-use Prim.Native.Nat.{◌-◌}
+use Prim.Native.Nat.{◌/◌}
+use lib.ListN.{length}
 use Rattle.check_searches.specs.Points.{same_point}
 use Rattle.buffer.proofs.Laws.{Counting}
 use Rattle.compare_differences.specs.Lacking.{lacks}
@@ -7,7 +8,5 @@ use Rattle.compare_differences.specs.Differences.{words_if}
 use Rattle.compare_lists.proofs.list.write_points.Given as goal
 
 abbrev pub invariant-loop-k : goal.invariant-loop-k
-invariant-loop-k l = Counting (λ i. words_if 0 l.side (lacks same_point (point_row l.points) (point_row l.others) i) i) l.k l.count l.out l.to l.initial.out l.at
-
-abbrev pub decreases-loop-k : goal.decreases-loop-k
-decreases-loop-k l = l.count - l.k
+invariant-loop-k l = Counting (λ i. words_if 0 l.number (lacks same_point (point_row l.side.mesh.points.now) (point_row l.side.other.points.now) i) i) l.k
+    (length l.side.mesh.points.now / 3) l.out l.to l.initial.out l.at

@@ -8,8 +8,8 @@ use Rattle.compare_meshes.proofs.tool.list_by_flags.Goals as goal
 pub returns-then-n-eq0 : goal.returns-then-n-eq0
 returns-then-n-eq0 c = listed_none _ _ _ c.count_differences-n.ensures c.if-n-eq0.true
 
-pub write_differences-requires-clause-fact_4 : goal.write_differences-requires-clause-fact_4
-write_differences-requires-clause-fact_4 c =
+pub write_differences-requires-clause-room : goal.write_differences-requires-clause-room
+write_differences-requires-clause-room c =
     let a = c.args in
     let l = read_mesh a.left.points.now a.left.indices.now in
     let r = read_mesh a.right.points.now a.right.indices.now in

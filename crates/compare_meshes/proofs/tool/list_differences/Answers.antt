@@ -10,6 +10,8 @@ returns-then-same_mesh c =
     let e = c.same_mesh.ensures c.if-same_mesh.true in
     listed_none _ _ 0 (same_none _ _ _ _ e.0 e.1) refl
 
-pub flag_meshes-known-requires-clause-fact_3 : goal.flag_meshes-known-requires-clause-fact_3
-flag_meshes-known-requires-clause-fact_3 c =
-    (all_set 8192 (omega arith), all_set 8448 (omega arith), all_set 8192 (omega arith), all_set 8448 (omega arith))
+pub flag_meshes-requires-clause-left_set : goal.flag_meshes-requires-clause-left_set
+flag_meshes-requires-clause-left_set c = (all_set 8192 (omega arith), all_set 8448 (omega arith))
+
+pub flag_meshes-requires-clause-right_set : goal.flag_meshes-requires-clause-right_set
+flag_meshes-requires-clause-right_set c = (all_set 8192 (omega arith), all_set 8448 (omega arith))

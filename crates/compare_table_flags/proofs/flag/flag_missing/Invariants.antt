@@ -1,9 +1,5 @@
-use Prim.Native.Nat.{◌-◌, ◌≤◌}
 use Rattle.compare_table_flags.specs.Flags.{Narrowed, no_same_face}
 use Rattle.compare_table_flags.proofs.flag.flag_missing.Given as goal
 
 abbrev pub invariant-loop-k : goal.invariant-loop-k
-invariant-loop-k l = (l.k ≤ l.count) × Narrowed (no_same_face l.points l.indices l.others l.other_indices) l.k l.initial.flags l.flags
-
-abbrev pub decreases-loop-k : goal.decreases-loop-k
-decreases-loop-k l = l.count - l.k
+invariant-loop-k l = Narrowed (no_same_face l.mesh.points.now l.mesh.indices.now l.other.points.now l.other.indices.now) l.k l.initial.flags l.flags
