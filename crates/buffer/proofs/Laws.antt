@@ -6,9 +6,8 @@ use native.Mathlib.Nat.{add_assoc, add_comm, add-zero, mul-zero, mul-suc, sub-ze
 use native.Mathlib.Numerals.{add-one}
 use native.Mathlib.Omega.{arith}
 use borrow.Author.Rules.{rules}
-use lib.ListN.{length, take, drop, set, length-append, length-take, length-drop, take-append-drop}
-use borrow.Rule.Slice.PartMut.{put_mid}
-use lib.Seq.{set_split, take-append-add, drop-append-add, take-append_seam, drop-drop}
+use lib.ListN.{length, get_or, take, drop, set, length-append, length-take, length-drop, take-append-drop}
+use lib.Seq.{set_split, take-suc, take_all, take-append-add, drop-append-add, take-append_seam, drop-drop}
 use Rattle.buffer.specs.Over.{over, Wrote, flat}
 
 module _ {A : Type 0} where
@@ -64,13 +63,19 @@ module _ {A : Type 0} where
       → Wrote xs at (x ∷ y ∷ z ∷ []) (set (set (set xs at x) (at + 1) y) (at + 2) z) (at + 3)
   wrote_three {xs} {at} {x} {y} {z} h = record { is = over_three xs at x y z h; next = refl }
 
-  -- all of a list, copied into the part of the slice that it takes
-  pub wrote_part : {xs ys zs : List A} {at : ℕ} → zs ≡ ys → at + length ys ≤ length xs
-      → Wrote xs at ys (put_mid at (at + length ys - at) xs zs) (at + length ys)
-  unfolding over
-  wrote_part {xs} {ys} {zs} {at} e h =
-      let n : at + length ys - at ≡ length ys = omega arith in
-      record { is = rw (e, n) (ap (λ (ds : List A). take at xs ++ (ys ++ ds)) (drop-drop (length ys) at xs)); next = refl }
+  -- a loop that writes ys from `at` on has written the first i words, and writes the next
+  pub over_next : (xs : List A) (at : ℕ) (ys : List A) (i : ℕ) {out : List A} {x : A} → at + length ys ≤ length xs → i < length ys → x ≡ get_or ys i x
+      → out ≡ over xs at (take i ys) → set out (at + i) x ≡ over xs at (take (i + 1) ys)
+  over_next xs at ys i {out} {x} h l e o =
+      let n : length (take i ys) ≡ i = length-take i ys ∙ omega arith in
+      let p : at + i ≡ at + length (take i ys) = omega arith in
+      let s : i + 1 ≡ suc i = omega arith in
+      ap (λ (zs : List A). set zs (at + i) x) o ∙ ap (λ (k : ℕ). set (over xs at (take i ys)) k x) p ∙ over_more xs at (take i ys) x (omega arith)
+      ∙ ap (over xs at) (ap (λ (y : A). take i ys ++ (y ∷ [])) e ∙ sym (take-suc ys i x l) ∙ ap (λ (k : ℕ). take k ys) (sym s))
+
+  -- all of them are written
+  pub over_done : (xs : List A) (at : ℕ) (ys : List A) (i : ℕ) {out : List A} → length ys ≤ i → out ≡ over xs at (take i ys) → Wrote xs at ys out (at + length ys)
+  over_done xs at ys i h o = record { is = o ∙ ap (over xs at) (take_all i ys h); next = refl }
 
   -- the words at the front read back
   pub over_front : (xs ys : List A) (n : ℕ) → n ≡ length ys → take n (over xs 0 ys) ≡ ys
