@@ -41,6 +41,25 @@ module _ {place : ℕ → ℕ → ℕ → Point} {d k : ℕ} {e : Run} {out : Li
   unfolding ring
   edges_last p l = left_last p (ap vertex_words (append-nil (edge_points place k e d))) l.left
 
+-- ---- the room for a later edge of a ring that is written edge by edge; `es` are the edges after it
+module _ (place : ℕ → ℕ → ℕ → Point) (d : ℕ) (e0 : Run) {xs : List ℕ} {at : ℕ} where
+  module _ (e1 : Run) {xs₁ : List ℕ} {w₁ : ℕ} where
+    pub second_edge_fits : (es : List Run) → at + 3 * length (ring place 0 (e0 ∷ e1 ∷ es) d) ≤ length xs
+        → Wrote xs at (vertex_words (edge_points place 0 e0 d)) xs₁ w₁ → w₁ + 3 * e1.c ≤ length xs₁
+    second_edge_fits es room p = edges_fits (edges_step {e = e0} p (edges_start place d (e0 ∷ e1 ∷ es) xs at room))
+
+    module _ (e2 : Run) {xs₂ : List ℕ} {w₂ : ℕ} where
+      pub third_edge_fits : (es : List Run) → at + 3 * length (ring place 0 (e0 ∷ e1 ∷ e2 ∷ es) d) ≤ length xs
+          → Wrote xs at (vertex_words (edge_points place 0 e0 d)) xs₁ w₁ → Wrote xs₁ w₁ (vertex_words (edge_points place 1 e1 d)) xs₂ w₂
+          → w₂ + 3 * e2.c ≤ length xs₂
+      third_edge_fits es room p q = edges_fits (edges_step {e = e1} q (edges_step {e = e0} p (edges_start place d (e0 ∷ e1 ∷ e2 ∷ es) xs at room)))
+
+      pub fourth_edge_fits : (e3 : Run) (es : List Run) {xs₃ : List ℕ} {w₃ : ℕ} → at + 3 * length (ring place 0 (e0 ∷ e1 ∷ e2 ∷ e3 ∷ es) d) ≤ length xs
+          → Wrote xs at (vertex_words (edge_points place 0 e0 d)) xs₁ w₁ → Wrote xs₁ w₁ (vertex_words (edge_points place 1 e1 d)) xs₂ w₂
+          → Wrote xs₂ w₂ (vertex_words (edge_points place 2 e2 d)) xs₃ w₃ → w₃ + 3 * e3.c ≤ length xs₃
+      fourth_edge_fits e3 es room p q r =
+          edges_fits (edges_step {e = e2} r (edges_step {e = e1} q (edges_step {e = e0} p (edges_start place d (e0 ∷ e1 ∷ e2 ∷ e3 ∷ es) xs at room))))
+
 -- ---- a whole ring of three edges, or of four
 module _ (place : ℕ → ℕ → ℕ → Point) (d : ℕ) (e0 e1 e2 : Run) {xs xs₁ xs₂ xs₃ : List ℕ} {at w₁ w₂ w₃ : ℕ} where
   pub three_edges : at + 3 * length (ring place 0 (e0 ∷ e1 ∷ e2 ∷ []) d) ≤ length xs → Wrote xs at (vertex_words (edge_points place 0 e0 d)) xs₁ w₁

@@ -1,30 +1,15 @@
 use borrow.Author.Rules.{rules}
-use mathlib.Core.List.{[], ◌∷◌}
-use Rattle.mesh_geometry.specs.TrianglePoints.{triangle_place}
-use Rattle.vertices.specs.Rows.{place_in, listed}
-use Rattle.vertices.proofs.Edges.{edges_start, edges_fits, edges_step, three_edges}
+use Rattle.vertices.proofs.Edges.{edges_start, edges_fits, second_edge_fits, third_edge_fits, three_edges}
 use Rattle.triangle_point_rows.proofs.write_ring.Goals as goal
 
 pub write_edge-w-requires-clause-room : goal.write_edge-w-requires-clause-room
-write_edge-w-requires-clause-room c = let a = c.args in
-    let e = listed a.row.now in
-    let es = e ∷ e ∷ e ∷ [] in
-    let l = edges_start triangle_place (place_in a.row.now 0) es a.out.now a.at c.requires.room in edges_fits l
+write_edge-w-requires-clause-room c = edges_fits (edges_start _ _ _ _ _ c.requires.room)
 
 pub write_edge-w-requires-2-clause-room : goal.write_edge-w-requires-2-clause-room
-write_edge-w-requires-2-clause-room c = let a = c.args in
-    let e = listed a.row.now in
-    let es = e ∷ e ∷ e ∷ [] in
-    let l = edges_start triangle_place (place_in a.row.now 0) es a.out.now a.at c.requires.room in
-    let l0 = edges_step c.write_edge-w.ensures l in edges_fits l0
+write_edge-w-requires-2-clause-room c = second_edge_fits _ _ _ _ _ c.requires.room c.write_edge-w.ensures
 
 pub write_edge-requires-clause-room : goal.write_edge-requires-clause-room
-write_edge-requires-clause-room c = let a = c.args in
-    let e = listed a.row.now in
-    let es = e ∷ e ∷ e ∷ [] in
-    let l = edges_start triangle_place (place_in a.row.now 0) es a.out.now a.at c.requires.room in
-    let l0 = edges_step c.write_edge-w.ensures l in
-    let l1 = edges_step c.write_edge-w-2.ensures l0 in edges_fits l1
+write_edge-requires-clause-room c = third_edge_fits _ _ _ _ _ _ c.requires.room c.write_edge-w.ensures c.write_edge-w-2.ensures
 
 pub returns : goal.returns
 returns c = search (three_edges, rules)
