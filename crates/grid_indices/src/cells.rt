@@ -60,14 +60,10 @@ pub fn write_cells(out: &mut [u16], at: usize, grid: Grid, positive: bool) -> us
     requires { at + 6 * (grid.a * grid.b) ≤ length out.old }
     ensures { Wrote out.old at (indices positive (cells (grid_at grid.start grid.width) grid.a grid.b)) out.new result }
 {
-    let start = grid.start;
-    let width = grid.width;
-    let a = grid.a;
-    let b = grid.b;
-    if a * b < 10 {
+    if grid.a * grid.b < 10 {
         return write_each(out, at, grid, positive);
     }
-    write_row(out, at, start, width, b, positive);
-    let n = 6 * (b as usize);
-    shifted_copies::write_copies(out, at, n, a as usize, width as usize)
+    write_row(out, at, grid.start, grid.width, grid.b, positive);
+    let n = 6 * grid.b as usize;
+    shifted_copies::write_copies(out, at, n, grid.a as usize, grid.width as usize)
 }
