@@ -80,8 +80,8 @@ fn turns_at(points: &[u32], indices: &[u16], k: usize, positive: bool) -> bool
 
 // Returns the first triangle that has no area or the wrong orientation, or the number of triangles.
 pub fn first_turned(points: &[u32], indices: &[u16], positive: bool) -> usize
-    requires fact_1 { AllNumbered (length (read_points points.now)) indices.now }
-    requires fact_2 { AllSmall (read_points points.now) }
+    requires numbered { AllNumbered (length (read_points points.now)) indices.now }
+    requires small { AllSmall (read_points points.now) }
     ensures { result ≡ first_turned positive (read_points points.now) (read_triangles indices.now) }
 {
     let count = indices.len() / 3;

@@ -11,15 +11,15 @@ use strip::triangle::Triangle;
 pub fn same_triangle(s: Triangle, t: Triangle) -> bool
     ensures { result ≡ same_triangle s t }
 {
-    (s.a == t.a) & (s.b == t.b) & (s.c == t.c)
+    (s == t)
         | (s.a == t.b) & (s.b == t.c) & (s.c == t.a)
         | (s.a == t.c) & (s.b == t.a) & (s.c == t.b)
 }
 
 // Whether one of the triangles from number `from` up to, not including, `to` is t, up to rotation.
 pub fn has_triangle_in(indices: &[u16], from: usize, to: usize, t: Triangle) -> bool
-    requires fact_1 { from ≤ to }
-    requires fact_2 { to ≤ length indices.now / 3 }
+    requires order { from ≤ to }
+    requires within { to ≤ length indices.now / 3 }
     ensures { TriangleFound (read_triangles indices.now) from to t result }
 {
     let x = t.a;

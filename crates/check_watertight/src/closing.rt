@@ -16,7 +16,7 @@ pub struct Reached {
     pub drawn: usize,
 }
 
-// The same with a lent table, a lent list for sides without a reverse, and lent marks for pieces.
+// Returns how far no fault of sides or outline occurs, with a lent table, a lent list for sides without a reverse, and lent marks for pieces.
 fn reach_by(
     small: bool,
     outline: &[u32],
@@ -62,6 +62,7 @@ fn reach_by(
 }
 
 // The same with rows of bits, for up to 64 points and so up to 64 pieces of the outline.
+// Kept: one function with a const parameter for each of five sizes, and the facts of both tables as its clauses, is no plainer.
 fn reach_small(outline: &[u32], points: &[u32], indices: &[u16], positive: bool) -> Reached
     requires fact_1 { AllNumbered (length (read_points points.now)) indices.now }
     requires fact_2 { length points.now ≤ 192 }

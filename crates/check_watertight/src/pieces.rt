@@ -77,13 +77,13 @@ pub(crate) fn all_pieces(
     marks: &mut [u16],
     positive: bool,
 ) -> usize
-    requires fact_1 { AllNumbered (length (read_points points.now)) indices.now }
-    requires fact_2 { count ≤ length opens.now }
-    requires fact_3 { OpensListed (read_triangles indices.now) (length (read_triangles indices.now) * 3) opens.now count }
-    requires fact_4 { MarksDrawn (judged positive (read_points outline.now) points.now indices.now) marks.old }
-    ensures fact_1 { (result ≤ length (read_triangles indices.now) * 3)
+    requires numbered { AllNumbered (length (read_points points.now)) indices.now }
+    requires within { count ≤ length opens.now }
+    requires listed { OpensListed (read_triangles indices.now) (length (read_triangles indices.now) * 3) opens.now count }
+    requires drawn { MarksDrawn (judged positive (read_points outline.now) points.now indices.now) marks.old }
+    ensures closed { (result ≤ length (read_triangles indices.now) * 3)
         × ClosedTo (judged positive (read_points outline.now) points.now indices.now) result }
-    ensures fact_2 { MarksDrawn (judged positive (read_points outline.now) points.now indices.now) marks.new }
+    ensures marked { MarksDrawn (judged positive (read_points outline.now) points.now indices.now) marks.new }
 {
     let pieces = outline.len() / 3;
     let mut near = 0;

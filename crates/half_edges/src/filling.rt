@@ -64,10 +64,10 @@ pub fn fill(
     heads: &mut [u16],
     links: &mut [u32],
 ) -> usize
-    requires fact_1 { EmptyTable small rows.old heads.old }
-    requires fact_2 { AllNumbered (vertices small heads.old) indices.now }
-    requires fact_3 { Room small (length indices.now) links.old }
-    requires fact_4 { length indices.now < 65536 }
+    requires empty { EmptyTable small rows.old heads.old }
+    requires numbered { AllNumbered (vertices small heads.old) indices.now }
+    requires room { Room small (length indices.now) links.old }
+    requires few { length indices.now < 65536 }
     ensures { FilledTo small (read_triangles indices.now) result rows.new heads.new links.new }
 {
     let count = indices.len() / 3;

@@ -105,9 +105,9 @@ pub fn open_sides(
     links: &[u32],
     opens: &mut [u16],
 ) -> usize
-    requires fact_1 { Tabled small (read_triangles indices.now) (length (read_triangles indices.now) * 3) rows.now heads.now links.now }
-    requires fact_2 { AllNumbered (vertices small heads.now) indices.now }
-    requires fact_3 { length indices.now < 65536 }
+    requires all { Tabled small (read_triangles indices.now) (length (read_triangles indices.now) * 3) rows.now heads.now links.now }
+    requires numbered { AllNumbered (vertices small heads.now) indices.now }
+    requires few { length indices.now < 65536 }
     ensures { Opens (read_triangles indices.now) (length (read_triangles indices.now) * 3) opens.new result }
 {
     let triangles = indices.len() / 3;

@@ -11,15 +11,15 @@ use Rattle.check_watertight.proofs.closing.reach_by.Goals as goal
 pub returns-then-once-indices : goal.returns-then-once-indices
 returns-then-once-indices c = shown_once _ _ c.fill-once.ensures.most c.fill-once.ensures.once
 
-pub open_sides-count-requires-clause-fact_1 : goal.open_sides-count-requires-clause-fact_1
-open_sides-count-requires-clause-fact_1 c =
+pub open_sides-count-requires-clause-all : goal.open_sides-count-requires-clause-all
+open_sides-count-requires-clause-all c =
     let ws = c.args.indices.now in
     let f = c.fill-once.ensures in
     let e : c.fill-once.result ≡ length (read_triangles ws) = omega (arith, f.most, c.if-once-indices.false, triangles_count ws) in
     (f.all e).table
 
-pub open_sides-count-requires-clause-fact_2 : goal.open_sides-count-requires-clause-fact_2
-open_sides-count-requires-clause-fact_2 c =
+pub open_sides-count-requires-clause-numbered : goal.open_sides-count-requires-clause-numbered
+open_sides-count-requires-clause-numbered c =
     let p = c.requires in
     numbered_as _ c.args.heads.now _ _ (omega arith) (numbered_wider p.fact_3 p.fact_4)
 
@@ -34,4 +34,4 @@ returns c =
     let f = c.fill-once.ensures in
     let g = c.all_pieces-joined.ensures in
     let u = c.first_unmarked-drawn.ensures in
-    shown_all _ _ _ _ _ f.most f.once g.fact_1.0 g.fact_1.1 (omega (arith, u.0, points_count s.args.outline.now)) g.fact_2 u.1
+    shown_all _ _ _ _ _ f.most f.once g.closed.0 g.closed.1 (omega (arith, u.0, points_count s.args.outline.now)) g.marked u.1

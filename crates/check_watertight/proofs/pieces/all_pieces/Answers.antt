@@ -5,12 +5,12 @@ use Rattle.check_watertight.proofs.Joins.{joins_more, joined_all, joined_before}
 use Rattle.check_watertight.proofs.pieces.all_pieces.Goals as goal
 
 pub mark_piece-piece-requires-clause-fact_2 : goal.mark_piece-piece-requires-clause-fact_2
-mark_piece-piece-requires-clause-fact_2 c = omega (arith, c.requires.fact_3.sides c.loop-k.k (omega arith), triangles_count c.args.indices.now)
+mark_piece-piece-requires-clause-fact_2 c = omega (arith, c.requires.listed.sides c.loop-k.k (omega arith), triangles_count c.args.indices.now)
 
-pub returns-then-pieces-piece-clause-fact_1 : goal.returns-then-pieces-piece-clause-fact_1
-returns-then-pieces-piece-clause-fact_1 c =
+pub returns-then-pieces-piece-clause-closed : goal.returns-then-pieces-piece-clause-closed
+returns-then-pieces-piece-clause-closed c =
     let l = c.loop-k in
-    (omega (arith, c.requires.fact_3.sides l.k (omega arith)), joined_before _ _ c.args.count l.k (omega arith) c.requires.fact_3 l.invariant.1)
+    (omega (arith, c.requires.listed.sides l.k (omega arith)), joined_before _ _ c.args.count l.k (omega arith) c.requires.listed l.invariant.1)
 
 pub loop-k-preserved : goal.loop-k-preserved
 loop-k-preserved c =
@@ -24,9 +24,9 @@ loop-k-preserved c =
       omega arith,
     )
 
-pub returns-clause-fact_1 : goal.returns-clause-fact_1
-returns-clause-fact_1 c =
+pub returns-clause-closed : goal.returns-clause-closed
+returns-clause-closed c =
     let l = c.loop-k in
     let e : l.k ≡ c.args.count = omega arith in
     let n = triangles_count c.args.indices.now in
-    (omega arith, joined_all _ _ c.args.count _ (omega arith) c.requires.fact_3 (rw e at l.invariant.1))
+    (omega arith, joined_all _ _ c.args.count _ (omega arith) c.requires.listed (rw e at l.invariant.1))

@@ -7,10 +7,10 @@ use Rattle.half_edges.proofs.Forms.{numbered_as, filled_none, filled_as}
 use Rattle.half_edges.proofs.filling.fill.Goals as goal
 
 pub loop-k-init : goal.loop-k-init
-loop-k-init c = (omega arith, filled_none _ _ _ _ _ c.requires.fact_1, refl, refl, refl)
+loop-k-init c = (omega arith, filled_none _ _ _ _ _ c.requires.empty, refl, refl, refl)
 
 pub add_triangle-requires-clause-fact_2 : goal.add_triangle-requires-clause-fact_2
-add_triangle-requires-clause-fact_2 c = numbered_as _ _ _ _ c.loop-k.invariant.3 c.requires.fact_2
+add_triangle-requires-clause-fact_2 c = numbered_as _ _ _ _ c.loop-k.invariant.3 c.requires.numbered
 
 pub returns-then-not-add_triangle : goal.returns-then-not-add_triangle
 returns-then-not-add_triangle c =
