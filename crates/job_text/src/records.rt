@@ -34,6 +34,7 @@ pub fn put_records(
     let most = out.len() - ROOM;
     let mut written = 0;
     let mut at = from;
+    // Kept: where the next record begins, and whether another fits, is known only after a record is answered, so no range counts them.
     while at < bytes.len() && written <= most {
         let found = read_record(bytes, version, Cursor { at });
         written = put_reply(out, written, found, vertices, indices);

@@ -62,6 +62,7 @@ fn answer_records(
 {
     let mut count = 0;
     let mut at = 0;
+    // Kept: how many records a pass answers is known only after it, so no range counts the places.
     while at < bytes.len() {
         let step = answer_some(streams, bytes, at, version, out, vertices, indices);
         count += step.output.count;

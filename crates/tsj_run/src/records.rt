@@ -48,6 +48,7 @@ fn answer_chunks(
 {
     let mut read = 0;
     let mut written = 0;
+    // Kept: a chunk may have any number of bytes and of text, so no range counts either.
     while (read <= MOST) & (written <= MOST) {
         let piece = answer_chunk(streams, bytes, out, version, vertices, indices);
         read += piece.input.count;
