@@ -5,6 +5,7 @@ ghost use Rattle.job_fields.specs.Bytes.{low_bytes};
 
 use buffer::put_all;
 
+// Kept: `to_le_bytes` is a method of each type, so one function for both would need a trait with an impl for each.
 pub fn put_u16(out: &mut [u8], at: usize, number: u16) -> usize
     requires { at + 2 ≤ length out.old }
     ensures { Wrote out.old at (low_bytes 2 number) out.new result }

@@ -2,6 +2,7 @@
 ghost use Rattle.std.specs.Prelude.{◌≡◌, ◌+◌, ◌≤◌, length};
 ghost use Rattle.job_fields.specs.Bytes.{word};
 
+// Kept: `from_le_bytes` is a method of each type, so one function for both would need a trait with an impl for each.
 #[tactic(auto, unfolding(crate::specs::Bytes::word))]
 pub fn read_u16(bytes: &[u8], at: usize) -> u16
     requires { at + 2 ≤ length bytes.now }

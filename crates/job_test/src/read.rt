@@ -20,6 +20,7 @@ pub(crate) fn sample(
 // Every record from a place on.
 pub(crate) fn walk(out: Stdout, bytes: &[u8], version: Version, from: usize) -> io::Result<()> {
     let mut at = from;
+    // Kept: where the next record begins is known only after one is read, so no range counts the places.
     loop {
         let answer = read_record(bytes, version, Cursor { at });
         print!(out; "{at}: ")?;

@@ -10,6 +10,7 @@ use job_fields::levels::Levels;
 use job_fields::setting::SettingByte;
 
 // All but `number` and `next` is 0, unless a record was read or a setting is unknown.
+// Kept: the C interface; `yoktvarim_read_record` leaves each of these numbers in the caller's memory.
 #[derive(Clone, Copy, Drop)]
 pub struct Found {
     pub number: u32,
