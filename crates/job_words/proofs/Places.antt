@@ -14,7 +14,7 @@ use Rattle.job.specs.declared.cursor.Cursor.{Cursor}
 use Rattle.std.specs.Prelude.{Ok, Err, Some, None}
 use Rattle.job.specs.declared.next.RecordError.TheVariants.{CutRecord, UnknownSetting}
 use Rattle.job_fields.specs.Version.{setting_bytes}
-use Rattle.job.specs.Records.{Answer, read, record_at}
+use Rattle.job.specs.Records.{Answer, record_at}
 use Rattle.job_fields.proofs.Tops.{first_place}
 use Rattle.job.proofs.Records.{record_exactly, top_allowed}
 use Rattle.job_bytes.proofs.Lengths.{top_small}

@@ -1,4 +1,4 @@
-use mathlib.Core.Path.{refl, sym, ◌∙◌}
+use mathlib.Core.Path.{refl}
 use Rattle.call_answers.proofs.Replies.{said_one}
 use Rattle.job_words.proofs.Places.{known_some, known_none}
 use Rattle.job_exports.proofs.Calls.{kept, done, header_other, header_known}
