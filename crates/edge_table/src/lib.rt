@@ -177,5 +177,5 @@ pub fn widest(most: u32, s: Segments) -> u32
     if s.scaled != 65536 * s.count {
         return 65;
     }
-    if most < s.count { s.count } else { most }
+    most.max(s.count)
 }

@@ -78,7 +78,7 @@ fn most_equal(most: u32, s: Segments) -> u32
     if s.scaled != 65536 * s.count {
         return most;
     }
-    if most < s.count { s.count } else { most }
+    most.max(s.count)
 }
 
 // Writes an isoline for each place of `lines` but the last, with a point for each place of `along`. Rows of equal spacing come from the

@@ -18,6 +18,7 @@ pub enum Spacing {
 }
 
 // An edge's number of segments, n, and its level in units of 1 / 65536, L.
+// Kept: `Valid` is no invariant of this type, since the definition `segments_at` and its theorems speak of segments of any L.
 #[derive(Clone, Copy, Drop)]
 pub struct Segments {
     pub count: u32,

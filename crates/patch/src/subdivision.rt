@@ -9,6 +9,8 @@ ghost use Rattle.patch.specs.Subdivide.{is_discarded, subdivision};
 use crate::kinds::Patch;
 use level::{Range, Segments, Spacing};
 
+// What a patch is cut into.
+// Kept: `Discarded` is a case here and no `None` around it, since the definition `subdivision` and the theorems on it name it so.
 #[derive(Clone, Copy, Drop)]
 pub enum Subdivision {
     Discarded,

@@ -17,7 +17,8 @@ returns-then-edge0-edge1-eq4 c =
     let a = c.args in
     let xs : List Float = a.outer0 ∷ a.outer1 ∷ a.outer2 ∷ a.inner0 ∷ [] in
     let r = c.range_of-range.result in
-    rw (← c.discards_any.ensures, c.if-discards_any.false, ← c.range_of-range.ensures.spacing, ← c.range_of-range.ensures.top, all_one r.spacing r.top r.is_top xs (omega arith) c.if-edge0-edge1-eq4.true)
+    let e = c.range_of-range.ensures in
+    rw (← c.discards_any.ensures, c.if-discards_any.false, ← e.spacing, ← e.top, all_one r.spacing r.top r.is_top xs (omega arith) c.if-edge0-edge1-eq4.true)
 
 pub returns : goal.returns
 unfolding subdivision total
@@ -25,6 +26,7 @@ returns c =
     let a = c.args in
     let xs : List Float = a.outer0 ∷ a.outer1 ∷ a.outer2 ∷ a.inner0 ∷ [] in
     let r = c.range_of-range.result in
-    rw (← c.discards_any.ensures, c.if-discards_any.false, ← c.range_of-range.ensures.spacing, ← c.range_of-range.ensures.top, not_all_one r.spacing r.top r.is_top xs (omega arith) c.if-edge0-edge1-eq4.false)
+    let e = c.range_of-range.ensures in
+    rw (← c.discards_any.ensures, c.if-discards_any.false, ← e.spacing, ← e.top, not_all_one r.spacing r.top r.is_top xs (omega arith) c.if-edge0-edge1-eq4.false)
     (rw (← c.segments_in-edge0.ensures.all, ← c.segments_beside-edge1.ensures.all)
-    (rw (← c.segments_beside-edge2.ensures.all, ← c.segments_beside-inner.ensures.all, c.range_of-range.ensures.spacing, ← c.as_inner-inside.ensures)))
+    (rw (← c.segments_beside-edge2.ensures.all, ← c.segments_beside-inner.ensures.all, e.spacing, ← c.as_inner-inside.ensures)))
