@@ -11,6 +11,7 @@ use measure::size::Size;
 use tessellate::refusal::DrawRefusal;
 
 // A value that the answer lacks is 0.
+// Kept: a number and two values in place of an enum, as the C interface answers by a number and words.
 #[derive(Clone, Copy, Debug, PartialEq, Eq, Drop)]
 pub struct Reply {
     pub number: u32,

@@ -4,6 +4,7 @@ ghost use Rattle.draw_floats.specs.Answers.{refusal_of};
 
 use measure::cut::NotDrawn;
 
+// Kept: four of the names of `tessellate::refusal::DrawRefusal` stand here again, as that type has no refusal for the room for floats.
 #[derive(Clone, Copy, Debug, PartialEq, Eq, Drop)]
 pub enum FloatsRefusal {
     BadTop,

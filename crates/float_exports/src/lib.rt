@@ -14,6 +14,7 @@ use draw_floats::draw::draw_with_floats;
 use draw_floats::refusal::FloatsRefusal;
 use measure::size::DrawnCounts;
 
+// Kept: a function in place of `From`, since neither `FloatsRefusal` nor `Reply` is a type of this crate.
 fn of_floats(answer: Result<DrawnCounts, FloatsRefusal>) -> Reply
     ensures { IsReply (floats_code answer) result }
 {

@@ -10,6 +10,7 @@ use patch_writer::connect::write_indices;
 use patch_writer::count::{index_count, point_count};
 use patch_writer::place::write_points;
 
+// Kept: patch and settings are two parameters, as `DrewPoints` and the definitions under it are stated over the two.
 pub fn draw_points(
     patch: Patch,
     settings: Settings,
