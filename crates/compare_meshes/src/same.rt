@@ -10,10 +10,8 @@ fn same_points(xs: &[u32], ys: &[u32]) -> bool
     ensures { result ≡ true → xs.now ≡ ys.now }
 {
     let mut same = true;
-    let mut k = 0;
-    while k < xs.len() {
+    for k in 0..xs.len() {
         same = same & (xs[k] == ys[k]);
-        k += 1;
     }
     same
 }
@@ -24,10 +22,8 @@ fn same_indices(xs: &[u16], ys: &[u16]) -> bool
     ensures { result ≡ true → xs.now ≡ ys.now }
 {
     let mut same = true;
-    let mut k = 0;
-    while k < xs.len() {
+    for k in 0..xs.len() {
         same = same & (xs[k] == ys[k]);
-        k += 1;
     }
     same
 }

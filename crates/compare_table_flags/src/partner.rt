@@ -11,6 +11,7 @@ use mesh_geometry::Point;
 use point_table::seek;
 
 // Returns the number of the point that equals p, or the number of points, by a table of the points.
+// Kept: no `Option`: a partner is stored as 16 bits, and the number of points stands for none (`Partners`).
 fn find(points: &[u32], table: &[u16], slots: usize, p: Point) -> usize
     requires filled { PointTable (read_points points.now) slots (length points.now / 3) table.now }
     requires slotted { 0 < slots }

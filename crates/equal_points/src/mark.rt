@@ -1,5 +1,6 @@
 // A table of marks, one per slot. A mark is 0 if no point so far has the slot, one more than the number of the point if one has
 // it, and 65535 if several have it or the number is too large. The table has the same size for any number of points.
+// Kept: a mark is a number of 16 bits and no enum, which would take twice the memory on the stack.
 ghost use Rattle.std.specs.Prelude.{◌≡◌, true};
 ghost use Rattle.mesh_geometry.specs.Words.{read_points};
 ghost use Rattle.equal_points.specs.Marks.{NamesNoEqual, NewMark};

@@ -2,6 +2,7 @@
 // one more than the number of a point. The search for a point starts at the place of its slot; where it meets another point it
 // goes to one of that point's two places, by the next bit of the coordinates. Points that differ in a bit go different ways, so
 // no search passes more than 96 points, whatever their slots.
+// Kept: a place is a number of 16 bits and no option, which would take twice the memory on the stack.
 #![tactic(auto)]
 
 ghost use Rattle.std.specs.Prelude.{◌≡◌, ◌+◌, ◌*◌, ◌/◌, ◌%◌, ◌≤◌, ◌<◌, length};
@@ -49,6 +50,7 @@ pub fn seek(points: &[u32], count: usize, table: &[u16], slots: usize, p: Point)
     let mut x = slot_of(p, slots);
     let mut rest = p;
     let mut k = table[x] as usize;
+    // Kept: no `for`: the search follows the places that it finds, and counts nothing.
     while 0 < k {
         if lies_at(points, k - 1, p) {
             return x;

@@ -48,6 +48,7 @@ fn walk(indices: &[u16], heads: &[u16], links: &[u32], n: usize, from: usize, t:
     ensures { result ≡ some_face (read_triangles indices.now) t n }
 {
     let mut k = from;
+    // Kept: no `for`: the search follows the links of a chain, and counts nothing.
     while 0 < k {
         let link = links[k - 1];
         if is_at(indices, k - 1, link, t) {
