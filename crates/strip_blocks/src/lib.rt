@@ -67,20 +67,6 @@ fn raise(words: &mut [u16; 24], by: u32)
     }
 }
 
-// Writes the 24 words.
-// Kept: a loop in place of the library's copy, which allows for lists that overlap and so stores the words on the stack first; with it a
-// triangle patch of level 64 takes 31 in 100 instructions more.
-fn put_block(out: &mut [u16], at: usize, words: &[u16; 24]) -> usize
-    requires { at + 24 ≤ length out.old }
-    ensures { Wrote out.old at words.now out.new result }
-{
-    let mut to = at;
-    for i in 0..24 {
-        to = buffer::put(out, to, words[i]);
-    }
-    to
-}
-
 // Writes the 24 words k times, each time plus 4.
 fn write_blocks(out: &mut [u16], at: usize, words: &mut [u16; 24], k: u32) -> usize
     requires { at + 24 * k ≤ length out.old }
@@ -88,7 +74,7 @@ fn write_blocks(out: &mut [u16], at: usize, words: &mut [u16; 24], k: u32) -> us
 {
     let mut to = at;
     for _block in 0..k {
-        to = put_block(out, to, words);
+        to = buffer::put_all(out, to, words);
         raise(words, 4);
     }
     to
@@ -111,7 +97,7 @@ pub(crate) fn write_run(
     let k = (n - 1) / 4;
     let m = n - 4 * k;
     let mut words = pattern.block(x, y);
-    put_block(out, at, &words);
+    buffer::put_all(out, at, &words);
     raise(&mut words, m);
     write_blocks(out, at + 6 * m as usize, &mut words, k)
 }

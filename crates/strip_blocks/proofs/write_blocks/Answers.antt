@@ -16,8 +16,8 @@ loop-block-init c =
       size,
     )
 
-pub put_block-to-requires : goal.put_block-to-requires
-put_block-to-requires c =
+pub put_all-to-requires : goal.put_all-to-requires
+put_all-to-requires c =
     let a = c.args in
     let l = c.loop-block in
     let size : length a.words.now ≡ 24 = omega arith in
@@ -28,7 +28,7 @@ loop-block-preserved c =
     let a = c.args in
     let l = c.loop-block in
     let r = c.raise.ensures in (
-      count_step (omega arith) (wrote_as (λ ys. ys) (sym l.invariant.1) c.put_block-to.ensures) l.invariant.0,
+      count_step (omega arith) (wrote_as (λ ys. ys) (sym l.invariant.1) c.put_all-to.ensures) l.invariant.0,
       copy_next a.words.now l._block l.invariant.1 r,
       omega (arith, c.raise.auto.words),
     )

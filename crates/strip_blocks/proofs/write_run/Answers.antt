@@ -9,5 +9,5 @@ returns c =
     let k = (a.n - 1) / 4 in
     run_wrote a.x a.y a.pattern.now.positive a.n k (a.n - 4 * k) (omega arith) (omega arith) (omega arith) (omega arith)
     c.block-words.ensures
-    c.put_block.ensures
+    c.put_all.ensures
     c.raise.ensures (omega arith) c.write_blocks.ensures
