@@ -4,7 +4,7 @@ use mathlib.Core.Path.{◌≡◌, refl, sym, ap, subst, ◌∙◌}
 use mathlib.Core.Bool.{Bool, true, false, cond}
 use mathlib.Core.List.{[], ◌∷◌, ◌++◌}
 use native.Mathlib.Omega.{arith}
-use lib.ListN.{length, take, length-append}
+use lib.ListN.{length, take, get_or, length-append}
 use lib.Seq.{take_all}
 use Rattle.level.specs.Top.{Top, is_top}
 use Rattle.patch.specs.declared.kinds.Patch.{Patch}
@@ -12,9 +12,10 @@ use Rattle.patch.specs.declared.settings.Settings.{Settings}
 use Rattle.patch.specs.Subdivide.{discards}
 use Rattle.measure.specs.Sizes.{points_of, indices_of}
 use Rattle.level.proofs.Top.{top_as}
+use Rattle.tessellate.specs.Answers.{points_code, indices_code}
 use Rattle.patch_text.proofs.Sizes.{points_fit, indices_fit}
 use Rattle.job_fields.specs.declared.version.Version.TheVariants.{One}
-use Rattle.job.specs.declared.next.NextRecord.TheVariants.{Read}
+use Rattle.job.specs.Records as records
 use Rattle.job_fields.specs.Bytes.{low_bytes}
 use Rattle.job.specs.Patches.{patch_of}
 use Rattle.job.specs.Records.{record_at, cursor_after}
@@ -68,7 +69,7 @@ module _ (c : RecordedCall) where
         )
 
   module _ (m : WasMade c) where
-    read : record_at One (entry_bytes c) 0 ≡ Read c.entry (cursor_after One 0)
+    read : record_at One (entry_bytes c) 0 ≡ records.read c.entry (cursor_after One 0)
     read = record_same One (entry_bytes c) 0 c.entry m.writable m.levels (subst (λ (n : ℕ). take n (entry_bytes c) ≡ record_bytes One c.entry)
         (record_length One c.entry) (has_front (record_bytes One c.entry) (outcome_bytes (answered_outcome c)) whole).is)
 
@@ -76,7 +77,11 @@ module _ (c : RecordedCall) where
     top = read_top (entry_bytes c) c.entry (cursor_after One 0) (sym read)
 
     pub answered_is : answered_outcome c ≡ record_outcome c.entry
-    answered_is = drawn_together c.entry.settings (patch_of c.entry) top c.points c.indices m.full m.drew_points m.drew_indices refl refl
+    answered_is =
+        drawn_together c.entry.settings (patch_of c.entry) top c.points c.indices
+        {a = record { number = (points_code c.points).number; first = get_or (points_code c.points).values 0 0; second = get_or (points_code c.points).values 1 0 }}
+        {b = record { number = (indices_code c.indices).number; first = get_or (indices_code c.indices).values 0 0; second = get_or (indices_code c.indices).values 1 0 }}
+        m.full m.drew_points m.drew_indices (record { number = refl; first = refl; second = refl }) (record { number = refl; first = refl; second = refl })
 
     -- the entry agrees
     pub entry_agrees : agrees (entry_bytes c) ≡ true

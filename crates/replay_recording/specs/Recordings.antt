@@ -1,7 +1,6 @@
 -- The recording of a list of calls: each record as `job_writer` writes it, with the answer that drawing gave. Assumes nothing.
-use Rattle.std.specs.Prelude.{ℕ, List, [], ◌∷◌, ◌++◌, length, get_or}
-use Rattle.tessellate.specs.declared.answer.PointsAnswer.{PointsAnswer}
-use Rattle.tessellate.specs.declared.answer.IndicesAnswer.{IndicesAnswer}
+use Rattle.std.specs.Prelude.{ℕ, List, [], ◌∷◌, ◌++◌, length, get_or, Result}
+use Rattle.tessellate.specs.declared.refusal.DrawRefusal.{DrawRefusal}
 use Rattle.tessellate.specs.Answers.{points_code, indices_code}
 use Rattle.tessellate.specs.Draws.{DrewPoints, DrewIndices}
 use Rattle.patch_text.specs.Room.{FullSize}
@@ -18,8 +17,8 @@ use Rattle.replay.specs.Replays.{recording_mark}
 -- a call: a record, and the answers of the two drawing operations to it
 pub record RecordedCall : Type 0 where
   pub entry : Record
-  pub points : PointsAnswer
-  pub indices : IndicesAnswer
+  pub points : Result ℕ DrawRefusal
+  pub indices : Result ℕ DrawRefusal
 
 -- the call was made: the record can be written, and both operations were called for its patch with full-size lists
 pub record WasMade (c : RecordedCall) : Type 0 where
