@@ -123,7 +123,9 @@ header_copied l {c'} b a {k} {k'} {d'} {r} room c = go (header_of l) refl (sym a
         (z, rw (rw (z, is) at c.list) (over_front k (header_bytes v) 5 (sym (header_length v))) ∙ sym again)
 
     go : (h : Result Header HeaderError) → header_of l ≡ h → (read_code (header_of l)).number ≡ 0 → c' ≡ one_word (read_code (header_of l)).values → (r ≡ 0) × (take 5 k' ≡ take 5 l)
-    go (Ok header) e z w = written header.version (header_again header.version l header.next b e) (ap (λ (x : List ℕ). get_or x 0 0) (w ∙ ap (λ (h : Result Header HeaderError). one_word (read_code h).values) e))
+    go (Ok header) e z w =
+        written header.version (header_again header.version l header.next b e)
+        (ap (λ (x : List ℕ). get_or x 0 0) (w ∙ ap (λ (h : Result Header HeaderError). one_word (read_code h).values) e))
     go (Err NotAJob) e z w = let f = ap (λ (h : Result Header HeaderError). (read_code h).number) e in absurd (omega arith)
     go (Err UnknownVersion) e z w = let f = ap (λ (h : Result Header HeaderError). (read_code h).number) e in absurd (omega arith)
 
