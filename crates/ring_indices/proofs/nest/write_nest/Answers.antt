@@ -22,7 +22,8 @@ long-preserved c =
     let a = c.args in
     let l = c.long in
     let i = c.inside-ring.ensures in
-    (omega arith, rw (i.0, i.1, i.2, i.3) (band_written a.positive l.ring.0 l.ring.1.0 l.ring.1.1.0 l.ring.1.1.1.0 l.left (omega arith) (rw c.new-pattern.ensures at c.write_wide_band-to.ensures) l.invariant.1))
+    let band = rw c.new-pattern.ensures at c.write_wide_band-to.ensures in
+    (omega arith, rw (i.0, i.1, i.2, i.3) (band_written a.positive l.ring.0 l.ring.1.0 l.ring.1.1.0 l.ring.1.1.1.0 l.left (omega arith) band l.invariant.1))
 
 pub loop-left-init : goal.loop-left-init
 loop-left-init c =
