@@ -68,7 +68,8 @@ pub among_match : (pw iw : List ℕ) → AllNumbered (length (read_points pw)) i
     → some_below (λ i. is_match m (triangle_at (read_triangles iw) i)) (length (read_triangles iw)) ≡ among same_face (face_row pw iw) (face_row pw iw).count f
 among_match pw iw h small f m w = some_same _ _ _ (λ i l. sym (w.each (triangle_at (read_triangles iw) i) (cornered pw iw h small i (omega (arith, triangles_count iw)))))
 
-pub has_found : (pw iw : List ℕ) → AllNumbered (length (read_points pw)) iw → ((k : ℕ) → get_or iw k 0 < 65536) → (f : Face) (m : Option Triangle) (s : Triangle) (r : Bool) → Matched (read_points pw) f m
+pub has_found : (pw iw : List ℕ) → AllNumbered (length (read_points pw)) iw → ((k : ℕ) → get_or iw k 0 < 65536) → (f : Face) (m : Option Triangle) (s : Triangle) (r : Bool)
+    → Matched (read_points pw) f m
     → m ≡ Some s → r ≡ some_triangle (read_triangles iw) s → r ≡ among same_face (face_row pw iw) (face_row pw iw).count f
 has_found pw iw h small f m s r w e t = t ∙ among_match pw iw h small f (Some s) (rw e at w)
 

@@ -12,8 +12,9 @@ use Rattle.compare_lists.proofs.list.write_faces.Goals as goal
 
 pub loop-k-init : goal.loop-k-init
 loop-k-init c =
-    let s = c.args.side in
-    let e = passing_words 1 c.args.number (lacks same_face (face_row s.mesh.points.now s.mesh.indices.now) (face_row s.other.points.now s.other.indices.now)) _ _ (triangles_count s.mesh.indices.now) in
+    let m = c.args.side.mesh in
+    let o = c.args.side.other in
+    let e = passing_words 1 c.args.number (lacks same_face (face_row m.points.now m.indices.now) (face_row o.points.now o.indices.now)) _ _ (triangles_count m.indices.now) in
     count_start (omega (arith, ap length e, c.requires))
 
 pub put_if-to-requires : goal.put_if-to-requires
@@ -27,6 +28,7 @@ loop-k-preserved c =
 
 pub returns : goal.returns
 returns c =
-    let s = c.args.side in
-    let e = passing_words 1 c.args.number (lacks same_face (face_row s.mesh.points.now s.mesh.indices.now) (face_row s.other.points.now s.other.indices.now)) _ _ (triangles_count s.mesh.indices.now) in
+    let m = c.args.side.mesh in
+    let o = c.args.side.other in
+    let e = passing_words 1 c.args.number (lacks same_face (face_row m.points.now m.indices.now) (face_row o.points.now o.indices.now)) _ _ (triangles_count m.indices.now) in
     rw e (count_done c.loop-k-test.false c.loop-k.invariant)
