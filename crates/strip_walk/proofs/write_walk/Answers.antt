@@ -35,11 +35,12 @@ loop-step-preserved c =
     let l = c.loop-step in
     let s = l.walk.strip in
     let next = outer_next a.outer.count a.inner.count in
+    let steps = a.outer.count + a.inner.count in
     let on = c.advance-t.ensures in (
       on.stands,
       omega (arith, step_sum (next s.a s.b) s.a s.b),
       left_step c.put_triangle-to.ensures
-          (words_more (vertex a.outer) (vertex a.inner) next a.positive (a.outer.count + a.inner.count - l._step) s.a s.b _ (a.outer.count + a.inner.count - (l._step + 1)) _ _ (omega arith) (omega arith) on.triangle on.a on.b) l.invariant.2,
+          (words_more (vertex a.outer) (vertex a.inner) next a.positive (steps - l._step) s.a s.b _ (steps - (l._step + 1)) _ _ (omega arith) (omega arith) on.triangle on.a on.b) l.invariant.2,
     )
 
 pub returns : goal.returns
