@@ -16,7 +16,7 @@ pub struct Reached {
     pub drawn: usize,
 }
 
-// Returns how far no fault of sides or outline occurs, with a lent table, a lent list for sides without a reverse, and lent marks for pieces.
+// How far no fault of sides or outline occurs, by a lent table, a lent list for sides without a reverse, and lent marks for pieces.
 fn reach_by(
     small: bool,
     outline: &[u32],
