@@ -1,7 +1,7 @@
 // Answers as a number with two values, and how they are written to the caller's memory.
 ghost use Rattle.std.specs.Prelude.{◌≡◌, [], ◌∷◌, ◌<◌};
 ghost use Rattle.measure.specs.Sizes.{size_code};
-ghost use Rattle.tessellate.specs.Answers.{draw_code};
+ghost use Rattle.tessellate.specs.Answers.{list_code};
 ghost use Rattle.tessellate.specs.Refusals.{refusal_of, refusal_code};
 ghost use Rattle.answer_codes.specs.AnswerCode.{refused, drew_both};
 ghost use Rattle.call_answers.specs.Replies.{IsReply, unknown_setting, bad_top};
@@ -81,7 +81,7 @@ impl From<NotDrawn> for Reply {
 
 // The answer of one drawing operation, with the count of its list.
 pub fn of_drawn(answer: Result<u32, DrawRefusal>) -> Reply
-    ensures { IsReply (draw_code answer) result }
+    ensures { IsReply (list_code answer) result }
 {
     match answer {
         Ok(count) => success(count, 0),

@@ -22,7 +22,7 @@ use Rattle.measure.specs.declared.size.Size.{Size}
 use Rattle.tessellate.specs.declared.refusal.DrawRefusal.{DrawRefusal}
 use Rattle.tessellate.specs.declared.refusal.DrawRefusal.TheVariants as refusal
 use Rattle.measure.specs.Sizes.{size_code, points_of, indices_of}
-use Rattle.tessellate.specs.Answers.{draw_code, points_code, indices_code, list_verdict, points_verdict, indices_verdict}
+use Rattle.tessellate.specs.Answers.{list_code, points_code, indices_code, list_verdict, points_verdict, indices_verdict}
 use Rattle.level.proofs.Top.{top_as, is_top_lem, no_top, top_no}
 use Rattle.measure.proofs.Measured.{measured, measured_told, counts_with, size_in, size_back}
 use Rattle.answer_codes.specs.AnswerCode.{AnswerCode}
@@ -167,10 +167,10 @@ drawn_in n c =
     cond (eqb n 0) (Ok (get_or c 0 0))
     (cond (eqb n 1) (Err refusal.Discarded) (cond (eqb n 3) (Err refusal.NoRoomForVertices) (cond (eqb n 4) (Err refusal.NoRoomForIndices) (Err refusal.BadTop))))
 
-drawn_readable : Readable one_word draw_code drawn_in
+drawn_readable : Readable one_word list_code drawn_in
 drawn_readable = record {
-  same = draw_cases (λ a. drawn_in (draw_code a).number (one_word (draw_code a).values) ≡ a) refl refl refl refl (λ n. refl);
-  no_eight = draw_cases (λ a. eqb (draw_code a).number 8 ≡ false) refl refl refl refl (λ n. refl);
+  same = draw_cases (λ a. drawn_in (list_code a).number (one_word (list_code a).values) ≡ a) refl refl refl refl (λ n. refl);
+  no_eight = draw_cases (λ a. eqb (list_code a).number 8 ≡ false) refl refl refl refl (λ n. refl);
   place = λ k. refl;
 }
 

@@ -8,16 +8,16 @@ use Rattle.measure.specs.Sizes.{points_of, indices_of}
 use Rattle.tessellate.specs.declared.refusal.DrawRefusal.{DrawRefusal}
 use Rattle.tessellate.specs.Refusals.{refusal_code}
 
--- the number and values of each answer
-abbrev pub draw_code : Result ℕ DrawRefusal → AnswerCode
-draw_code (Ok n) = drew n
-draw_code (Err e) = refusal_code e
+-- the number and values of each answer to drawing one list: with points and with indices they are the same
+abbrev pub list_code : Result ℕ DrawRefusal → AnswerCode
+list_code (Ok n) = drew n
+list_code (Err e) = refusal_code e
 
 abbrev pub points_code : Result ℕ DrawRefusal → AnswerCode
-points_code r = draw_code r
+points_code r = list_code r
 
 abbrev pub indices_code : Result ℕ DrawRefusal → AnswerCode
-indices_code r = draw_code r
+indices_code r = list_code r
 
 -- the answer of an operation that writes `count` points or indices as `need` words into a list of `have` words: a bad top first, then the
 -- lowest number that applies; `short` is the number for a list that is too short
