@@ -10,32 +10,33 @@ use lib.Dec.{eqb}
 use lib.ListN.{length, take, drop, length-drop}
 use lib.Seq.{take_all}
 use Rattle.job.specs.Header.{starts_with, version_number_in}
-use Rattle.replay.specs.declared.answer.Replay.{Replay}
-use Rattle.replay.specs.declared.answer.Replay.TheVariants.{AllAgree, NotARecording, UnknownVersion}
+use Rattle.replay.specs.Answer.{Replay}
+use Rattle.std.proofs.Common.{Ok, Err}
+use Rattle.replay.specs.declared.answer.ReplayFailure.TheVariants.{NotARecording, UnknownVersion}
 use Rattle.replay.specs.Replays.{recording_mark, not_a_recording, replay_start, go_on, replay_of, Countable}
 use Rattle.replay.specs.Pieces.{is_open}
 
 module _ (bs : List ℕ) where
-  pub start_lacks : not_a_recording bs ≡ true → replay_start bs ≡ NotARecording
+  pub start_lacks : not_a_recording bs ≡ true → replay_start bs ≡ (Err NotARecording)
   unfolding replay_start
   start_lacks h = rw h
 
-  pub start_short : length bs < 5 → replay_start bs ≡ NotARecording
+  pub start_short : length bs < 5 → replay_start bs ≡ (Err NotARecording)
   start_short h = start_lacks (rw (lt-ltb _ _ h))
 
-  pub start_other : starts_with recording_mark bs ≡ false → replay_start bs ≡ NotARecording
+  pub start_other : starts_with recording_mark bs ≡ false → replay_start bs ≡ (Err NotARecording)
   start_other h = start_lacks (rw (h, or-true))
 
-  pub start_version : 5 ≤ length bs → starts_with recording_mark bs ≡ true → (version_number_in bs ≡ 1 → ⊥) → replay_start bs ≡ UnknownVersion
+  pub start_version : 5 ≤ length bs → starts_with recording_mark bs ≡ true → (version_number_in bs ≡ 1 → ⊥) → replay_start bs ≡ (Err UnknownVersion)
   unfolding replay_start
   start_version h m p = rw (le-ltb _ _ h, m, ne_eqb _ _ p)
 
-  pub start_right : 5 ≤ length bs → starts_with recording_mark bs ≡ true → version_number_in bs ≡ 1 → replay_start bs ≡ AllAgree 0
+  pub start_right : 5 ≤ length bs → starts_with recording_mark bs ≡ true → version_number_in bs ≡ 1 → replay_start bs ≡ Ok 0
   unfolding replay_start
   start_right h m e = rw (le-ltb _ _ h, m, e)
 
   -- under 5 bytes there are no entries
-  pub replay_short : length bs < 5 → replay_of bs ≡ NotARecording
+  pub replay_short : length bs < 5 → replay_of bs ≡ (Err NotARecording)
   unfolding replay_of
   replay_short h = rw (start_short h)
 
@@ -56,7 +57,7 @@ pub start_countable : (bs : List ℕ) {s : Replay} {n : ℕ} → s ≡ replay_st
 unfolding replay_start
 start_countable bs {n = n} e h = subst (λ (r : Replay). Countable r n) (sym e) (go (not_a_recording bs) (eqb (version_number_in bs) 1))
   where
-    go : (a b : Bool) → Countable (cond a NotARecording (cond b (AllAgree 0) UnknownVersion)) n
+    go : (a b : Bool) → Countable (cond a (Err NotARecording) (cond b (Ok 0) (Err UnknownVersion))) n
     go true b = tt
     go false true = omega arith
     go false false = tt

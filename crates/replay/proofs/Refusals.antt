@@ -8,8 +8,9 @@ use native.Mathlib.Omega.{arith}
 use lib.Dec.{eqb}
 use lib.ListN.{length, get_or}
 use Rattle.replay_entry.specs.declared.outcome.Outcome.{Outcome}
-use Rattle.replay.specs.declared.answer.Replay.{Replay}
-use Rattle.replay.specs.declared.answer.Replay.TheVariants.{AllAgree, Differs, NotARecording, UnknownVersion, CutEntry}
+use Rattle.replay.specs.Answer.{Replay}
+use Rattle.std.proofs.Common.{Ok, Err}
+use Rattle.replay.specs.declared.answer.ReplayFailure.TheVariants.{Differs, NotARecording, UnknownVersion, CutEntry}
 use Rattle.replay_entry.specs.Entries.{recorded, replayed}
 use Rattle.replay.specs.Replays.{entry_size, replay_of}
 use Rattle.replay.specs.ReplayCode.{replay_code}
@@ -25,14 +26,14 @@ first e = ap (λ (l : List ℕ). get_or l 0 0) e
 
 -- the refusal with a number
 abbrev of_number : ℕ → Replay
-of_number n = cond (eqb n 5) NotARecording (cond (eqb n 6) UnknownVersion CutEntry)
+of_number n = cond (eqb n 5) (Err NotARecording) (cond (eqb n 6) (Err UnknownVersion) (Err CutEntry))
 
 only : (r : Replay) (n : ℕ) → Numbered r (suc n) → r ≡ of_number (suc n)
-only (AllAgree k) n e = absurd (let z : ◌≡◌ {A = ℕ} 0 (suc n) = first e in omega arith)
-only (Differs k a b) n e = absurd (let z : ◌≡◌ {A = ℕ} 0 (suc n) = first e in omega arith)
-only NotARecording n e = ap of_number (first e)
-only UnknownVersion n e = ap of_number (first e)
-only CutEntry n e = ap of_number (first e)
+only (Ok k) n e = absurd (let z : ◌≡◌ {A = ℕ} 0 (suc n) = first e in omega arith)
+only (Err (Differs k a b)) n e = absurd (let z : ◌≡◌ {A = ℕ} 0 (suc n) = first e in omega arith)
+only (Err NotARecording) n e = ap of_number (first e)
+only (Err UnknownVersion) n e = ap of_number (first e)
+only (Err CutEntry) n e = ap of_number (first e)
 
 module _ (bs : List ℕ) where
   -- a number is given exactly if its answer is right
@@ -54,10 +55,10 @@ module _ (bs : List ℕ) where
   }
 
   -- all agree: a header and n whole entries, each of which agrees
-  pub all_agree : (n : ℕ) → replay_of bs ≡ AllAgree n ↔ Headed bs × (length bs ≡ 5 + entry_size * n) × AgreeBefore bs n
-  all_agree n = replay_exactly bs (AllAgree n)
+  pub all_agree : (n : ℕ) → replay_of bs ≡ Ok n ↔ Headed bs × (length bs ≡ 5 + entry_size * n) × AgreeBefore bs n
+  all_agree n = replay_exactly bs (Ok n)
 
   -- the entry that differs is the first that does, with both answers
-  pub first_differs : (k : ℕ) (a b : Outcome) → replay_of bs ≡ Differs k a b
+  pub first_differs : (k : ℕ) (a b : Outcome) → replay_of bs ≡ Err (Differs k a b)
       ↔ Headed bs × (5 + entry_size * suc k ≤ length bs) × AgreeBefore bs k × (AgreesAt bs k → ⊥) × (a ≡ recorded (entry_at bs k)) × (b ≡ replayed (entry_at bs k))
-  first_differs k a b = replay_exactly bs (Differs k a b)
+  first_differs k a b = replay_exactly bs (Err (Differs k a b))

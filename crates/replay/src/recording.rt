@@ -4,7 +4,7 @@ ghost use Rattle.patch_text.specs.Room.{FullSize};
 ghost use Rattle.replay.specs.Means.{ReplaySaid};
 ghost use Rattle.replay.specs.Replays.{replay_start, entries_from, go_on, Countable};
 
-use crate::answer::Replay;
+use crate::answer::ReplayFailure;
 use job::header::{lacks_mark, read_version};
 use replay_entry::entry::{read_recorded, replay_record};
 use replay_entry::outcome::same_outcome;
@@ -14,23 +14,28 @@ pub const MARK: [u8; 3] = *b"TSR";
 
 const VERSION: u16 = 1;
 
-// Returns the answer after the header: that all of 0 entries agree, or the refusal.
-pub fn read_start(bytes: &[u8]) -> Replay
+// Returns the answer after the header: 0 entries that all agree, or the refusal.
+pub fn read_start(bytes: &[u8]) -> Result<u64, ReplayFailure>
     ensures { result ≡ replay_start bytes.now }
 {
     if lacks_mark(bytes, &MARK) {
-        return Replay::NotARecording;
+        return Err(ReplayFailure::NotARecording);
     }
     if read_version(bytes) != VERSION {
-        return Replay::UnknownVersion;
+        return Err(ReplayFailure::UnknownVersion);
     }
-    Replay::AllAgree { entries: 0 }
+    Ok(0)
 }
 
 // Replays the entries from number `first` on; a cut entry is reported only if all entries before it agree.
-fn replay_entries(bytes: &[u8], first: u64, vertices: &mut [u32], indices: &mut [u16]) -> Replay
-    requires fact_1 { FullSize (length vertices.old) (length indices.old) }
-    requires fact_2 { first + length bytes.now / 34 ≤ 18446744073709551615 }
+fn replay_entries(
+    bytes: &[u8],
+    first: u64,
+    vertices: &mut [u32],
+    indices: &mut [u16],
+) -> Result<u64, ReplayFailure>
+    requires full_size { FullSize (length vertices.old) (length indices.old) }
+    requires countable { first + length bytes.now / 34 ≤ 18446744073709551615 }
     ensures { result ≡ entries_from first bytes.now }
 {
     let mut entry = first;
@@ -41,46 +46,44 @@ fn replay_entries(bytes: &[u8], first: u64, vertices: &mut [u32], indices: &mut 
         let recorded = read_recorded(part);
         let replayed = replay_record(part, vertices, indices);
         if !same_outcome(recorded, replayed) {
-            return Replay::Differs {
+            return Err(ReplayFailure::Differs {
                 entry,
                 recorded,
                 replayed,
-            };
+            });
         }
         at = next;
         entry += 1;
     }
     if at < bytes.len() {
-        return Replay::CutEntry;
+        return Err(ReplayFailure::CutEntry);
     }
-    Replay::AllAgree { entries: entry }
+    Ok(entry)
 }
 
 // Replays the next piece of a recording; it changes the answer only if all entries so far agree.
-pub fn go_on(so_far: Replay, bytes: &[u8], vertices: &mut [u32], indices: &mut [u16]) -> Replay
-    requires fact_1 { FullSize (length vertices.old) (length indices.old) }
-    requires fact_2 { Countable so_far (length bytes.now / 34) }
+pub fn go_on(
+    so_far: Result<u64, ReplayFailure>,
+    bytes: &[u8],
+    vertices: &mut [u32],
+    indices: &mut [u16],
+) -> Result<u64, ReplayFailure>
+    requires full_size { FullSize (length vertices.old) (length indices.old) }
+    requires countable { Countable so_far (length bytes.now / 34) }
     ensures { result ≡ go_on so_far bytes.now }
 {
     match so_far {
-        Replay::AllAgree { entries } => replay_entries(bytes, entries, vertices, indices),
-        Replay::Differs {
-            entry: _,
-            recorded: _,
-            replayed: _,
-        } => so_far,
-        Replay::NotARecording => so_far,
-        Replay::UnknownVersion => so_far,
-        Replay::CutEntry => so_far,
+        Ok(entries) => replay_entries(bytes, entries, vertices, indices),
+        Err(_) => so_far,
     }
 }
 
-// Replays a whole recording.
-pub fn replay(bytes: &[u8]) -> Replay
+// Replays a whole recording; returns the number of its entries, which all agree.
+pub fn replay(bytes: &[u8]) -> Result<u64, ReplayFailure>
     ensures { ReplaySaid bytes.now result }
 {
     if bytes.len() < 5 {
-        return Replay::NotARecording;
+        return Err(ReplayFailure::NotARecording);
     }
     let mut vertices: [u32; 12675] = [0; 12675];
     let mut indices: [u16; 24576] = [0; 24576];

@@ -5,8 +5,9 @@ use mathlib.Core.Bool.{cond}
 use mathlib.Core.List.{List}
 use lib.Dec.{eqb}
 use lib.ListN.{get_or}
-use Rattle.replay.specs.declared.answer.Replay.{Replay}
-use Rattle.replay.specs.declared.answer.Replay.TheVariants.{AllAgree, Differs, NotARecording, UnknownVersion, CutEntry}
+use Rattle.replay.specs.Answer.{Replay}
+use Rattle.std.proofs.Common.{Ok, Err}
+use Rattle.replay.specs.declared.answer.ReplayFailure.TheVariants.{Differs, NotARecording, UnknownVersion, CutEntry}
 use Rattle.replay.specs.ReplayCode.{replay_code}
 use Rattle.replay.proofs.Exactly.{replay_exactly}
 use Rattle.answer_codes.specs.Reports.{Reports}
@@ -16,18 +17,18 @@ use Rattle.replay_exports.specs.Calls.{call_number, seven_words, side_in, Replay
 -- the answer with this number and these seven words
 abbrev answer_in : ℕ → List ℕ → Replay
 answer_in n w =
-    cond (eqb n 0) (AllAgree (get_or w 0 0))
-    (cond (eqb n 60) (Differs (get_or w 0 0) (side_in w 1) (side_in w 4)) (cond (eqb n 5) NotARecording (cond (eqb n 6) UnknownVersion CutEntry)))
+    cond (eqb n 0) (Ok (get_or w 0 0))
+    (cond (eqb n 60) (Err (Differs (get_or w 0 0) (side_in w 1) (side_in w 4))) (cond (eqb n 5) (Err NotARecording) (cond (eqb n 6) (Err UnknownVersion) (Err CutEntry))))
 
 abbrev words_of : Replay → List ℕ
 words_of a = seven_words (replay_code a).values
 
 same_answer : (a : Replay) → answer_in (call_number a) (words_of a) ≡ a
-same_answer (AllAgree n) = refl
-same_answer (Differs k a b) = refl
-same_answer NotARecording = refl
-same_answer UnknownVersion = refl
-same_answer CutEntry = refl
+same_answer (Ok n) = refl
+same_answer (Err (Differs k a b)) = refl
+same_answer (Err NotARecording) = refl
+same_answer (Err UnknownVersion) = refl
+same_answer (Err CutEntry) = refl
 
 pub replay_call_exactly : (bs : List ℕ) {w' : List ℕ} {r : ℕ} → ReplayCalled bs w' r → ReplayExactly bs w' r
 replay_call_exactly bs c =

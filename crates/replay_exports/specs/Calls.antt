@@ -1,8 +1,9 @@
 -- What a call that replays a recording answers and leaves, for every input: bs are the bytes, w' the seven words at exit. Assumes nothing.
 use Rattle.std.specs.Prelude.{ℕ, ◌+◌, ◌≡◌, List, [], ◌∷◌, ◌↔◌, get_or}
 use Rattle.replay_entry.specs.declared.outcome.Outcome.{Outcome}
-use Rattle.replay.specs.declared.answer.Replay.{Replay}
-use Rattle.replay.specs.declared.answer.Replay.TheVariants.{AllAgree, Differs, NotARecording, UnknownVersion, CutEntry}
+use Rattle.replay.specs.Answer.{Replay}
+use Rattle.std.specs.Prelude.{Ok, Err}
+use Rattle.replay.specs.declared.answer.ReplayFailure.TheVariants.{Differs, NotARecording, UnknownVersion, CutEntry}
 use Rattle.replay.specs.ReplayCode.{replay_code}
 use Rattle.replay.specs.Replays.{replay_of}
 use Rattle.replay.specs.Means.{ReplayMeans}
@@ -10,11 +11,11 @@ use Rattle.answer_codes.specs.Reports.{AnsweredExactly}
 
 -- the number of an answer: 0 if all entries agree, 60 if one differs, else the number of the refusal
 abbrev pub call_number : Replay → ℕ
-call_number (AllAgree n) = 0
-call_number (Differs k a b) = 60
-call_number NotARecording = 5
-call_number UnknownVersion = 6
-call_number CutEntry = 7
+call_number (Ok n) = 0
+call_number (Err (Differs k a b)) = 60
+call_number (Err NotARecording) = 5
+call_number (Err UnknownVersion) = 6
+call_number (Err CutEntry) = 7
 
 -- seven words for the values of an answer, 0 for a value that it lacks
 abbrev pub seven_words : List ℕ → List ℕ
@@ -34,8 +35,8 @@ pub record ReplayExactly (bs w' : List ℕ) (r : ℕ) : Type 0 where
   -- each answer is given, by number and words, exactly if it is right
   pub answers : AnsweredExactly call_number (λ a. seven_words (replay_code a).values) (ReplayMeans bs) w' r
   -- the same for each number
-  pub agrees : (r ≡ 0) ↔ ReplayMeans bs (AllAgree (get_or w' 0 0))
-  pub not_a_recording : (r ≡ 5) ↔ ReplayMeans bs NotARecording
-  pub unknown_version : (r ≡ 6) ↔ ReplayMeans bs UnknownVersion
-  pub cut_entry : (r ≡ 7) ↔ ReplayMeans bs CutEntry
-  pub differs : (r ≡ 60) ↔ ReplayMeans bs (Differs (get_or w' 0 0) (side_in w' 1) (side_in w' 4))
+  pub agrees : (r ≡ 0) ↔ ReplayMeans bs (Ok (get_or w' 0 0))
+  pub not_a_recording : (r ≡ 5) ↔ ReplayMeans bs (Err NotARecording)
+  pub unknown_version : (r ≡ 6) ↔ ReplayMeans bs (Err UnknownVersion)
+  pub cut_entry : (r ≡ 7) ↔ ReplayMeans bs (Err CutEntry)
+  pub differs : (r ≡ 60) ↔ ReplayMeans bs (Err (Differs (get_or w' 0 0) (side_in w' 1) (side_in w' 4)))

@@ -1,7 +1,7 @@
 -- The contract of reading and replaying a piece of a recording. Assumes nothing.
 use Rattle.std.specs.Prelude.{ℕ, ◌≡◌, ◌&&◌, List, eqb, take}
 use Rattle.standard_streams.specs.Moved.{Filled}
-use Rattle.replay.specs.declared.answer.Replay.{Replay}
+use Rattle.replay.specs.Answer.{Replay}
 use Rattle.replay.specs.Replays.{replay_start, go_on}
 use Rattle.replay.specs.Pieces.{is_open}
 use Rattle.tsr_pieces.specs.declared.piece.Start.{Start}

@@ -5,7 +5,7 @@ ghost use Rattle.replay.specs.Replays.{Countable};
 ghost use Rattle.replay.specs.Pieces.{is_open};
 ghost use Rattle.tsr_pieces.specs.Pieces.{ReplayedHeader, ReplayedChunk};
 
-use replay::answer::Replay;
+use replay::answer::ReplayFailure;
 use replay::recording::{go_on, read_start};
 use standard_streams::{Input, Streams, read_front};
 
@@ -16,32 +16,22 @@ const CHUNK: usize = 8704;
 #[derive(Clone, Copy, Drop)]
 pub struct Start {
     pub input: Input,
-    pub so_far: Replay,
+    pub so_far: Result<u64, ReplayFailure>,
 }
 
 // What was read, the answer so far, and whether another chunk follows.
 #[derive(Clone, Copy, Drop)]
 pub struct Chunk {
     pub input: Input,
-    pub so_far: Replay,
+    pub so_far: Result<u64, ReplayFailure>,
     pub more: bool,
 }
 
 // Whether another piece can change the answer.
-pub fn is_open(so_far: Replay) -> bool
+pub fn is_open(so_far: Result<u64, ReplayFailure>) -> bool
     ensures { result ≡ is_open so_far }
 {
-    match so_far {
-        Replay::AllAgree { entries: _ } => true,
-        Replay::Differs {
-            entry: _,
-            recorded: _,
-            replayed: _,
-        } => false,
-        Replay::NotARecording => false,
-        Replay::UnknownVersion => false,
-        Replay::CutEntry => false,
-    }
+    so_far.is_ok()
 }
 
 // Reads the header to `header`; returns the answer after it.
@@ -60,7 +50,7 @@ pub fn replay_header(streams: &Streams, header: &mut [u8]) -> Start
 pub fn replay_chunk(
     streams: &Streams,
     bytes: &mut [u8],
-    so_far: Replay,
+    so_far: Result<u64, ReplayFailure>,
     vertices: &mut [u32],
     indices: &mut [u16],
 ) -> Chunk

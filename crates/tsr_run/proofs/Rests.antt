@@ -6,7 +6,7 @@ use mathlib.Core.List.{List, [], ◌∷◌, ◌++◌, append-nil}
 use native.Mathlib.Omega.{arith}
 use lib.ListN.{length, take, length-append}
 use Rattle.standard_streams.proofs.Fills.{filled_none, part_full, part_short}
-use Rattle.replay.specs.declared.answer.Replay.{Replay}
+use Rattle.replay.specs.Answer.{Replay}
 use Rattle.replay.specs.Replays.{go_on, Countable}
 use Rattle.replay.specs.Pieces.{joined_pieces, EntryPieces, last, more, answer_after, is_open}
 use Rattle.replay.proofs.Pieces.{go_on_none, go_on_in_pieces}

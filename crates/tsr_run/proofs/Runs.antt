@@ -7,7 +7,7 @@ use native.Mathlib.Omega.{arith}
 use lib.ListN.{length, take}
 use Rattle.standard_streams.specs.declared.output.Output.{Output}
 use Rattle.standard_streams.specs.Moved.{Taken}
-use Rattle.replay.specs.declared.answer.Replay.{Replay}
+use Rattle.replay.specs.Answer.{Replay}
 use Rattle.replay.specs.Replays.{replay_start, go_on, replay_of}
 use Rattle.replay.specs.Pieces.{answer_after, is_open}
 use Rattle.replay.proofs.Headers.{start_open}

@@ -1,7 +1,7 @@
 -- The contract of reading and replaying the entries of a recording chunk by chunk. Assumes nothing.
 use Rattle.std.specs.Prelude.{ℕ, ◌+◌, ◌*◌, ◌≤◌, ◌<◌, ◌≡◌, true, false, List, [], ◌∷◌, length, take}
 use Rattle.standard_streams.specs.Moved.{Filled}
-use Rattle.replay.specs.declared.answer.Replay.{Replay}
+use Rattle.replay.specs.Answer.{Replay}
 use Rattle.replay.specs.Pieces.{answer_after, is_open}
 use Rattle.tsr_run.specs.declared.rest.Replayed.{Replayed}
 use Rattle.tsr_pieces.specs.Pieces.{entry_chunk_size}

@@ -4,7 +4,7 @@ ghost use Rattle.patch_text.specs.Room.{FullSize};
 ghost use Rattle.replay.specs.Replays.{Countable};
 ghost use Rattle.tsr_run.specs.Rests.{replay_stopped_at, ReplayedChunks, ReplayedRest};
 
-use replay::answer::Replay;
+use replay::answer::ReplayFailure;
 use standard_streams::{Input, Streams};
 use tsr_pieces::piece::{is_open, replay_chunk};
 
@@ -17,11 +17,11 @@ const MOST: usize = 9223372036854775808;
 pub struct Replayed {
     pub read: usize,
     pub last: Input,
-    pub answer: Replay,
+    pub answer: Result<u64, ReplayFailure>,
 }
 
 // The result of a run that stopped after these bytes, with no read that failed.
-fn stopped(read: usize, answer: Replay) -> Replayed
+fn stopped(read: usize, answer: Result<u64, ReplayFailure>) -> Replayed
     ensures { result ≡ replay_stopped_at read answer }
 {
     let last = Input {
@@ -35,7 +35,7 @@ fn stopped(read: usize, answer: Replay) -> Replayed
 fn replay_chunks(
     streams: &Streams,
     bytes: &mut [u8],
-    start: Replay,
+    start: Result<u64, ReplayFailure>,
     vertices: &mut [u32],
     indices: &mut [u16],
 ) -> Replayed
@@ -66,7 +66,7 @@ fn replay_chunks(
 pub(crate) fn replay_rest(
     streams: &Streams,
     bytes: &mut [u8],
-    start: Replay,
+    start: Result<u64, ReplayFailure>,
     vertices: &mut [u32],
     indices: &mut [u16],
 ) -> Replayed

@@ -6,7 +6,7 @@ ghost use Rattle.tsr_line.specs.Sentences.{replay_line};
 ghost use Rattle.tsr_run.specs.Runs.{ReplayRan};
 
 use crate::rest::replay_rest;
-use replay::answer::Replay;
+use replay::answer::ReplayFailure;
 use standard_streams::{Input, Output, Streams};
 use tsr_line::sentence::put_replay;
 use tsr_pieces::piece::replay_header;
@@ -17,12 +17,12 @@ pub struct ReplayOutcome {
     pub header: Input,
     pub read: usize,
     pub last: Input,
-    pub answer: Replay,
+    pub answer: Result<u64, ReplayFailure>,
     pub output: Output,
 }
 
 // Writes the line of the answer.
-fn write_line(streams: &mut Streams, answer: Replay) -> Output
+fn write_line(streams: &mut Streams, answer: Result<u64, ReplayFailure>) -> Output
     ensures { Taken (length (replay_line answer)) result }
 {
     let mut out = [0u8; 128];
@@ -35,7 +35,7 @@ fn write_line(streams: &mut Streams, answer: Replay) -> Output
 }
 
 // Writes that line, or reports that a read failed.
-fn say(streams: &mut Streams, failed: bool, answer: Replay) -> Output
+fn say(streams: &mut Streams, failed: bool, answer: Result<u64, ReplayFailure>) -> Output
     ensures { Taken (length (cond failed [] (replay_line answer))) result }
 {
     if failed {

@@ -8,8 +8,8 @@ use Rattle.replay.proofs.recording.replay.Goals as goal
 pub returns-then-bytes-lt5 : goal.returns-then-bytes-lt5
 returns-then-bytes-lt5 c = replay_said _ (sym (replay_short _ (omega (arith, c.if-bytes-lt5.true))))
 
-pub go_on-requires-clause-fact_2 : goal.go_on-requires-clause-fact_2
-go_on-requires-clause-fact_2 c =
+pub go_on-requires-clause-countable : goal.go_on-requires-clause-countable
+go_on-requires-clause-countable c =
     start_countable _ c.read_start-start.ensures (simp (length-take, length-drop) (omega arith))
 
 pub returns : goal.returns
