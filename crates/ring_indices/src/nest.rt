@@ -132,6 +132,7 @@ pub fn write_nest(
     let mut left = n;
     if 12 <= n {
         let pattern = Pattern::new(positive);
+        // Kept: the first loop hands its ring and its count on to the second, and a turn takes off two segments, so no range serves both.
         'long: while 12 <= left {
             left -= 2;
             to = ring.write_wide_band(out, to, left, &pattern);

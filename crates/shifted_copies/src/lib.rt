@@ -27,6 +27,7 @@ pub fn write_copies(out: &mut [u16], at: usize, n: usize, k: usize, by: usize) -
 {
     let mut to = at + n;
     let mut r = 1usize;
+    // Kept: each round copies all that is there, so no range gives the rounds.
     while r < k {
         let m = r.min(k - r);
         to = write_copy(out, at, to, m * n, r * by);

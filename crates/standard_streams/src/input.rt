@@ -33,6 +33,7 @@ pub fn read_front(streams: &Streams, bytes: &mut [u8]) -> Input
 {
     let mut stdin = streams.rt.stdin();
     let mut at = 0;
+    // Kept: how many bytes a read takes is known only after it.
     while at < bytes.len() {
         let next = read_on(&mut stdin, bytes, at);
         if next.count == 0 {

@@ -33,6 +33,7 @@ fn write_front<W: Write>(file: &mut W, is_closed: &mut bool, bytes: &[u8]) -> Ou
     ensures { Taken (length bytes.now) result }
 {
     let mut at = 0;
+    // Kept: how many bytes a write takes is known only after it.
     while at < bytes.len() {
         let next = write_on(file, is_closed, bytes, at);
         if next == 0 {

@@ -63,6 +63,7 @@ fn write_rings(out: &mut [u32], at: usize, row: &[u32]) -> usize
 {
     let mut to = at;
     let mut inner = row;
+    // Kept: each turn goes on with the middle of the row, and counts nothing.
     while 3 <= inner.len() {
         let end = inner.len() - 1;
         to = write_ring(out, to, &inner[0..end]);
@@ -185,6 +186,7 @@ fn write_laid_rings(out: &mut [u32], at: usize, base: &[u32], other: &[u32], row
     let mut to = at;
     let mut inner = row;
     let mut from = 0usize;
+    // Kept: each turn goes on with the middle of the row, until a row is too short for this form.
     while 9 <= inner.len() {
         to = write_wide_ring(out, to, base, other, from, inner);
         let last = inner.len() - 1;

@@ -46,6 +46,7 @@ fn replay_chunks(
 {
     let mut so_far = start;
     let mut read = 0;
+    // Kept: how many bytes a chunk has is known only after its read.
     while read <= MOST {
         let piece = replay_chunk(streams, bytes, so_far, vertices, indices);
         read += piece.input.count;
