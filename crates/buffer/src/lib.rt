@@ -32,8 +32,8 @@ pub fn put3<T: Copy>(out: &mut [T], at: usize, x: T, y: T, z: T) -> usize
 }
 
 // Writes all of `items`.
-// Kept: a loop, since `copy_from_slice` was tried and misses the bar of speed. It copies through pointers that may overlap for all that
-// LLVM knows, so each block of 24 indices was also stored on the stack and its place compared.
+// Kept: a loop, since `copy_from_slice` was tried: a triangle patch of level 64 takes 3 in 10 instructions more. It copies through pointers
+// that may overlap for all that LLVM knows, so each block of 24 indices was also stored on the stack and its place compared.
 pub fn put_all<T: Copy>(out: &mut [T], at: usize, items: &[T]) -> usize
     requires { at + length items.now ≤ length out.old }
     ensures { Wrote out.old at items.now out.new result }

@@ -9,7 +9,7 @@ use level_clamps::Clamps;
 use measure::cut::NotDrawn;
 use measure::size::Size;
 
-// Kept: a function in place of `From`, since neither `Clamp` nor `u8` is a type of this crate.
+// Kept: a function in place of `From`, which would have to lie in `level`, where a clamp has no number (`clamp_number`).
 fn byte_of(clamp: Clamp) -> u8
     ensures { result ≡ clamp_number clamp }
 {

@@ -62,7 +62,7 @@ fn flag_by_table<const POINTS: usize, const SIDES: usize>(
     );
 }
 
-// The same with a table as large as the other mesh needs: for up to 64 points and 128 triangles, or for up to 8192 points and 8448 triangles.
+// The same with a table as large as the other mesh needs: up to 64 points and 128 triangles, or up to 8192 points and 8448 triangles.
 fn flag_faces(
     mesh: SoundMesh,
     other: SoundMesh,

@@ -19,7 +19,7 @@ use Rattle.measure.specs.declared.size.Size.{Size}
 use Rattle.measure.specs.Sizes.{points_of, indices_of, size_code, measure_verdict}
 use Rattle.answer_codes.specs.AnswerCode.{AnswerCode, refused, drew_both}
 use Rattle.measure.proofs.Measured.{measured, is_measured}
-use Rattle.draw_floats.specs.Answers.{refusal_of, floats_code, floats_room_verdict, floats_verdict}
+use Rattle.draw_floats.specs.Answers.{floats_refusal_of, floats_code, floats_room_verdict, floats_verdict}
 
 module _ (v i f : ℕ) where
   -- by the result of measuring
@@ -42,7 +42,7 @@ module _ (v i f : ℕ) where
   judged set p s e = ap size_verdict (is_measured set p e) ∙ by_size set p
 
   -- a patch that is not measured is refused for the same reason
-  pub judged_refused : (set : Settings) (p : Patch) (e : NotDrawn) → size_code (Err e) ≡ measure_verdict set p → floats_code (Err (refusal_of e)) ≡ floats_verdict set p v i f
+  pub judged_refused : (set : Settings) (p : Patch) (e : NotDrawn) → size_code (Err e) ≡ measure_verdict set p → floats_code (Err (floats_refusal_of e)) ≡ floats_verdict set p v i f
   judged_refused set p BadTop h = judged set p (Err BadTop) h
   judged_refused set p Discarded h = judged set p (Err Discarded) h
 

@@ -12,9 +12,9 @@ use Rattle.draw_floats.specs.declared.refusal.FloatsRefusal.{FloatsRefusal}
 use Rattle.draw_floats.specs.declared.refusal.FloatsRefusal.TheVariants.{BadTop, Discarded, NoRoomForVertices, NoRoomForIndices, NoRoomForFloats}
 
 -- a patch that is not cut is not drawn, for the same reason
-abbrev pub refusal_of : NotDrawn → FloatsRefusal
-refusal_of reason.BadTop = BadTop
-refusal_of reason.Discarded = Discarded
+abbrev pub floats_refusal_of : NotDrawn → FloatsRefusal
+floats_refusal_of reason.BadTop = BadTop
+floats_refusal_of reason.Discarded = Discarded
 
 -- the numbers are those of the two drawing operations, and 9 if there is no room for the floats
 abbrev pub floats_code : Result DrawnCounts FloatsRefusal → AnswerCode

@@ -1,6 +1,6 @@
 // Why nothing was drawn into the three lists.
 ghost use Rattle.std.specs.Prelude.{◌≡◌};
-ghost use Rattle.draw_floats.specs.Answers.{refusal_of};
+ghost use Rattle.draw_floats.specs.Answers.{floats_refusal_of};
 
 use measure::cut::NotDrawn;
 
@@ -15,7 +15,7 @@ pub enum FloatsRefusal {
 }
 
 impl From<NotDrawn> for FloatsRefusal {
-    ghost from_gives = { λ reason refusal. refusal ≡ refusal_of reason };
+    ghost from_gives = { λ reason refusal. refusal ≡ floats_refusal_of reason };
 
     fn from(reason: NotDrawn) -> FloatsRefusal {
         match reason {

@@ -9,7 +9,7 @@ use lib.ListN.{length}
 use Rattle.buffer.specs.Over.{flat}
 use Rattle.buffer.proofs.Laws.{flat_length, flat_last, flat_same}
 use Rattle.strip.specs.declared.triangle.Triangle.{Triangle}
-use Rattle.strip.specs.Lines.{along}
+use Rattle.strip.specs.Lines.{vertex_along}
 use Rattle.strip.specs.Triangles.{indices}
 use Rattle.strip.proofs.Lines.{along_line}
 use Rattle.strip.proofs.Strips.{indices_length, indices_append}
@@ -21,7 +21,7 @@ use Rattle.shifted_copies.proofs.Shifts.{flat_shifted, flat_below}
 
 module _ (g : Grid) where
   -- the first column downwards: the step counts down modulo 65536
-  pub follows_left : (i : ℕ) → i ≤ g.a → along (g.start + g.a * g.width) (65536 - g.width) g.a g.start i ≡ grid_at g.start g.width (g.a - i) 0
+  pub follows_left : (i : ℕ) → i ≤ g.a → vertex_along (g.start + g.a * g.width) (65536 - g.width) g.a g.start i ≡ grid_at g.start g.width (g.a - i) 0
   unfolding grid_at
   follows_left =
       along_line (g.start + g.a * g.width) (65536 - g.width) g.a g.start (λ k. grid_at g.start g.width (g.a - k) 0)
@@ -31,18 +31,18 @@ module _ (g : Grid) where
       omega (arith, rows, down, add-mul (g.a - i) i g.width, add-mul (65536 - g.width) g.width i, mul_comm g.width i))
       (let none : (g.a - g.a) * g.width ≡ 0 * g.width = ap (λ (k : ℕ). k * g.width) (omega arith) in omega arith)
 
-  pub follows_bottom : (i : ℕ) → i ≤ g.b → along g.start 1 g.b (g.start + g.b) i ≡ grid_at g.start g.width 0 i
+  pub follows_bottom : (i : ℕ) → i ≤ g.b → vertex_along g.start 1 g.b (g.start + g.b) i ≡ grid_at g.start g.width 0 i
   unfolding grid_at
   follows_bottom =
       along_line g.start 1 g.b (g.start + g.b) (λ k. grid_at g.start g.width 0 k) (λ i h. omega arith) (omega arith)
 
-  pub follows_right : (i : ℕ) → i ≤ g.a → along (g.start + g.b) g.width g.a (g.start + g.b + g.a * g.width) i ≡ grid_at g.start g.width i g.b
+  pub follows_right : (i : ℕ) → i ≤ g.a → vertex_along (g.start + g.b) g.width g.a (g.start + g.b + g.a * g.width) i ≡ grid_at g.start g.width i g.b
   unfolding grid_at
   follows_right =
       along_line (g.start + g.b) g.width g.a (g.start + g.b + g.a * g.width) (λ k. grid_at g.start g.width k g.b)
       (λ i h. let below : i ≤ g.a = omega arith in omega (arith, mul_comm g.width i, mul-le-mul_right g.width below)) (omega arith)
 
-  pub follows_top : (i : ℕ) → i ≤ g.b → along (g.start + g.a * g.width + g.b) 65535 g.b (g.start + g.a * g.width) i ≡ grid_at g.start g.width g.a (g.b - i)
+  pub follows_top : (i : ℕ) → i ≤ g.b → vertex_along (g.start + g.a * g.width + g.b) 65535 g.b (g.start + g.a * g.width) i ≡ grid_at g.start g.width g.a (g.b - i)
   unfolding grid_at
   follows_top =
       along_line (g.start + g.a * g.width + g.b) 65535 g.b (g.start + g.a * g.width) (λ k. grid_at g.start g.width g.a (g.b - k))

@@ -8,7 +8,7 @@ use Rattle.job_fields.specs.Levels.{bits_at, levels_of}
 use Rattle.job_fields.specs.declared.version.Version.{Version}
 use Rattle.job.specs.declared.cursor.Cursor.{Cursor}
 use Rattle.job.specs.declared.record.Record.{Record}
-use Rattle.job.specs.declared.next.Found.{Found}
+use Rattle.job.specs.declared.next.FoundRecord.{FoundRecord}
 use Rattle.job.specs.declared.next.RecordError.{RecordError}
 use Rattle.job.specs.declared.next.RecordError.TheVariants.{CutRecord, UnknownSetting}
 
@@ -39,7 +39,7 @@ unknown v bs at = ltb (unknown_place v bs at) (setting_bytes v)
 
 -- what reading a record answers: a record with the cursor after it, the end, or a refusal
 abbrev pub Answer : Type 0
-Answer = Result (Option Found) RecordError
+Answer = Result (Option FoundRecord) RecordError
 
 -- the answer with a record
 abbrev pub read : Record → Cursor → Answer

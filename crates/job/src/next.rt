@@ -12,7 +12,7 @@ use job_fields::version::{Version, record_size, setting_bytes};
 
 // A record, and the cursor after it.
 #[derive(Clone, Copy, Drop)]
-pub struct Found {
+pub struct FoundRecord {
     pub record: Record,
     pub next: Cursor,
 }
@@ -48,7 +48,7 @@ pub fn read_record(
     bytes: &[u8],
     version: Version,
     cursor: Cursor,
-) -> Result<Option<Found>, RecordError>
+) -> Result<Option<FoundRecord>, RecordError>
     ensures { RecordRead version bytes.now cursor.at result }
 {
     let at = cursor.at;
@@ -65,5 +65,5 @@ pub fn read_record(
         return Err(RecordError::UnknownSetting { place, next });
     }
     let record = read_whole(bytes, version, at);
-    Ok(Some(Found { record, next }))
+    Ok(Some(FoundRecord { record, next }))
 }

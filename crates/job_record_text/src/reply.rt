@@ -6,7 +6,7 @@ ghost use Rattle.patch_text.specs.Answers.{record_text};
 ghost use Rattle.job_record_text.specs.Replies.{record_reply, goes_on};
 ghost use Rattle.patch_text.specs.Room.{room, FullSize};
 
-use job::next::{Found, RecordError};
+use job::next::{FoundRecord, RecordError};
 use job::record::Record;
 use patch_text::answer::put_patch;
 
@@ -31,7 +31,7 @@ fn put_record(
 pub fn put_reply(
     out: &mut [u8],
     at: usize,
-    found: Result<Option<Found>, RecordError>,
+    found: Result<Option<FoundRecord>, RecordError>,
     vertices: &mut [u32],
     indices: &mut [u16],
 ) -> usize
@@ -48,7 +48,7 @@ pub fn put_reply(
 }
 
 // Returns where reading continues, in bytes that end at `end`.
-pub fn next_place(found: Result<Option<Found>, RecordError>, end: usize) -> usize
+pub fn next_place(found: Result<Option<FoundRecord>, RecordError>, end: usize) -> usize
     ensures { result ≡ goes_on end found }
 {
     match found {

@@ -1,6 +1,6 @@
 // Writes answers as text.
 use job::header::{Header, HeaderError};
-use job::next::{Found, RecordError};
+use job::next::{FoundRecord, RecordError};
 use job::record::{Record, patch_of, settings_of};
 use job_fields::levels::Levels;
 use level::{Spacing, segments_of};
@@ -26,7 +26,7 @@ pub(crate) fn write_header(out: Stdout, header: Result<Header, HeaderError>) -> 
 
 pub(crate) fn write_answer(
     out: Stdout,
-    answer: Result<Option<Found>, RecordError>,
+    answer: Result<Option<FoundRecord>, RecordError>,
 ) -> io::Result<()> {
     match answer {
         Ok(Some(there)) => {

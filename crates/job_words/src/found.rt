@@ -4,7 +4,7 @@ ghost use Rattle.job_words.specs.Found.{settings_out, patterns_out, nothing, fou
 
 use crate::version::known_version;
 use job::cursor::Cursor;
-use job::next::{RecordError, read_record};
+use job::next::{FoundRecord, RecordError, read_record};
 use job::record::Record;
 use job_fields::levels::Levels;
 use job_fields::setting::SettingByte;
@@ -73,7 +73,7 @@ fn whole_record(record: Record, next: usize) -> Found
     }
 }
 
-fn found_of(end: usize, found: Result<Option<job::next::Found>, RecordError>) -> Found
+fn found_of(end: usize, found: Result<Option<FoundRecord>, RecordError>) -> Found
     requires { number_in found < 256 }
     ensures { result ≡ found_of end found }
 {

@@ -4,7 +4,7 @@ ghost use Rattle.job_words.specs.Inputs.{known_version};
 
 use job_fields::version::Version;
 
-// Returns the version with the number 1 or 2.
+// Returns the version with the number 1 or 2, or none for any other number.
 #[tactic(auto, unfolding(crate::specs::Inputs::is_version, crate::specs::Inputs::version_of_number))]
 pub fn known_version(number: u32) -> Option<Version>
     ensures { result ≡ known_version number }

@@ -120,7 +120,7 @@ fn parts_of(x: f32) -> u32
 {
     let fine = (x as f64) * 8388608.0;
     let fine_parts = fine as u32;
-    // Kept: `div_ceil` was tried; it takes 3 instructions more in each of a draw's two calls, and triangles at level 64 have none to spare.
+    // Kept: `div_ceil` was tried; it takes 3 instructions more in each of a draw's two calls, and a draw is not to take more than before.
     (fine_parts + 127) / 128
 }
 

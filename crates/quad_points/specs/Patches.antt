@@ -11,5 +11,5 @@ abbrev pub all_segments : QuadSegments → List Segments
 all_segments s = s.e0 ∷ s.e1 ∷ s.e2 ∷ s.e3 ∷ s.rows ∷ s.columns ∷ []
 
 -- the points of the patch
-abbrev pub patch_points : QuadSegments → List Point
-patch_points s = quad_patch (run s.e0) (run s.e1) (run s.e2) (run s.e3) (run s.rows) (run s.columns)
+abbrev pub quad_patch_points : QuadSegments → List Point
+quad_patch_points s = quad_patch (run s.e0) (run s.e1) (run s.e2) (run s.e3) (run s.rows) (run s.columns)

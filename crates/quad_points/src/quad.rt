@@ -24,14 +24,14 @@ struct QuadSegments {
 }
 
 impl QuadSegments {
-    ghost use Rattle.quad_points.specs.Patches.{all_segments, patch_points};
+    ghost use Rattle.quad_points.specs.Patches.{all_segments, quad_patch_points};
     ghost use Rattle.vertices.specs.Rows.{AllStored, Widths};
 
     // Writes the patch, whose rows are in the table.
     fn write_stored(self, out: &mut [u32], at: usize, table: &[u32]) -> usize
         requires stored { AllStored table.now (all_segments self) }
-        requires room { at + 3 * length (patch_points self) ≤ length out.old }
-        ensures { Wrote out.old at (vertex_words (patch_points self)) out.new result }
+        requires room { at + 3 * length (quad_patch_points self) ≤ length out.old }
+        ensures { Wrote out.old at (vertex_words (quad_patch_points self)) out.new result }
     {
         let r0 = row_of(table, self.e0);
         let r1 = row_of(table, self.e1);
@@ -45,8 +45,8 @@ impl QuadSegments {
 
     // Writes the patch, whose rows are computed by division, one every 65 words.
     fn write_divided(self, out: &mut [u32], at: usize) -> usize
-        requires { at + 3 * length (patch_points self) ≤ length out.old }
-        ensures { Wrote out.old at (vertex_words (patch_points self)) out.new result }
+        requires { at + 3 * length (quad_patch_points self) ≤ length out.old }
+        ensures { Wrote out.old at (vertex_words (quad_patch_points self)) out.new result }
     {
         let mut words = [0u32; 390];
         edge::fill_row(&mut words, 325, self.columns);
@@ -82,8 +82,8 @@ impl QuadSegments {
     // the edges need.
     fn write_by_width(self, out: &mut [u32], at: usize, most: u32) -> usize
         requires widths { Widths 0 (all_segments self) most }
-        requires room { at + 3 * length (patch_points self) ≤ length out.old }
-        ensures { Wrote out.old at (vertex_words (patch_points self)) out.new result }
+        requires room { at + 3 * length (quad_patch_points self) ≤ length out.old }
+        ensures { Wrote out.old at (vertex_words (quad_patch_points self)) out.new result }
     {
         if most <= 16 {
             let table = edge_table::rows_to::<16, 152>();

@@ -4,7 +4,7 @@ use mathlib.Core.Path.{◌≡◌, sym, ap, ◌∙◌, subst}
 use mathlib.Core.Logic.{⊎_elim}
 use native.Mathlib.Omega.{arith}
 use Rattle.strip.specs.declared.line.Line.{Line}
-use Rattle.strip.specs.Lines.{along, Follows}
+use Rattle.strip.specs.Lines.{vertex_along, Follows}
 use Rattle.strip.proofs.Lines.{along_line}
 use Rattle.mesh_topology.specs.Ring.{ring_at}
 use Rattle.mesh_topology.specs.Band.{from}
@@ -13,7 +13,7 @@ use Rattle.strip_blocks.specs.Blocks.{line_of}
 
 -- a line along a ring has consecutive vertices, and ends at the ring's vertex there
 pub follows_ring : (base total o n last : ℕ) → o + n ≤ total → base + total < 65536 → last ≡ ring_at base total (o + n)
-    → (i : ℕ) → i ≤ n → along (base + o) 1 n last i ≡ from o (ring_at base total) i
+    → (i : ℕ) → i ≤ n → vertex_along (base + o) 1 n last i ≡ from o (ring_at base total) i
 follows_ring base total o n last fits small =
     along_line (base + o) 1 n last (from o (ring_at base total))
     (λ i h. ⊎_elim (λ w. absurd (omega arith)) (λ w. omega arith) (ring_point base total (o + i)))

@@ -87,8 +87,8 @@ impl TriangleRing {
     }
 }
 
-// Writes the band from a ring whose edges have r + 2 segments to the ring inside, four pairs at a time. Each of the first two strips writes one triangle too
-// many, and the next strip overwrites it.
+// Writes the band from a ring whose edges have r + 2 segments to the ring inside, four pairs at a time. Each of the first two strips
+// writes one triangle too many, and the next strip overwrites it.
 fn write_long_band(out: &mut [u16], at: usize, base: u32, r: u32, pattern: &Pattern) -> usize
     requires wide { (10 ≤ r) × (r ≤ 62) × (base < 8192) }
     requires room { at + 3 * (3 * (r + 2) + 3 * r) ≤ length out.old }

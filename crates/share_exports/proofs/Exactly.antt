@@ -103,7 +103,7 @@ module _ (bs : List ℕ) (d : ℕ) (ok : Bool) (p : Patch) (n v i : ℕ) where
   named t o e u g a b c =
       cond t (cond o (cond e no_designer (cond u (unknown place) (cond g (found (Err drawing.Discarded)) (cond a (found (Err drawing.TooManyPoints))
       (cond b (found (Err drawing.NoRoomForVertices)) (cond c (found (Err drawing.NoRoomForIndices)) (found (Ok (record { points = m; indices = k })))))))))
-       (found (Err drawing.BadState))) (found (Err drawing.BadTop))
+      (found (Err drawing.BadState))) (found (Err drawing.BadTop))
 
   abbrev right : ShareAnswer
   right = named (is_top (top_in bs)) ok (ltb 1 d) (ltb place 5) (discards p) (ltb 65535 (n + m)) (ltb v (3 * m)) (ltb i k)

@@ -6,22 +6,22 @@ use native.Mathlib.Omega.{arith}
 use native.Mathlib.Decide.{dec_le}
 use borrow.Author.Tests.{eq-eqb, ne_eqb}
 use Rattle.strip.specs.declared.line.Line.{Line}
-use Rattle.strip.specs.Lines.{along, vertex}
+use Rattle.strip.specs.Lines.{vertex_along, vertex}
 
 module _ (first step n last : ℕ) where
   -- the last point has a number of its own
-  pub along_last : (i : ℕ) → i ≡ n → last ≡ along first step n last i
-  unfolding along
+  pub along_last : (i : ℕ) → i ≡ n → last ≡ vertex_along first step n last i
+  unfolding vertex_along
   along_last i h = rw (eq-eqb i n h)
 
   -- the other points' numbers increase by the step
-  pub along_more : (i : ℕ) → (i ≡ n → ⊥) → (first + step * i) % 65536 ≡ along first step n last i
-  unfolding along
+  pub along_more : (i : ℕ) → (i ≡ n → ⊥) → (first + step * i) % 65536 ≡ vertex_along first step n last i
+  unfolding vertex_along
   along_more i h = rw (ne_eqb i n h)
 
   -- a line with the given first vertex, step and last vertex follows G
   pub along_line : (G : ℕ → ℕ) → ((i : ℕ) → i < n → (first + step * i) % 65536 ≡ G i) → last ≡ G n
-      → (i : ℕ) → i ≤ n → along first step n last i ≡ G i
+      → (i : ℕ) → i ≤ n → vertex_along first step n last i ≡ G i
   along_line G before end i h = elim (dec_le n i) [
     | yes l ↦ let same : i ≡ n = omega arith in sym (along_last i same) ∙ end ∙ ap G (sym same)
     | no l ↦ sym (along_more i (λ k. omega arith)) ∙ before i (omega arith)

@@ -1,6 +1,6 @@
 -- Pairs of steps between two lines of consecutive vertices, and the pattern that four pairs follow. Assumes nothing.
 use Rattle.std.specs.Prelude.{ℕ, ◌+◌, ◌%◌, Bool, true, false, List, [], ◌∷◌}
-use Rattle.strip.specs.Lines.{along}
+use Rattle.strip.specs.Lines.{vertex_along}
 use Rattle.strip.specs.Triangles.{indices}
 use Rattle.strip_pairs.specs.Pairs.{pair}
 
@@ -14,7 +14,7 @@ pair_on positive x y i = indices positive (pair (on x) (on y) i i)
 
 -- the vertices of the line of n segments that count up from x, except that the last is e
 abbrev pub line_of : ℕ → ℕ → ℕ → ℕ → ℕ
-line_of x n e = along x 1 n e
+line_of x n e = vertex_along x 1 n e
 
 -- the words of four pairs: first, for each word, 1 if it is on the inner line, else 0; then, for each word, how far along its line it is
 unfoldable pub block_pattern : Bool → List ℕ

@@ -1,5 +1,5 @@
 // A strip whose outer line has two segments more than its inner line: there the lines advance by turns. The orientation is a
-// parameter of the type, so that no corners are exchanged while writing.
+// const parameter, so that each orientation has a function of its own and no corners are exchanged while writing.
 ghost use Rattle.std.specs.Prelude.{◌≡◌, ◌+◌, ◌*◌, ◌≤◌, length};
 ghost use Rattle.buffer.specs.Over.{Wrote};
 ghost use Rattle.strip.specs.Triangles.{indices};

@@ -10,7 +10,6 @@ use patch_writer::connect::write_indices;
 use patch_writer::count::{index_count, point_count};
 use patch_writer::place::write_points;
 
-// Kept: patch and settings are two parameters, as `DrewPoints` and the definitions under it are stated over the two.
 pub fn draw_points(
     patch: Patch,
     settings: Settings,
@@ -18,6 +17,7 @@ pub fn draw_points(
 ) -> Result<u32, DrawRefusal>
     ensures { DrewPoints settings patch vertices.old vertices.new result }
 {
+    // Kept: patch and settings are two parameters, as `DrewPoints` and the definitions under it are stated over the two.
     let cut = cut_with(patch, settings)?;
     let points = point_count(cut);
     if vertices.len() < 3 * (points as usize) {

@@ -12,7 +12,7 @@ use edge_table::{row_of, widest};
 use level::Segments;
 use triangle_point_rows::{write_inside, write_outline};
 
-// Kept: a type that holds the segments of all edges was tried; it takes 37 instructions more at level 64, which has none to spare.
+// Kept: a type that holds the segments of all edges was tried; a draw at level 64 took 37 instructions more, and is not to take more than before.
 // Writes an outline whose rows are in the table.
 fn write_stored_outline(
     out: &mut [u32],

@@ -6,7 +6,7 @@ use lib.ListN.{length}
 use Rattle.std.specs.Prelude.{Ok, Err, Some, Option}
 use Rattle.job_fields.specs.declared.version.Version.{Version}
 use Rattle.job.specs.declared.cursor.Cursor.{Cursor}
-use Rattle.job.specs.declared.next.Found.{Found}
+use Rattle.job.specs.declared.next.FoundRecord.{FoundRecord}
 use Rattle.job.specs.declared.next.RecordError.{RecordError}
 use Rattle.job.specs.declared.next.RecordError.TheVariants.{UnknownSetting}
 use Rattle.job.specs.Records.{Answer, record_at}
@@ -15,7 +15,7 @@ use Rattle.job_test.proofs.read.walk.Goals as goal
 
 module _ (v : Version) (bs : List ℕ) (at : ℕ) {answer : Answer} (e : answer ≡ record_at v bs at) where
   -- reading moves on after a record
-  past_record : (there : Found) {found : Option Found} → answer ≡ Ok found → found ≡ Some there → length bs - there.next.at < length bs - at
+  past_record : (there : FoundRecord) {found : Option FoundRecord} → answer ≡ Ok found → found ≡ Some there → length bs - there.next.at < length bs - at
   past_record there f g =
       let h = (record_exactly v bs at (Ok (Some there))).0 (sym e ∙ f ∙ ap (λ found. Ok found) g) in
       omega (arith, h.0, ap (λ (x : Cursor). x.at) h.3)
