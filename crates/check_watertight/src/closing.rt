@@ -4,8 +4,9 @@ ghost use Rattle.std.specs.Prelude.{◌≤◌, ◌<◌, length};
 ghost use Rattle.mesh_geometry.specs.Words.{read_points};
 ghost use Rattle.check_searches.specs.Indices.{AllNumbered};
 ghost use Rattle.check_faults.specs.JudgedMesh.{judged};
-ghost use Rattle.half_edges.specs.Tables.{vertices, Room, EmptyTable};
-ghost use Rattle.check_watertight.specs.Closing.{Blank, Shown};
+ghost use Rattle.check_watertight.specs.Closing.{Shown};
+
+use half_edges::table::{BitTable, ChainTable, SideTable};
 
 // How many triangles, from the first on, have no side in common with an earlier one; how many sides, from the first on, are
 // closed; and how many pieces of the outline, from the first on, are sides.
@@ -16,27 +17,25 @@ pub struct Reached {
     pub drawn: usize,
 }
 
-// How far no fault of sides or outline occurs, by a lent table, a lent list for sides without a reverse, and lent marks for pieces.
-fn reach_by(
-    small: bool,
+// How far no fault of sides or outline occurs, by a table of the form T, a list with room for OPENS sides without a reverse,
+// and marks for MARKS pieces.
+fn reach_by<T: SideTable, const OPENS: usize, const MARKS: usize>(
     outline: &[u32],
     points: &[u32],
     indices: &[u16],
-    rows: &mut [u64],
-    heads: &mut [u16],
-    links: &mut [u32],
-    opens: &mut [u16],
-    marks: &mut [u16],
     positive: bool,
 ) -> Reached
-    requires fact_1 { EmptyTable small rows.old heads.old }
-    requires fact_2 { Room small (length indices.now) links.old }
-    requires fact_3 { AllNumbered (length (read_points points.now)) indices.now }
-    requires fact_4 { length (read_points points.now) ≤ vertices small heads.old }
-    requires fact_5 { (length indices.now < 65536) × Blank marks.old }
+    requires numbered { AllNumbered (length (read_points points.now)) indices.now }
+    requires vertices { length (read_points points.now) ≤ T.vertices }
+    requires room { length indices.now ≤ T.room }
+    requires few { length indices.now < 65536 }
+    requires sizes { (OPENS < 65536) × (MARKS < 65536) }
     ensures { Shown (judged positive (read_points outline.now) points.now indices.now) result }
 {
-    let once = half_edges::filling::fill(indices, small, rows, heads, links);
+    let mut table = T::empty();
+    let mut opens = [0u16; OPENS];
+    let mut marks = [0u16; MARKS];
+    let once = half_edges::filling::fill(indices, &mut table);
     if once < indices.len() / 3 {
         return Reached {
             once,
@@ -44,7 +43,7 @@ fn reach_by(
             drawn: 0,
         };
     }
-    let count = half_edges::opens::open_sides(indices, small, rows, heads, links, opens);
+    let count = half_edges::opens::open_sides(indices, &table, &mut opens);
     if opens.len() < count {
         return Reached {
             once,
@@ -52,51 +51,15 @@ fn reach_by(
             drawn: 0,
         };
     }
-    let joined = crate::pieces::all_pieces(outline, points, indices, opens, count, marks, positive);
-    let drawn = crate::pieces::first_unmarked(marks, outline.len() / 3);
+    let joined = crate::pieces::all_pieces(
+        outline, points, indices, &opens, count, &mut marks, positive,
+    );
+    let drawn = crate::pieces::first_unmarked(&marks, outline.len() / 3);
     Reached {
         once,
         joined,
         drawn,
     }
-}
-
-// The same with rows of bits, for up to 64 points and so up to 64 pieces of the outline.
-// Kept: one function with a const parameter for each of five sizes, and the facts of both tables as its clauses, is no plainer.
-fn reach_small(outline: &[u32], points: &[u32], indices: &[u16], positive: bool) -> Reached
-    requires fact_1 { AllNumbered (length (read_points points.now)) indices.now }
-    requires fact_2 { length points.now ≤ 192 }
-    requires fact_3 { length indices.now ≤ 25344 }
-    ensures { Shown (judged positive (read_points outline.now) points.now indices.now) result }
-{
-    let mut rows = [0u64; 64];
-    let mut heads = [0u16; 1];
-    let mut links = [0u32; 1];
-    let mut opens = [0u16; 128];
-    let mut marks = [0u16; 64];
-    reach_by(
-        true, outline, points, indices, &mut rows, &mut heads, &mut links, &mut opens, &mut marks,
-        positive,
-    )
-}
-
-// The same with chains, for up to 8192 points and 8448 triangles; the largest patch has 4225 points, 8192 triangles and 256
-// pieces of the outline.
-fn reach_large(outline: &[u32], points: &[u32], indices: &[u16], positive: bool) -> Reached
-    requires fact_1 { AllNumbered (length (read_points points.now)) indices.now }
-    requires fact_2 { length points.now ≤ 24576 }
-    requires fact_3 { length indices.now ≤ 25344 }
-    ensures { Shown (judged positive (read_points outline.now) points.now indices.now) result }
-{
-    let mut rows = [0u64; 1];
-    let mut heads = [0u16; 8192];
-    let mut links = [0u32; 25344];
-    let mut opens = [0u16; 1024];
-    let mut marks = [0u16; 256];
-    reach_by(
-        false, outline, points, indices, &mut rows, &mut heads, &mut links, &mut opens, &mut marks,
-        positive,
-    )
 }
 
 // Returns how far no fault of sides or outline occurs. A search that starts there finds the first fault of each kind.
@@ -118,8 +81,9 @@ pub fn reach(outline: &[u32], points: &[u32], indices: &[u16], positive: bool) -
             drawn: 0,
         };
     }
+    // The largest patch has 4225 points, 8192 triangles and 256 pieces of the outline.
     if 192 < points.len() {
-        return reach_large(outline, points, indices, positive);
+        return reach_by::<ChainTable, 1024, 256>(outline, points, indices, positive);
     }
-    reach_small(outline, points, indices, positive)
+    reach_by::<BitTable, 128, 64>(outline, points, indices, positive)
 }

@@ -50,12 +50,12 @@ fn mark_piece(
     near: usize,
     m: usize,
 ) -> usize
-    requires fact_1 { AllNumbered (length (read_points points.now)) indices.now }
-    requires fact_2 { m < length indices.now / 3 * 3 }
-    requires fact_3 { MarksDrawn (judged positive (read_points outline.now) points.now indices.now) marks.old }
-    ensures fact_1 { (result < length (read_points outline.now)
+    requires numbered { AllNumbered (length (read_points points.now)) indices.now }
+    requires within { m < length indices.now / 3 * 3 }
+    requires drawn { MarksDrawn (judged positive (read_points outline.now) points.now indices.now) marks.old }
+    ensures closed { (result < length (read_points outline.now)
         → closes (judged positive (read_points outline.now) points.now indices.now) m ≡ true) }
-    ensures fact_2 { MarksDrawn (judged positive (read_points outline.now) points.now indices.now) marks.new }
+    ensures marked { MarksDrawn (judged positive (read_points outline.now) points.now indices.now) marks.new }
 {
     let p = point_at(points, indices[m] as usize);
     let q = point_at(points, end_at(indices, m) as usize);

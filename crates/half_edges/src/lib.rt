@@ -4,4 +4,4 @@
 
 pub mod filling;
 pub mod opens;
-mod table;
+pub mod table;

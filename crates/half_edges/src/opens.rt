@@ -2,17 +2,17 @@
 ghost use Rattle.std.specs.Prelude.{◌+◌, ◌*◌, ◌/◌, ◌<◌, length};
 ghost use Rattle.mesh_geometry.specs.Words.{read_triangles};
 ghost use Rattle.check_searches.specs.Indices.{AllNumbered};
-ghost use Rattle.half_edges.specs.Tables.{vertices, SideAt, Tabled};
+ghost use Rattle.half_edges.specs.Tables.{SideAt};
 ghost use Rattle.half_edges.specs.Opens.{Opens};
 
-use crate::table::has_side;
+use crate::table::SideTable;
 use check_searches::triangle::triangle_at;
 
 // Appends side m to the list; returns the new count, or more than the list has room for if it is full.
 fn list_side(indices: &[u16], opens: &mut [u16], count: usize, m: usize) -> usize
-    requires fact_1 { Opens (read_triangles indices.now) m opens.old count }
-    requires fact_2 { m < length indices.now / 3 * 3 }
-    requires fact_3 { m < 65536 }
+    requires listed { Opens (read_triangles indices.now) m opens.old count }
+    requires within { m < length indices.now / 3 * 3 }
+    requires small { m < 65536 }
     ensures { Opens (read_triangles indices.now) (m + 1) opens.new result }
 {
     if opens.len() <= count {
@@ -23,97 +23,60 @@ fn list_side(indices: &[u16], opens: &mut [u16], count: usize, m: usize) -> usiz
 }
 
 // Appends side m, which is x→y, to the list if it has no reverse.
-fn list_open(
+fn list_open<T: SideTable>(
     indices: &[u16],
-    small: bool,
-    rows: &[u64],
-    heads: &[u16],
-    links: &[u32],
+    table: &T,
     opens: &mut [u16],
     count: usize,
     m: usize,
     x: u16,
     y: u16,
 ) -> usize
-    requires fact_1 { Tabled small (read_triangles indices.now) (length (read_triangles indices.now) * 3) rows.now heads.now links.now }
-    requires fact_2 { SideAt small (read_triangles indices.now) heads.now m x y }
-    requires fact_3 { Opens (read_triangles indices.now) m opens.old count }
-    requires fact_4 { (m < length indices.now / 3 * 3) × (m < 65536) }
+    requires all { T.holds (read_triangles indices.now) (length (read_triangles indices.now) * 3) table.now }
+    requires side { SideAt (read_triangles indices.now) T.vertices m x y }
+    requires listed { Opens (read_triangles indices.now) m opens.old count }
+    requires within { (m < length indices.now / 3 * 3) × (m < 65536) }
     ensures { Opens (read_triangles indices.now) (m + 1) opens.new result }
 {
     let sides = indices.len() / 3 * 3;
-    if has_side(indices, sides, small, rows, heads, links, y, x) {
+    if table.has_side(indices, sides, y, x) {
         return count;
     }
     list_side(indices, opens, count, m)
 }
 
 // Appends the sides of triangle k that have no reverse.
-fn list_triangle(
+fn list_triangle<T: SideTable>(
     indices: &[u16],
     k: usize,
-    small: bool,
-    rows: &[u64],
-    heads: &[u16],
-    links: &[u32],
+    table: &T,
     opens: &mut [u16],
     count: usize,
 ) -> usize
-    requires fact_1 { Tabled small (read_triangles indices.now) (length (read_triangles indices.now) * 3) rows.now heads.now links.now }
-    requires fact_2 { AllNumbered (vertices small heads.now) indices.now }
-    requires fact_3 { Opens (read_triangles indices.now) (k * 3) opens.old count }
-    requires fact_4 { (k < length indices.now / 3) × (length indices.now < 65536) }
+    requires all { T.holds (read_triangles indices.now) (length (read_triangles indices.now) * 3) table.now }
+    requires numbered { AllNumbered T.vertices indices.now }
+    requires listed { Opens (read_triangles indices.now) (k * 3) opens.old count }
+    requires within { (k < length indices.now / 3) × (length indices.now < 65536) }
     ensures { Opens (read_triangles indices.now) (k * 3 + 3) opens.new result }
 {
     let t = triangle_at(indices, k);
     let m = k * 3;
-    let one = list_open(
-        indices, small, rows, heads, links, opens, count, m, t.a, t.b,
-    );
-    let two = list_open(
-        indices,
-        small,
-        rows,
-        heads,
-        links,
-        opens,
-        one,
-        m + 1,
-        t.b,
-        t.c,
-    );
-    list_open(
-        indices,
-        small,
-        rows,
-        heads,
-        links,
-        opens,
-        two,
-        m + 2,
-        t.c,
-        t.a,
-    )
+    let one = list_open(indices, table, opens, count, m, t.a, t.b);
+    let two = list_open(indices, table, opens, one, m + 1, t.b, t.c);
+    list_open(indices, table, opens, two, m + 2, t.c, t.a)
 }
 
 // Lists all sides without a reverse; returns how many there are, or more than the list has room for.
-pub fn open_sides(
-    indices: &[u16],
-    small: bool,
-    rows: &[u64],
-    heads: &[u16],
-    links: &[u32],
-    opens: &mut [u16],
-) -> usize
-    requires all { Tabled small (read_triangles indices.now) (length (read_triangles indices.now) * 3) rows.now heads.now links.now }
-    requires numbered { AllNumbered (vertices small heads.now) indices.now }
+pub fn open_sides<T: SideTable>(indices: &[u16], table: &T, opens: &mut [u16]) -> usize
+    requires all { T.holds (read_triangles indices.now) (length (read_triangles indices.now) * 3) table.now }
+    requires numbered { AllNumbered T.vertices indices.now }
     requires few { length indices.now < 65536 }
     ensures { Opens (read_triangles indices.now) (length (read_triangles indices.now) * 3) opens.new result }
 {
     let triangles = indices.len() / 3;
     let mut count = 0;
     for k in 0..triangles {
-        count = list_triangle(indices, k, small, rows, heads, links, opens, count);
+        count = list_triangle(indices, k, table, opens, count);
     }
     count
 }

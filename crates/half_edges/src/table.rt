@@ -1,51 +1,94 @@
-// The table of sides in either form.
-ghost use Rattle.std.specs.Prelude.{◌≡◌, ◌+◌, ◌<◌};
+// The table of the directed sides of a mesh, and its two forms: rows of bits for a small mesh, else chains.
+ghost use Rattle.std.specs.Prelude.{◌≡◌, ℕ, List, ◌+◌, ◌<◌};
+ghost use Rattle.strip.specs.declared.triangle.Triangle.{Triangle};
 ghost use Rattle.mesh_geometry.specs.Words.{read_triangles};
 ghost use Rattle.check_searches.specs.First.{some_below};
 ghost use Rattle.half_edge_chains.specs.Sides.{is_side};
-ghost use Rattle.half_edges.specs.Tables.{vertices, SideAt, Room, Tabled};
+ghost use Rattle.half_edge_chains.specs.Links.{Linked};
+ghost use Rattle.half_edge_bits.specs.Rows.{Rowed};
+ghost use Rattle.half_edges.specs.Tables.{SideAt};
 
-// Whether one of the first `sides` sides, which the table holds, is x→y.
-pub(crate) fn has_side(
-    indices: &[u16],
-    sides: usize,
-    small: bool,
-    rows: &[u64],
-    heads: &[u16],
-    links: &[u32],
-    x: u16,
-    y: u16,
-) -> bool
-    requires fact_1 { Tabled small (read_triangles indices.now) sides rows.now heads.now links.now }
-    requires fact_2 { x < vertices small heads.now }
-    requires fact_3 { y < vertices small heads.now }
-    ensures { result ≡ some_below (is_side (read_triangles indices.now) x y) sides }
-{
-    if small {
-        return half_edge_bits::has_side(indices, sides, rows, x, y);
-    }
-    half_edge_chains::chain::has_side(indices, sides, heads, links, x, y)
+pub trait SideTable: Drop {
+    // How many vertices the table has room for.
+    ghost vertices: { ℕ };
+
+    // How many sides the table has room for.
+    ghost room: { ℕ };
+
+    // The table holds the first n sides.
+    ghost holds: { List Triangle → ℕ → Self → Type 0 };
+
+    // Returns the table that holds no side.
+    fn empty() -> Self
+        ensures { (ts : List Triangle) → holds ts 0 result };
+
+    // Whether one of the first `sides` sides, which the table holds, is x→y.
+    fn has_side(&self, indices: &[u16], sides: usize, x: u16, y: u16) -> bool
+        requires held { holds (read_triangles indices.now) sides self.now }
+        requires start { x < vertices }
+        requires end { y < vertices }
+        ensures { result ≡ some_below (is_side (read_triangles indices.now) x y) sides };
+
+    // Adds side m, which is x→y, to the table of the sides before it.
+    fn add_side(&mut self, indices: &[u16], m: usize, x: u16, y: u16)
+        requires held { holds (read_triangles indices.now) m self.old }
+        requires side { SideAt (read_triangles indices.now) vertices m x y }
+        requires fits { m < room }
+        ensures { holds (read_triangles indices.now) (m + 1) self.new };
 }
 
-// Adds side m, which is x→y, to the table of the sides before it.
-pub(crate) fn add_side(
-    indices: &[u16],
-    m: usize,
-    small: bool,
-    rows: &mut [u64],
-    heads: &mut [u16],
-    links: &mut [u32],
-    x: u16,
-    y: u16,
-)
-    requires fact_1 { Tabled small (read_triangles indices.now) m rows.old heads.old links.old }
-    requires fact_2 { SideAt small (read_triangles indices.now) heads.old m x y }
-    requires fact_3 { Room small (m + 1) links.old }
-    ensures { Tabled small (read_triangles indices.now) (m + 1) rows.new heads.new links.new }
-{
-    if small {
-        half_edge_bits::add_side(indices, m, rows, x, y);
-    } else {
-        half_edge_chains::chain::add_side(indices, m, heads, links, x, y);
+// Up to 64 vertices: bit y of row x is set if x→y is a side.
+#[derive(Drop)]
+pub struct BitTable {
+    rows: [u64; 64],
+}
+
+impl SideTable for BitTable {
+    ghost vertices = { 64 };
+
+    ghost room = { 65535 };
+
+    ghost holds = { λ ts n table. Rowed ts n table.rows };
+
+    fn empty() -> BitTable {
+        BitTable { rows: [0; 64] }
+    }
+
+    fn has_side(&self, indices: &[u16], sides: usize, x: u16, y: u16) -> bool {
+        half_edge_bits::has_side(indices, sides, &self.rows, x, y)
+    }
+
+    fn add_side(&mut self, indices: &[u16], m: usize, x: u16, y: u16) {
+        half_edge_bits::add_side(indices, m, &mut self.rows, x, y);
+    }
+}
+
+// Up to 8192 vertices and 25344 sides, three of each of 8448 triangles: the sides that start at a vertex are a chain.
+#[derive(Drop)]
+pub struct ChainTable {
+    heads: [u16; 8192],
+    links: [u32; 25344],
+}
+
+impl SideTable for ChainTable {
+    ghost vertices = { 8192 };
+
+    ghost room = { 25344 };
+
+    ghost holds = { λ ts n table. Linked ts n table.heads table.links };
+
+    fn empty() -> ChainTable {
+        ChainTable {
+            heads: [0; 8192],
+            links: [0; 25344],
+        }
+    }
+
+    fn has_side(&self, indices: &[u16], sides: usize, x: u16, y: u16) -> bool {
+        half_edge_chains::chain::has_side(indices, sides, &self.heads, &self.links, x, y)
+    }
+
+    fn add_side(&mut self, indices: &[u16], m: usize, x: u16, y: u16) {
+        half_edge_chains::chain::add_side(indices, m, &mut self.heads, &mut self.links, x, y);
     }
 }

@@ -4,34 +4,40 @@ use lib.ListN.{length}
 use Rattle.mesh_geometry.specs.Words.{read_triangles}
 use Rattle.check_searches.proofs.Read.{points_count, triangles_count}
 use Rattle.half_edge_chains.proofs.Numbers.{numbered_wider}
-use Rattle.half_edges.proofs.Forms.{numbered_as}
-use Rattle.check_watertight.proofs.Joins.{shown_once, shown_all}
+use Rattle.check_watertight.proofs.Joins.{blank_all, marked_none, shown_once, shown_all}
 use Rattle.check_watertight.proofs.closing.reach_by.Goals as goal
 
+pub fill-once-requires-clause-empty : goal.fill-once-requires-clause-empty
+fill-once-requires-clause-empty g c = c.empty-table.ensures _
+
+pub fill-once-requires-clause-numbered : goal.fill-once-requires-clause-numbered
+fill-once-requires-clause-numbered g c = numbered_wider c.requires.numbered c.requires.vertices
+
 pub returns-then-once-indices : goal.returns-then-once-indices
-returns-then-once-indices c = shown_once _ _ c.fill-once.ensures.most c.fill-once.ensures.once
+returns-then-once-indices g c = shown_once _ _ c.fill-once.ensures.most c.fill-once.ensures.once
 
 pub open_sides-count-requires-clause-all : goal.open_sides-count-requires-clause-all
-open_sides-count-requires-clause-all c =
+open_sides-count-requires-clause-all g c =
     let ws = c.args.indices.now in
     let f = c.fill-once.ensures in
     let e : c.fill-once.result ≡ length (read_triangles ws) = omega (arith, f.most, c.if-once-indices.false, triangles_count ws) in
     (f.all e).table
 
 pub open_sides-count-requires-clause-numbered : goal.open_sides-count-requires-clause-numbered
-open_sides-count-requires-clause-numbered c =
-    let p = c.requires in
-    numbered_as _ c.args.heads.now _ _ (omega arith) (numbered_wider p.fact_3 p.fact_4)
+open_sides-count-requires-clause-numbered g c = numbered_wider c.requires.numbered c.requires.vertices
 
-pub returns-then-opens-count : goal.returns-then-opens-count
-returns-then-opens-count c = shown_once _ _
+pub returns-then-count : goal.returns-then-count
+returns-then-count g c = shown_once _ _
     c.fill-once.ensures.most
     c.fill-once.ensures.once
 
+pub all_pieces-joined-requires-clause-drawn : goal.all_pieces-joined-requires-clause-drawn
+all_pieces-joined-requires-clause-drawn g c = marked_none _ _ (blank_all _)
+
 pub returns : goal.returns
-returns c =
+returns g c =
     let s = c in
     let f = c.fill-once.ensures in
-    let g = c.all_pieces-joined.ensures in
+    let h = c.all_pieces-joined.ensures in
     let u = c.first_unmarked-drawn.ensures in
-    shown_all _ _ _ _ _ f.most f.once g.closed.0 g.closed.1 (omega (arith, u.0, points_count s.args.outline.now)) g.marked u.1
+    shown_all _ _ _ _ _ f.most f.once h.closed.0 h.closed.1 (omega (arith, u.0, points_count s.args.outline.now)) h.marked u.1

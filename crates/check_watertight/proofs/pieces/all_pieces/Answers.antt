@@ -4,8 +4,8 @@ use Rattle.check_searches.proofs.Read.{points_count, triangles_count}
 use Rattle.check_watertight.proofs.Joins.{joins_more, joined_all, joined_before}
 use Rattle.check_watertight.proofs.pieces.all_pieces.Goals as goal
 
-pub mark_piece-piece-requires-clause-fact_2 : goal.mark_piece-piece-requires-clause-fact_2
-mark_piece-piece-requires-clause-fact_2 c = omega (arith, c.requires.listed.sides c.loop-k.k (omega arith), triangles_count c.args.indices.now)
+pub mark_piece-piece-requires-clause-within : goal.mark_piece-piece-requires-clause-within
+mark_piece-piece-requires-clause-within c = omega (arith, c.requires.listed.sides c.loop-k.k (omega arith), triangles_count c.args.indices.now)
 
 pub returns-then-pieces-piece-clause-closed : goal.returns-then-pieces-piece-clause-closed
 returns-then-pieces-piece-clause-closed c =
@@ -19,8 +19,8 @@ loop-k-preserved c =
     let l = w.loop-k in
     let s = w in (
       omega arith,
-      joins_more _ _ l.k l.invariant.1 (a.mark_piece-piece.ensures.fact_1 (omega (arith, points_count s.args.outline.now))),
-      a.mark_piece-piece.ensures.fact_2,
+      joins_more _ _ l.k l.invariant.1 (a.mark_piece-piece.ensures.closed (omega (arith, points_count s.args.outline.now))),
+      a.mark_piece-piece.ensures.marked,
       omega arith,
     )
 

@@ -1,14 +1,12 @@
 use native.Mathlib.Omega.{arith}
-use Rattle.half_edges.proofs.Forms.{side_at, numbered_as}
+use Rattle.half_edges.proofs.Forms.{side_at}
 use Rattle.half_edges.proofs.filling.add_triangle.Goals as goal
 
-pub add_new-requires-clause-fact_2 : goal.add_new-requires-clause-fact_2
-add_new-requires-clause-fact_2 c = side_at _ _ _ c.args.k 0 _ _ c.requires.fact_2 c.requires.fact_4.0 c.triangle_at-t.ensures (omega arith) (omega arith)
+pub add_new-requires-clause-side : goal.add_new-requires-clause-side
+add_new-requires-clause-side g c = side_at _ _ c.args.k 0 _ _ c.requires.numbered c.requires.within.0 c.triangle_at-t.ensures (omega arith) (omega arith)
 
-pub add_new-requires-2-clause-fact_2 : goal.add_new-requires-2-clause-fact_2
-add_new-requires-2-clause-fact_2 c =
-    side_at _ _ _ c.args.k 1 _ _ (numbered_as _ c.args.heads.now _ _ (omega arith) c.requires.fact_2) c.requires.fact_4.0 c.triangle_at-t.ensures (omega arith) (omega arith)
+pub add_new-requires-2-clause-side : goal.add_new-requires-2-clause-side
+add_new-requires-2-clause-side g c = side_at _ _ c.args.k 1 _ _ c.requires.numbered c.requires.within.0 c.triangle_at-t.ensures (omega arith) (omega arith)
 
-pub add_new-requires-3-clause-fact_2 : goal.add_new-requires-3-clause-fact_2
-add_new-requires-3-clause-fact_2 c =
-    side_at _ _ _ c.args.k 2 _ _ (numbered_as _ c.args.heads.now _ _ (omega arith) c.requires.fact_2) c.requires.fact_4.0 c.triangle_at-t.ensures (omega arith) (omega arith)
+pub add_new-requires-3-clause-side : goal.add_new-requires-3-clause-side
+add_new-requires-3-clause-side g c = side_at _ _ c.args.k 2 _ _ c.requires.numbered c.requires.within.0 c.triangle_at-t.ensures (omega arith) (omega arith)

@@ -1,25 +1,23 @@
 use native.Mathlib.Omega.{arith}
 use Prim.Native.Nat.{◌/◌}
 use lib.ListN.{length}
-use mathlib.Core.Path.{◌≡◌, refl}
+use mathlib.Core.Path.{◌≡◌}
 use Rattle.check_searches.proofs.Read.{triangles_count}
-use Rattle.half_edges.proofs.Forms.{numbered_as, filled_none, filled_as}
+use Rattle.half_edges.proofs.Forms.{filled_as}
+use Rattle.half_edges.proofs.Repeats.{once_none}
 use Rattle.half_edges.proofs.filling.fill.Goals as goal
 
 pub loop-k-init : goal.loop-k-init
-loop-k-init c = (omega arith, filled_none _ _ _ _ _ c.requires.empty, refl, refl, refl)
-
-pub add_triangle-requires-clause-fact_2 : goal.add_triangle-requires-clause-fact_2
-add_triangle-requires-clause-fact_2 c = numbered_as _ _ _ _ c.loop-k.invariant.3 c.requires.numbered
+loop-k-init g c = (omega arith, record { table = c.requires.empty; once = once_none _ })
 
 pub returns-then-not-add_triangle : goal.returns-then-not-add_triangle
-returns-then-not-add_triangle c =
+returns-then-not-add_triangle g c =
     let l = c.loop-k in
     let n = triangles_count c.args.indices.now in
     record { most = omega arith; once = l.invariant.1.once; all = λ e. absurd (omega (arith, e)) }
 
 pub returns : goal.returns
-returns c =
+returns g c =
     let l = c.loop-k in
     let n = triangles_count c.args.indices.now in
     let e : l.k ≡ length c.args.indices.now / 3 = omega arith in

@@ -6,4 +6,4 @@ use Rattle.half_edges.specs.Opens.{Opens}
 use Rattle.half_edges.proofs.opens.open_sides.Given as goal
 
 abbrev pub invariant-loop-k : goal.invariant-loop-k
-invariant-loop-k l = (l.k ≤ l.triangles) × Opens (read_triangles l.indices) (l.k * 3) l.opens l.count × (length l.opens ≡ length l.initial.opens)
+invariant-loop-k g l = (l.k ≤ l.triangles) × Opens (read_triangles l.indices) (l.k * 3) l.opens l.count × (length l.opens ≡ length l.initial.opens)
