@@ -42,9 +42,9 @@ fn is_joined(
     x: u16,
     y: u16,
 ) -> bool
-    requires fact_1 { near ≤ length indices.now / 3 }
-    requires fact_2 { x < length (read_points points.now) }
-    requires fact_3 { y < length (read_points points.now) }
+    requires within { near ≤ length indices.now / 3 }
+    requires start { x < length (read_points points.now) }
+    requires end { y < length (read_points points.now) }
     ensures { result ≡ side_closed (judged positive (read_points outline.now) points.now indices.now) x y }
 {
     if has_side_near(indices, near, y, x) {
@@ -60,8 +60,8 @@ fn is_joined(
 
 // The same for side m; each triangle has three sides.
 fn is_closed(outline: &[u32], points: &[u32], indices: &[u16], positive: bool, m: usize) -> bool
-    requires fact_1 { m < length indices.now / 3 * 3 }
-    requires fact_2 { AllNumbered (length (read_points points.now)) indices.now }
+    requires within { m < length indices.now / 3 * 3 }
+    requires numbered { AllNumbered (length (read_points points.now)) indices.now }
     ensures { result ≡ closes (judged positive (read_points outline.now) points.now indices.now) m }
 {
     let k = m / 3;

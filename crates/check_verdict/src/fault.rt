@@ -42,11 +42,11 @@ fn outline_fault(
     joined: usize,
     drawn: usize,
 ) -> Result<(), Fault>
-    requires fact_1 { AllNumbered (length (read_points points.now)) indices.now }
-    requires fact_2 { joined ≤ length indices.now / 3 * 3 }
-    requires fact_3 { ClosedTo (judged positive (read_points outline.now) points.now indices.now) joined }
-    requires fact_4 { drawn ≤ length outline.now / 3 }
-    requires fact_5 { DrawnTo (judged positive (read_points outline.now) points.now indices.now) drawn }
+    requires numbered { AllNumbered (length (read_points points.now)) indices.now }
+    requires joined_within { joined ≤ length indices.now / 3 * 3 }
+    requires closed { ClosedTo (judged positive (read_points outline.now) points.now indices.now) joined }
+    requires drawn_within { drawn ≤ length outline.now / 3 }
+    requires drawn { DrawnTo (judged positive (read_points outline.now) points.now indices.now) drawn }
     ensures { result ≡ outline_fault (judged positive (read_points outline.now) points.now indices.now) }
 {
     let side = check_faults::side::first_open(outline, points, indices, positive, joined);
@@ -66,8 +66,8 @@ fn outline_fault(
 // Returns the first triangle of the wrong orientation, else the first repeated side, else `outline_fault`. A table of sides
 // shows up to where no fault occurs, and each search starts there.
 fn side_fault(outline: &[u32], points: &[u32], indices: &[u16], positive: bool) -> Result<(), Fault>
-    requires fact_1 { AllNumbered (length (read_points points.now)) indices.now }
-    requires fact_2 { AllSmall (read_points points.now) }
+    requires numbered { AllNumbered (length (read_points points.now)) indices.now }
+    requires small { AllSmall (read_points points.now) }
     ensures { result ≡ side_fault (judged positive (read_points outline.now) points.now indices.now) }
 {
     let count = indices.len() / 3;

@@ -26,9 +26,9 @@ fn with_bit(row: u64, k: u16) -> u64
 
 // Whether one of the first `sides` sides, which the table holds, is x→y.
 pub fn has_side(indices: &[u16], sides: usize, rows: &[u64], x: u16, y: u16) -> bool
-    requires fact_1 { Rowed (read_triangles indices.now) sides rows.now }
-    requires fact_2 { x < 64 }
-    requires fact_3 { y < 64 }
+    requires held { Rowed (read_triangles indices.now) sides rows.now }
+    requires start { x < 64 }
+    requires end { y < 64 }
     ensures { result ≡ some_below (is_side (read_triangles indices.now) x y) sides }
 {
     has_bit(rows[x as usize], y)
@@ -36,11 +36,11 @@ pub fn has_side(indices: &[u16], sides: usize, rows: &[u64], x: u16, y: u16) -> 
 
 // Adds side m, which is x→y, to the table of the sides before it.
 pub fn add_side(indices: &[u16], m: usize, rows: &mut [u64], x: u16, y: u16)
-    requires fact_1 { Rowed (read_triangles indices.now) m rows.old }
-    requires fact_2 { x ≡ side_start (read_triangles indices.now) m }
-    requires fact_3 { y ≡ side_end (read_triangles indices.now) m }
-    requires fact_4 { x < 64 }
-    requires fact_5 { y < 64 }
+    requires held { Rowed (read_triangles indices.now) m rows.old }
+    requires start { x ≡ side_start (read_triangles indices.now) m }
+    requires end { y ≡ side_end (read_triangles indices.now) m }
+    requires start_fits { x < 64 }
+    requires end_fits { y < 64 }
     ensures { Rowed (read_triangles indices.now) (m + 1) rows.new }
 {
     rows[x as usize] = with_bit(rows[x as usize], y);

@@ -22,8 +22,8 @@ pub fn before_in(link: u32) -> usize
 
 // Whether one of the first `sides` sides, which the table holds, is x→y.
 pub fn has_side(indices: &[u16], sides: usize, heads: &[u16], links: &[u32], x: u16, y: u16) -> bool
-    requires fact_1 { Linked (read_triangles indices.now) sides heads.now links.now }
-    requires fact_2 { x < length heads.now }
+    requires held { Linked (read_triangles indices.now) sides heads.now links.now }
+    requires start { x < length heads.now }
     ensures { result ≡ some_below (is_side (read_triangles indices.now) x y) sides }
 {
     let mut k = heads[x as usize] as usize;

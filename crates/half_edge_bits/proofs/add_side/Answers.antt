@@ -3,5 +3,5 @@ use Rattle.half_edge_bits.proofs.add_side.Goals as goal
 
 pub returns : goal.returns
 returns c =
-    let s = c in
-    rw c.with_bit.ensures (rowed_more _ _ _ _ _ s.requires.fact_1 s.requires.fact_2 s.requires.fact_3 s.requires.fact_4)
+    let s = c.requires in
+    rw c.with_bit.ensures (rowed_more _ _ _ _ _ s.held s.start s.end s.start_fits)

@@ -21,8 +21,8 @@ returns-then-repeated-count c =
     next _ c.first_outside-point.ensures n c.if-point-count.false
     (rw (c.first_equal.ensures, c.point_at-q.ensures) (found (equal_points (read_points ws)) _ c.first_repeated-repeated.ensures n c.if-repeated-count.true))
 
-pub side_fault-requires-clause-fact_2 : goal.side_fault-requires-clause-fact_2
-side_fault-requires-clause-fact_2 c =
+pub side_fault-requires-clause-small : goal.side_fault-requires-clause-small
+side_fault-requires-clause-small c =
     let ws = c.args.points.now in
     all_small c.args.triangles (read_points ws) (omega (arith, points_count ws, c.first_outside-point.ensures, c.if-point-count.false))
 

@@ -23,11 +23,11 @@ returns-then-reused-count c =
     next _ c.first_turned-triangle.ensures n c.if-triangle-count.false
     (rw (c.first_sharing.ensures, c.triangle_at-t.ensures) (found (side_twice (read_triangles ws)) _ c.first_reused-reused.ensures n c.if-reused-count.true))
 
-pub outline_fault-requires-clause-fact_2 : goal.outline_fault-requires-clause-fact_2
-outline_fault-requires-clause-fact_2 c = omega (arith, c.reach-known.ensures.joined_most, triangles_count c.args.indices.now)
+pub outline_fault-requires-clause-joined_within : goal.outline_fault-requires-clause-joined_within
+outline_fault-requires-clause-joined_within c = omega (arith, c.reach-known.ensures.joined_most, triangles_count c.args.indices.now)
 
-pub outline_fault-requires-clause-fact_4 : goal.outline_fault-requires-clause-fact_4
-outline_fault-requires-clause-fact_4 c = omega (arith, c.reach-known.ensures.drawn_most, points_count c.args.outline.now)
+pub outline_fault-requires-clause-drawn_within : goal.outline_fault-requires-clause-drawn_within
+outline_fault-requires-clause-drawn_within c = omega (arith, c.reach-known.ensures.drawn_most, points_count c.args.outline.now)
 
 pub returns : goal.returns
 unfolding side_fault
