@@ -2,4 +2,5 @@
 pub mod Inside
 pub mod Turns
 pub mod JudgedMesh
+pub mod Judged
 pub mod Outline

@@ -1,12 +1,13 @@
 // The search for a triangle with no area or the wrong orientation.
-ghost use Rattle.std.specs.Prelude.{◌≡◌, ◌/◌, ◌<◌, length};
+ghost use Rattle.std.specs.Prelude.{◌≡◌, length};
 ghost use Rattle.mesh_geometry.specs.Cover.{twice_area};
 ghost use Rattle.mesh_geometry.specs.Faces.{at, face_of};
 ghost use Rattle.mesh_geometry.specs.Words.{read_points, read_triangles};
-ghost use Rattle.check_searches.specs.Triangles.{triangle_at};
-ghost use Rattle.check_searches.specs.Indices.{AllNumbered};
 ghost use Rattle.check_faults.specs.Turns.{has_sign, Small, AllSmall, Numbered, first_turned};
 
+use crate::mesh::NumberedMesh;
+use check_searches::point::point_at;
+use check_searches::triangle::triangle_at;
 use mesh_geometry::Point;
 use strip::triangle::Triangle;
 
@@ -34,32 +35,20 @@ fn turns(points: &[u32], t: Triangle, positive: bool) -> bool
     requires small { AllSmall (read_points points.now) }
     ensures { result ≡ has_sign positive (twice_area (face_of (at (read_points points.now)) t)) }
 {
-    let p = check_searches::point::point_at(points, t.a as usize);
-    let q = check_searches::point::point_at(points, t.b as usize);
-    let r = check_searches::point::point_at(points, t.c as usize);
+    let p = point_at(points, t.a as usize);
+    let q = point_at(points, t.b as usize);
+    let r = point_at(points, t.c as usize);
     has_sign(twice_area(p, q, r), positive)
 }
 
-// The same for triangle k.
-fn turns_at(points: &[u32], indices: &[u16], k: usize, positive: bool) -> bool
-    requires within { k < length indices.now / 3 }
-    requires numbered { AllNumbered (length (read_points points.now)) indices.now }
-    requires small { AllSmall (read_points points.now) }
-    ensures { result ≡ has_sign positive (twice_area (face_of (at (read_points points.now)) (triangle_at (read_triangles indices.now) k))) }
-{
-    let t = check_searches::triangle::triangle_at(indices, k);
-    turns(points, t, positive)
-}
-
 // Returns the first triangle that has no area or the wrong orientation, or the number of triangles.
-pub fn first_turned(points: &[u32], indices: &[u16], positive: bool) -> usize
-    requires numbered { AllNumbered (length (read_points points.now)) indices.now }
-    requires small { AllSmall (read_points points.now) }
-    ensures { result ≡ first_turned positive (read_points points.now) (read_triangles indices.now) }
+pub fn first_turned(mesh: NumberedMesh) -> usize
+    requires { AllSmall (read_points mesh.points.now) }
+    ensures { result ≡ first_turned mesh.entry.positive (read_points mesh.entry.points.now) (read_triangles mesh.entry.indices.now) }
 {
-    let count = indices.len() / 3;
+    let count = mesh.indices.len() / 3;
     for k in 0..count {
-        if !turns_at(points, indices, k, positive) {
+        if !turns(mesh.points, triangle_at(mesh.indices, k), mesh.positive) {
             return k;
         }
     }

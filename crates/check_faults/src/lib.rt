@@ -3,5 +3,6 @@
 
 pub mod area;
 pub mod inside;
+pub mod mesh;
 pub mod outline;
 pub mod side;

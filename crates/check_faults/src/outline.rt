@@ -4,11 +4,11 @@ ghost use Rattle.mesh_geometry.specs.Cover.{next_point, piece};
 ghost use Rattle.mesh_geometry.specs.Faces.{at, face_of};
 ghost use Rattle.mesh_geometry.specs.Words.{read_points, read_triangles};
 ghost use Rattle.check_searches.specs.Points.{same_point};
-ghost use Rattle.check_searches.specs.Indices.{AllNumbered};
 ghost use Rattle.check_faults.specs.Turns.{Numbered};
-ghost use Rattle.check_faults.specs.JudgedMesh.{judged};
+ghost use Rattle.check_faults.specs.Judged.{judged_by};
 ghost use Rattle.check_faults.specs.Outline.{same_ends, on_outline, bounds, is_drawn, DrawnTo, first_missing};
 
+use crate::mesh::NumberedMesh;
 use check_searches::point::{point_at, same_point};
 use check_searches::triangle::triangle_at;
 use mesh_geometry::Point;
@@ -94,13 +94,13 @@ fn is_bounded(points: &[u32], t: Triangle, p: Point, q: Point) -> bool
 }
 
 // Whether p→q is a directed side of one of the triangles, by coordinates.
-fn is_drawn(points: &[u32], indices: &[u16], p: Point, q: Point) -> bool
-    requires { AllNumbered (length (read_points points.now)) indices.now }
-    ensures { result ≡ is_drawn (read_points points.now) (read_triangles indices.now) (record { start = p; end = q }) }
+fn is_drawn(mesh: NumberedMesh, p: Point, q: Point) -> bool
+    ensures { result
+        ≡ is_drawn (read_points mesh.entry.points.now) (read_triangles mesh.entry.indices.now) (record { start = p; end = q }) }
 {
-    let count = indices.len() / 3;
+    let count = mesh.indices.len() / 3;
     for k in 0..count {
-        if is_bounded(points, triangle_at(indices, k), p, q) {
+        if is_bounded(mesh.points, triangle_at(mesh.indices, k), p, q) {
             return true;
         }
     }
@@ -108,23 +108,16 @@ fn is_drawn(points: &[u32], indices: &[u16], p: Point, q: Point) -> bool
 }
 
 // Returns the first piece of the outline that is not a side, or the number of pieces; those before number `from` are known to be sides.
-pub fn first_missing(
-    outline: &[u32],
-    points: &[u32],
-    indices: &[u16],
-    positive: bool,
-    from: usize,
-) -> usize
-    requires numbered { AllNumbered (length (read_points points.now)) indices.now }
-    requires within { from ≤ length outline.now / 3 }
-    requires known { DrawnTo (judged positive (read_points outline.now) points.now indices.now) from }
-    ensures { result ≡ first_missing (judged positive (read_points outline.now) points.now indices.now) }
+pub fn first_missing(mesh: NumberedMesh, from: usize) -> usize
+    requires within { from ≤ length mesh.outline.now / 3 }
+    requires known { DrawnTo (judged_by mesh) from }
+    ensures { result ≡ first_missing (judged_by mesh.entry) }
 {
-    let count = outline.len() / 3;
+    let count = mesh.outline.len() / 3;
     for k in from..count {
-        let start = piece_start(outline, k, positive);
-        let end = piece_end(outline, k, positive);
-        if !is_drawn(points, indices, start, end) {
+        let start = piece_start(mesh.outline, k, mesh.positive);
+        let end = piece_end(mesh.outline, k, mesh.positive);
+        if !is_drawn(mesh, start, end) {
             return k;
         }
     }

@@ -1,11 +1,12 @@
 // The faults of a mesh, in the order of finding.
 ghost use Rattle.std.specs.Prelude.{◌≡◌, ◌*◌, ◌/◌, ◌≤◌, length};
 ghost use Rattle.mesh_geometry.specs.Words.{read_points};
-ghost use Rattle.check_searches.specs.Indices.{AllNumbered};
-ghost use Rattle.check_faults.specs.JudgedMesh.{judged};
+ghost use Rattle.check_faults.specs.Judged.{judged_by};
 ghost use Rattle.check_faults.specs.Turns.{AllSmall};
 ghost use Rattle.check_faults.specs.Outline.{ClosedTo, DrawnTo};
 ghost use Rattle.check_verdict.specs.Faults.{outline_fault, side_fault, point_fault, mesh_fault};
+
+use check_faults::mesh::NumberedMesh;
 
 // A fault of a mesh, by its kind, in this order, and the first place of that kind. Points, indices, triangles, a triangle's
 // corners and the outline's pieces are numbered from 0.
@@ -34,30 +35,22 @@ pub enum Fault {
 
 // Returns the first open side, else the first missing piece; the first `joined` sides are known to be closed, and the first
 // `drawn` pieces to be sides.
-fn outline_fault(
-    outline: &[u32],
-    points: &[u32],
-    indices: &[u16],
-    positive: bool,
-    joined: usize,
-    drawn: usize,
-) -> Result<(), Fault>
-    requires numbered { AllNumbered (length (read_points points.now)) indices.now }
-    requires joined_within { joined ≤ length indices.now / 3 * 3 }
-    requires closed { ClosedTo (judged positive (read_points outline.now) points.now indices.now) joined }
-    requires drawn_within { drawn ≤ length outline.now / 3 }
-    requires drawn { DrawnTo (judged positive (read_points outline.now) points.now indices.now) drawn }
-    ensures { result ≡ outline_fault (judged positive (read_points outline.now) points.now indices.now) }
+fn outline_fault(mesh: NumberedMesh, joined: usize, drawn: usize) -> Result<(), Fault>
+    requires joined_within { joined ≤ length mesh.indices.now / 3 * 3 }
+    requires closed { ClosedTo (judged_by mesh) joined }
+    requires drawn_within { drawn ≤ length mesh.outline.now / 3 }
+    requires drawn { DrawnTo (judged_by mesh) drawn }
+    ensures { result ≡ outline_fault (judged_by mesh.entry) }
 {
-    let side = check_faults::side::first_open(outline, points, indices, positive, joined);
-    if side < indices.len() / 3 * 3 {
+    let side = check_faults::side::first_open(mesh, joined);
+    if side < mesh.indices.len() / 3 * 3 {
         return Err(Fault::OpenSide {
             triangle: side / 3,
             corner: side % 3,
         });
     }
-    let piece = check_faults::outline::first_missing(outline, points, indices, positive, drawn);
-    if piece < outline.len() / 3 {
+    let piece = check_faults::outline::first_missing(mesh, drawn);
+    if piece < mesh.outline.len() / 3 {
         return Err(Fault::MissingPiece { piece });
     }
     Ok(())
@@ -65,17 +58,17 @@ fn outline_fault(
 
 // Returns the first triangle of the wrong orientation, else the first repeated side, else `outline_fault`. A table of sides
 // shows up to where no fault occurs, and each search starts there.
-fn side_fault(outline: &[u32], points: &[u32], indices: &[u16], positive: bool) -> Result<(), Fault>
-    requires numbered { AllNumbered (length (read_points points.now)) indices.now }
-    requires small { AllSmall (read_points points.now) }
-    ensures { result ≡ side_fault (judged positive (read_points outline.now) points.now indices.now) }
+fn side_fault(mesh: NumberedMesh) -> Result<(), Fault>
+    requires { AllSmall (read_points mesh.points.now) }
+    ensures { result ≡ side_fault (judged_by mesh.entry) }
 {
+    let indices = mesh.indices;
     let count = indices.len() / 3;
-    let triangle = check_faults::area::first_turned(points, indices, positive);
+    let triangle = check_faults::area::first_turned(mesh);
     if triangle < count {
         return Err(Fault::Turned { triangle });
     }
-    let known = check_watertight::closing::reach(outline, points, indices, positive);
+    let known = check_watertight::closing::reach(mesh);
     let reused = check_side_searches::pair::first_reused(indices, known.once);
     if reused < count {
         let t = check_searches::triangle::triangle_at(indices, reused);
@@ -84,27 +77,14 @@ fn side_fault(outline: &[u32], points: &[u32], indices: &[u16], positive: bool) 
             second: reused,
         });
     }
-    outline_fault(
-        outline,
-        points,
-        indices,
-        positive,
-        known.joined,
-        known.drawn,
-    )
+    outline_fault(mesh, known.joined, known.drawn)
 }
 
 // Returns the first fault of points, else `side_fault`.
-fn point_fault(
-    outline: &[u32],
-    points: &[u32],
-    indices: &[u16],
-    triangles: bool,
-    positive: bool,
-) -> Result<(), Fault>
-    requires { AllNumbered (length (read_points points.now)) indices.now }
-    ensures { result ≡ point_fault triangles (judged positive (read_points outline.now) points.now indices.now) }
+fn point_fault(mesh: NumberedMesh, triangles: bool) -> Result<(), Fault>
+    ensures { result ≡ point_fault triangles (judged_by mesh.entry) }
 {
+    let points = mesh.points;
     let count = points.len() / 3;
     let point = check_faults::inside::first_outside(points, triangles);
     if point < count {
@@ -118,7 +98,7 @@ fn point_fault(
             second: repeated,
         });
     }
-    side_fault(outline, points, indices, positive)
+    side_fault(mesh)
 }
 
 // Returns the first fault of a mesh of a triangle or quad patch; the outline's points and the orientation asked for are given.
@@ -142,5 +122,11 @@ pub fn mesh_fault(
     if place < indices.len() {
         return Err(Fault::UnknownIndex { place });
     }
-    point_fault(outline, points, indices, triangles, positive)
+    let mesh = NumberedMesh {
+        outline,
+        points,
+        indices,
+        positive,
+    };
+    point_fault(mesh, triangles)
 }

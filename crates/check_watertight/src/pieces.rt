@@ -2,12 +2,12 @@
 ghost use Rattle.std.specs.Prelude.{◌≡◌, true, ◌*◌, ◌/◌, ◌≤◌, ◌<◌, length, set};
 ghost use Rattle.mesh_geometry.specs.Cover.{piece};
 ghost use Rattle.mesh_geometry.specs.Words.{read_points, read_triangles};
-ghost use Rattle.check_searches.specs.Indices.{AllNumbered};
-ghost use Rattle.check_faults.specs.JudgedMesh.{judged};
+ghost use Rattle.check_faults.specs.Judged.{judged_by};
 ghost use Rattle.check_faults.specs.Outline.{same_ends, closes, ClosedTo};
 ghost use Rattle.half_edges.specs.Opens.{OpensListed};
 ghost use Rattle.check_watertight.specs.Closing.{MarksDrawn, AllMarked};
 
+use check_faults::mesh::NumberedMesh;
 use check_faults::outline::is_piece_at;
 use check_searches::point::point_at;
 use half_edge_chains::number::end_at;
@@ -41,26 +41,16 @@ fn set_mark(marks: &mut [u16], k: usize)
 }
 
 // Marks the piece that side m is and returns its number, or returns the number of pieces; number `near` is tested first.
-fn mark_piece(
-    outline: &[u32],
-    points: &[u32],
-    indices: &[u16],
-    marks: &mut [u16],
-    positive: bool,
-    near: usize,
-    m: usize,
-) -> usize
-    requires numbered { AllNumbered (length (read_points points.now)) indices.now }
-    requires within { m < length indices.now / 3 * 3 }
-    requires drawn { MarksDrawn (judged positive (read_points outline.now) points.now indices.now) marks.old }
-    ensures closed { (result < length (read_points outline.now)
-        → closes (judged positive (read_points outline.now) points.now indices.now) m ≡ true) }
-    ensures marked { MarksDrawn (judged positive (read_points outline.now) points.now indices.now) marks.new }
+fn mark_piece(mesh: NumberedMesh, marks: &mut [u16], near: usize, m: usize) -> usize
+    requires within { m < length mesh.indices.now / 3 * 3 }
+    requires drawn { MarksDrawn (judged_by mesh) marks.old }
+    ensures closed { result < length (read_points mesh.entry.outline.now) → closes (judged_by mesh.entry) m ≡ true }
+    ensures marked { MarksDrawn (judged_by mesh.entry) marks.new }
 {
-    let p = point_at(points, indices[m] as usize);
-    let q = point_at(points, end_at(indices, m) as usize);
-    let k = find_piece(outline, near, positive, p, q);
-    if k < outline.len() / 3 {
+    let p = point_at(mesh.points, mesh.indices[m] as usize);
+    let q = point_at(mesh.points, end_at(mesh.indices, m) as usize);
+    let k = find_piece(mesh.outline, near, mesh.positive, p, q);
+    if k < mesh.outline.len() / 3 {
         set_mark(marks, k);
     }
     k
@@ -69,33 +59,28 @@ fn mark_piece(
 // Returns how many sides, from the first on, are closed. The first `count` entries of `opens` are all sides without a reverse;
 // those that are pieces of the outline are marked, up to the first that is not a piece.
 pub(crate) fn all_pieces(
-    outline: &[u32],
-    points: &[u32],
-    indices: &[u16],
+    mesh: NumberedMesh,
     opens: &[u16],
     count: usize,
     marks: &mut [u16],
-    positive: bool,
 ) -> usize
-    requires numbered { AllNumbered (length (read_points points.now)) indices.now }
     requires within { count ≤ length opens.now }
-    requires listed { OpensListed (read_triangles indices.now) (length (read_triangles indices.now) * 3) opens.now count }
-    requires drawn { MarksDrawn (judged positive (read_points outline.now) points.now indices.now) marks.old }
-    ensures closed { (result ≤ length (read_triangles indices.now) * 3)
-        × ClosedTo (judged positive (read_points outline.now) points.now indices.now) result }
-    ensures marked { MarksDrawn (judged positive (read_points outline.now) points.now indices.now) marks.new }
+    requires listed { OpensListed (read_triangles mesh.indices.now) (length (read_triangles mesh.indices.now) * 3) opens.now count }
+    requires drawn { MarksDrawn (judged_by mesh) marks.old }
+    ensures closed { (result ≤ length (read_triangles mesh.entry.indices.now) * 3) × ClosedTo (judged_by mesh.entry) result }
+    ensures marked { MarksDrawn (judged_by mesh.entry) marks.new }
 {
-    let pieces = outline.len() / 3;
+    let pieces = mesh.outline.len() / 3;
     let mut near = 0;
     for k in 0..count {
         let m = opens[k] as usize;
-        let piece = mark_piece(outline, points, indices, marks, positive, near, m);
+        let piece = mark_piece(mesh, marks, near, m);
         if pieces <= piece {
             return m;
         }
         near = piece + 1;
     }
-    indices.len() / 3 * 3
+    mesh.indices.len() / 3 * 3
 }
 
 // Returns how many of the first `count` marks, from the first on, are set.

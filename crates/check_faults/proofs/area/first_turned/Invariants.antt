@@ -5,4 +5,4 @@ use Rattle.check_searches.proofs.First.{Passed}
 use Rattle.check_faults.proofs.area.first_turned.Given as goal
 
 abbrev pub invariant-loop-k : goal.invariant-loop-k
-invariant-loop-k l = Passed (λ i. turns_wrong l.positive (read_points l.points) (triangle_at (read_triangles l.indices) i)) l.count l.k
+invariant-loop-k l = Passed (λ i. turns_wrong l.mesh.positive (read_points l.mesh.points.now) (triangle_at (read_triangles l.mesh.indices.now) i)) l.count l.k

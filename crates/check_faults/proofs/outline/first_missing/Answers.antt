@@ -7,7 +7,7 @@ use Rattle.check_faults.proofs.outline.first_missing.Goals as goal
 
 pub returns-then-not-is_drawn : goal.returns-then-not-is_drawn
 unfolding first_missing
-returns-then-not-is_drawn c = search_found (points_count c.args.outline.now)
+returns-then-not-is_drawn c = search_found (points_count c.args.mesh.outline.now)
     c.loop-k.invariant (omega arith) (rw (
       ← c.piece_start-start.ensures,
       ← c.piece_end-end.ensures,
@@ -17,4 +17,4 @@ returns-then-not-is_drawn c = search_found (points_count c.args.outline.now)
 
 pub returns : goal.returns
 unfolding first_missing
-returns c = range_none (points_count c.args.outline.now) c.loop-k.invariant (omega arith)
+returns c = range_none (points_count c.args.mesh.outline.now) c.loop-k.invariant (omega arith)

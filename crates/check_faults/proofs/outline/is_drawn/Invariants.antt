@@ -6,4 +6,4 @@ use Rattle.check_faults.specs.Outline.{bounds}
 use Rattle.check_faults.proofs.outline.is_drawn.Given as goal
 
 abbrev pub invariant-loop-k : goal.invariant-loop-k
-invariant-loop-k l = Passed (λ i. bounds (face_of (at (read_points l.points)) (triangle_at (read_triangles l.indices) i)) (record { start = l.p; end = l.q })) l.count l.k
+invariant-loop-k l = Passed (λ i. bounds (face_of (at (read_points l.mesh.points.now)) (triangle_at (read_triangles l.mesh.indices.now) i)) (record { start = l.p; end = l.q })) l.count l.k

@@ -8,9 +8,9 @@ use Rattle.check_faults.proofs.side.first_open.Goals as goal
 
 pub returns-then-not-is_closed : goal.returns-then-not-is_closed
 unfolding first_open
-returns-then-not-is_closed c = search_found (ap (λ n. n * 3) (triangles_count c.args.indices.now))
+returns-then-not-is_closed c = search_found (ap (λ n. n * 3) (triangles_count c.args.mesh.indices.now))
     c.loop-m.invariant (omega arith) (rw (← c.is_closed.ensures, c.if-not-is_closed.true) refl)
 
 pub returns : goal.returns
 unfolding first_open
-returns c = range_none (ap (λ n. n * 3) (triangles_count c.args.indices.now)) c.loop-m.invariant (omega arith)
+returns c = range_none (ap (λ n. n * 3) (triangles_count c.args.mesh.indices.now)) c.loop-m.invariant (omega arith)

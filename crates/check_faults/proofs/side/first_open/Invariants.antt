@@ -6,4 +6,4 @@ use Rattle.check_faults.specs.Outline.{closes}
 use Rattle.check_faults.proofs.side.first_open.Given as goal
 
 abbrev pub invariant-loop-m : goal.invariant-loop-m
-invariant-loop-m l = Passed (λ i. not (closes (judged l.positive (read_points l.outline) l.points l.indices) i)) l.count l.m
+invariant-loop-m l = Passed (λ i. not (closes (judged l.mesh.positive (read_points l.mesh.outline.now) l.mesh.points.now l.mesh.indices.now) i)) l.count l.m

@@ -17,10 +17,12 @@ returns-then-place-indices c =
     rw (eq-eqb (length xs % 3) 0 (omega arith), eq-eqb (length c.args.indices.now % 3) 0 (omega arith), points_count xs)
     (found UnknownIndex _ c.first_unknown-place.ensures refl c.if-place-indices.true)
 
-pub point_fault-requires : goal.point_fault-requires
-point_fault-requires c =
+pub invariant_of-mesh : goal.invariant_of-mesh
+invariant_of-mesh c =
     let x = c.args in
-    rw (points_count x.points.now) (all_numbered (length x.points.now / 3) x.indices.now (omega (arith, c.first_unknown-place.ensures, c.if-place-indices.false)))
+    record {
+      numbered = rw (points_count x.points.now) (all_numbered (length x.points.now / 3) x.indices.now (omega (arith, c.first_unknown-place.ensures, c.if-place-indices.false)));
+    }
 
 pub returns : goal.returns
 unfolding mesh_fault
