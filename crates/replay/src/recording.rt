@@ -14,6 +14,9 @@ pub const MARK: [u8; 3] = *b"TSR";
 
 const VERSION: u16 = 1;
 
+// The size of an entry in bytes.
+const ENTRY: usize = 34;
+
 // Returns the answer after the header: 0 entries that all agree, or the refusal.
 pub fn read_start(bytes: &[u8]) -> Result<u64, ReplayFailure>
     ensures { result ≡ replay_start bytes.now }
@@ -38,27 +41,24 @@ fn replay_entries(
     requires countable { first + length bytes.now / 34 ≤ 18446744073709551615 }
     ensures { result ≡ entries_from first bytes.now }
 {
-    let mut entry = first;
-    let mut at = 0;
-    while 34 <= bytes.len() - at {
-        let next = at + 34;
-        let part = &bytes[at..next];
+    let whole = bytes.len() / ENTRY;
+    for k in 0..whole {
+        let at = k * ENTRY;
+        let part = &bytes[at..at + ENTRY];
         let recorded = read_recorded(part);
         let replayed = replay_record(part, vertices, indices);
         if !same_outcome(recorded, replayed) {
             return Err(ReplayFailure::Differs {
-                entry,
+                entry: first + k as u64,
                 recorded,
                 replayed,
             });
         }
-        at = next;
-        entry += 1;
     }
-    if at < bytes.len() {
+    if bytes.len() % ENTRY != 0 {
         return Err(ReplayFailure::CutEntry);
     }
-    Ok(entry)
+    Ok(first + whole as u64)
 }
 
 // Replays the next piece of a recording; it changes the answer only if all entries so far agree.

@@ -55,8 +55,8 @@ pub fn replay_chunk(
     indices: &mut [u16],
 ) -> Chunk
     requires full_size { FullSize (length vertices.old) (length indices.old) }
-    requires bytes_len_1 { length bytes.old ≡ 8704 }
-    requires bytes_len_2 { Countable so_far 256 }
+    requires chunk_room { length bytes.old ≡ 8704 }
+    requires countable { Countable so_far 256 }
     ensures { ReplayedChunk so_far bytes.new result }
 {
     let input = read_front(streams, bytes);

@@ -40,8 +40,8 @@ fn replay_chunks(
     indices: &mut [u16],
 ) -> Replayed
     requires full_size { FullSize (length vertices.old) (length indices.old) }
-    requires bytes_len_1 { length bytes.old ≡ 8704 }
-    requires bytes_len_2 { Countable start 18446744073709551615 }
+    requires chunk_room { length bytes.old ≡ 8704 }
+    requires countable { Countable start 18446744073709551615 }
     ensures { ReplayedChunks start bytes.new result }
 {
     let mut so_far = start;
@@ -72,8 +72,8 @@ pub(crate) fn replay_rest(
     indices: &mut [u16],
 ) -> Replayed
     requires full_size { FullSize (length vertices.old) (length indices.old) }
-    requires bytes_len_1 { length bytes.old ≡ 8704 }
-    requires bytes_len_2 { Countable start 18446744073709551615 }
+    requires chunk_room { length bytes.old ≡ 8704 }
+    requires countable { Countable start 18446744073709551615 }
     ensures { ReplayedRest start bytes.new result }
 {
     if is_open(start) {

@@ -6,20 +6,20 @@ use Rattle.replay.proofs.recording.replay_entries.Goals as goal
 
 pub returns-then-not-same_outcome : goal.returns-then-not-same_outcome
 returns-then-not-same_outcome c =
-    replaying_differs c.loop-at.invariant.0 (omega arith)
+    replaying_differs c.loop-k.invariant.0 (omega arith)
     c.read_recorded-recorded.ensures
     c.replay_record-replayed.ensures (sym c.same_outcome.ensures ∙ c.if-not-same_outcome.true)
 
-pub loop-at-preserved : goal.loop-at-preserved
-loop-at-preserved c = (
-  replaying_agrees c.loop-at.invariant.0 (omega arith)
+pub loop-k-preserved : goal.loop-k-preserved
+loop-k-preserved c = (
+  replaying_agrees c.loop-k.invariant.0 (omega arith)
       c.read_recorded-recorded.ensures
       c.replay_record-replayed.ensures (sym c.same_outcome.ensures ∙ c.if-not-same_outcome.false),
   search rules,
 )
 
-pub returns-then-at-bytes : goal.returns-then-at-bytes
-returns-then-at-bytes c = replaying_cut c.loop-at.invariant.0 (omega arith) (omega arith)
+pub returns-then-bytes-ne0 : goal.returns-then-bytes-ne0
+returns-then-bytes-ne0 c = replaying_cut c.loop-k.invariant.0 (omega arith) c.if-bytes-ne0.true
 
 pub returns : goal.returns
-returns c = replaying_done c.loop-at.invariant.0 (omega arith)
+returns c = replaying_done c.loop-k.invariant.0 (omega arith) (omega arith)

@@ -7,8 +7,8 @@ use Rattle.tsr_run.proofs.rest.replay_chunks.Goals as goal
 pub loop-read-init : goal.loop-read-init
 loop-read-init c = (full_start _, search rules)
 
-pub replay_chunk-piece-requires-clause-bytes_len_2 : goal.replay_chunk-piece-requires-clause-bytes_len_2
-replay_chunk-piece-requires-clause-bytes_len_2 c = full_countable c.loop-read.invariant.0 c.requires.bytes_len_2 (search rules)
+pub replay_chunk-piece-requires-clause-countable : goal.replay_chunk-piece-requires-clause-countable
+replay_chunk-piece-requires-clause-countable c = full_countable c.loop-read.invariant.0 c.requires.countable (search rules)
 
 pub returns-then-not-piece : goal.returns-then-not-piece
 returns-then-not-piece c =
