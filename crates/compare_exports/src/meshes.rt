@@ -1,7 +1,7 @@
 // The exported call.
 ghost use Rattle.compare_exports.specs.Calls.{CompareCalled};
 
-use crate::reply::reply_to;
+use crate::reply::CountReply;
 use compare_meshes::tool::compare;
 use mesh_geometry::Mesh;
 
@@ -26,7 +26,7 @@ pub extern "C" fn yoktvarim_compare_meshes(
         points: right_points,
         indices: right_indices,
     };
-    let reply = reply_to(compare(left, right, differences));
+    let reply = CountReply::from(compare(left, right, differences));
     *count = [reply.count];
     reply.number
 }

@@ -12,6 +12,7 @@ pub struct CountReply {
 }
 
 // The position of a fault among the three numbers of its side.
+// Kept: a function, since only the crate of `Fault` may say how `From` makes a `u32` of it.
 fn shift_of(fault: Fault) -> u32
     ensures { result ≡ shift_of fault }
 {
@@ -22,25 +23,27 @@ fn shift_of(fault: Fault) -> u32
     }
 }
 
-pub(crate) fn reply_to(answer: Result<usize, CompareRefusal>) -> CountReply
-    ensures { result ≡ comparison_reply (comparison_code answer) }
-{
-    match answer {
-        Ok(n) => CountReply {
-            number: 0,
-            count: n as u64,
-        },
-        Err(CompareRefusal::NoRoom(n)) => CountReply {
-            number: 40,
-            count: n as u64,
-        },
-        Err(CompareRefusal::Left(fault)) => CountReply {
-            number: 41 + shift_of(fault),
-            count: 0,
-        },
-        Err(CompareRefusal::Right(fault)) => CountReply {
-            number: 44 + shift_of(fault),
-            count: 0,
-        },
+impl From<Result<usize, CompareRefusal>> for CountReply {
+    ghost from_gives = { λ answer reply. reply ≡ comparison_reply (comparison_code answer) };
+
+    fn from(answer: Result<usize, CompareRefusal>) -> CountReply {
+        match answer {
+            Ok(n) => CountReply {
+                number: 0,
+                count: n as u64,
+            },
+            Err(CompareRefusal::NoRoom(n)) => CountReply {
+                number: 40,
+                count: n as u64,
+            },
+            Err(CompareRefusal::Left(fault)) => CountReply {
+                number: 41 + shift_of(fault),
+                count: 0,
+            },
+            Err(CompareRefusal::Right(fault)) => CountReply {
+                number: 44 + shift_of(fault),
+                count: 0,
+            },
+        }
     }
 }

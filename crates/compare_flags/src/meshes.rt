@@ -1,5 +1,5 @@
 // The flags of two meshes.
-ghost use Rattle.std.specs.Prelude.{◌≡◌, true};
+ghost use Rattle.std.specs.Prelude.{◌≡◌, true, IfOk};
 ghost use Rattle.compare_table_flags.specs.Flags.{ManySides, AllSet, MeshFlags};
 
 use crate::side::flag_side;
@@ -13,26 +13,29 @@ fn has_room(mesh: SoundMesh) -> bool
     mesh.points.len() <= 24576 && mesh.indices.len() <= 25344
 }
 
-// Clears the flags of all points and triangles that are not differences; returns false, with no flags known, if a mesh is too large for the
-// tables. Every flag is set before the call.
+// A mesh is too large for the tables, so no flags are known.
+#[derive(Clone, Copy, Debug, PartialEq, Eq, Drop)]
+pub struct TooLarge;
+
+// Clears the flags of all points and triangles that are not differences. Every flag is set before the call.
 pub fn flag_meshes(
     left: SoundMesh,
     right: SoundMesh,
     left_flags: &mut Flags,
     right_flags: &mut Flags,
-) -> bool
+) -> Result<(), TooLarge>
     requires left_set { AllSet 8192 left_flags.old.points × AllSet 8448 left_flags.old.faces }
     requires right_set { AllSet 8192 right_flags.old.points × AllSet 8448 right_flags.old.faces }
-    ensures left_told { result ≡ true → MeshFlags left.entry.points.now left.entry.indices.now right.entry.points.now right.entry.indices.now
-        left_flags.new.points left_flags.new.faces }
-    ensures right_told { result ≡ true → MeshFlags right.entry.points.now right.entry.indices.now left.entry.points.now left.entry.indices.now
-        right_flags.new.points right_flags.new.faces }
+    ensures left_told { IfOk result (λ _. MeshFlags left.entry.points.now left.entry.indices.now right.entry.points.now
+        right.entry.indices.now left_flags.new.points left_flags.new.faces) }
+    ensures right_told { IfOk result (λ _. MeshFlags right.entry.points.now right.entry.indices.now left.entry.points.now
+        left.entry.indices.now right_flags.new.points right_flags.new.faces) }
 {
     if !has_room(left) {
-        return false;
+        return Err(TooLarge);
     }
     if !has_room(right) {
-        return false;
+        return Err(TooLarge);
     }
     flag_side(
         left,
@@ -48,5 +51,5 @@ pub fn flag_meshes(
         &mut right_flags.faces,
         &mut left_flags.faces,
     );
-    true
+    Ok(())
 }

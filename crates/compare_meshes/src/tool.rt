@@ -9,7 +9,7 @@ ghost use Rattle.compare_meshes.specs.Answers.{checked, DifferencesListed, Compa
 use crate::answer::{CompareRefusal, Fault};
 use crate::same::same_mesh;
 use compare_differences::mesh::SoundMesh;
-use compare_flags::meshes::flag_meshes;
+use compare_flags::meshes::{TooLarge, flag_meshes};
 use compare_lists::all::{count_differences, write_differences};
 use compare_table_flags::flags::Flags;
 use mesh_geometry::Mesh;
@@ -89,10 +89,10 @@ fn list_differences(
         points: [true; 8192],
         faces: [true; 8448],
     };
-    if flag_meshes(left, right, &mut left_flags, &mut right_flags) {
-        return list_by_flags(left, right, Some(&left_flags), Some(&right_flags), out);
+    match flag_meshes(left, right, &mut left_flags, &mut right_flags) {
+        Ok(()) => list_by_flags(left, right, Some(&left_flags), Some(&right_flags), out),
+        Err(TooLarge) => list_by_flags(left, right, None, None, out),
     }
-    list_by_flags(left, right, None, None, out)
 }
 
 // Compares two meshes: writes three words for each point and triangle that only one of them has, and returns how many there are.

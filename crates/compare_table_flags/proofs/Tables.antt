@@ -99,12 +99,9 @@ set_at (suc n) (suc k) l = set_at n k (omega arith)
 pub all_set : (n : ℕ) → n ≤ length (replicate n true) → AllSet n (replicate n true)
 all_set n l = record { room = l; each = set_at n }
 
--- a flag that a test decides, and one that was cleared before
+-- a flag that a test decides
 pub flag_asked : (flag r b : Bool) → flag ≡ true → r ≡ b → r ≡ (flag && b)
 flag_asked flag r b e f = rw e f
-
-pub flag_gone : (flag b : Bool) → flag ≡ false → flag ≡ (flag && b)
-flag_gone flag b e = rw e
 
 -- ---- a point whose partner is known
 pub point_asked : (pw ow : List ℕ) (k r : ℕ) → NoneRepeated pw → k < length pw / 3 → PointFound (read_points ow) (length ow / 3) (at (read_points pw) k) r
