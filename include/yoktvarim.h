@@ -57,7 +57,7 @@ enum {
     YOKTVARIM_STACK_DRAW = 28672,     /* points, indices */
     YOKTVARIM_STACK_FLOATS = 28672,   /* drawing with floats */
     YOKTVARIM_STACK_JOB = 4096,       /* writing and reading job files */
-    YOKTVARIM_STACK_CHECK = 151552,   /* checking a mesh */
+    YOKTVARIM_STACK_CHECK = 131072,   /* checking a mesh */
     YOKTVARIM_STACK_SHARE = 28672,    /* starting, drawing and clearing on shared lists */
     YOKTVARIM_STACK_COMPARE = 172032, /* comparing two meshes */
     YOKTVARIM_STACK_REPLAY = 131072,  /* replaying a recording */

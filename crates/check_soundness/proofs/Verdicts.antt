@@ -81,7 +81,7 @@ module _ (set : Settings) (p : Patch) (pw iw : List ℕ) where
 
       lines : Top set.top → (b : Bool) → is_isolines p ≡ b
           → Means set p pw iw (cond b (Err said.Isolines)
-             (cond set.point_mode (Err said.Dots) (cond (discards p) (cond (is_empty pw iw) (Ok tt) (Err said.ShouldBeDiscarded)) (patch_fault set p pw iw))))
+          (cond set.point_mode (Err said.Dots) (cond (discards p) (cond (is_empty pw iw) (Ok tt) (Err said.ShouldBeDiscarded)) (patch_fault set p pw iw))))
       lines t true e = (t, no_surface p e)
       lines t false e = dots t (surface_is p e) set.point_mode refl
 
