@@ -4,7 +4,6 @@ ghost use Rattle.compare_table_flags.specs.Flags.{ManySides, AllSet, MeshFlags};
 
 use crate::side::flag_side;
 use compare_differences::mesh::SoundMesh;
-use compare_table_flags::flags::Flags;
 
 // Whether the tables have room for a mesh: up to 8192 points and 8448 triangles. The largest patch has 4225 points and 8192 triangles.
 fn has_room(mesh: SoundMesh) -> bool
@@ -21,15 +20,17 @@ pub struct TooLarge;
 pub fn flag_meshes(
     left: SoundMesh,
     right: SoundMesh,
-    left_flags: &mut Flags,
-    right_flags: &mut Flags,
+    left_point_flags: &mut [bool],
+    left_face_flags: &mut [bool],
+    right_point_flags: &mut [bool],
+    right_face_flags: &mut [bool],
 ) -> Result<(), TooLarge>
-    requires left_set { AllSet 8192 left_flags.old.points × AllSet 8448 left_flags.old.faces }
-    requires right_set { AllSet 8192 right_flags.old.points × AllSet 8448 right_flags.old.faces }
+    requires left_set { AllSet 8192 left_point_flags.old × AllSet 8448 left_face_flags.old }
+    requires right_set { AllSet 8192 right_point_flags.old × AllSet 8448 right_face_flags.old }
     ensures left_told { IfOk result (λ _. MeshFlags left.entry.points.now left.entry.indices.now right.entry.points.now
-        right.entry.indices.now left_flags.new.points left_flags.new.faces) }
+        right.entry.indices.now left_point_flags.new left_face_flags.new) }
     ensures right_told { IfOk result (λ _. MeshFlags right.entry.points.now right.entry.indices.now left.entry.points.now
-        left.entry.indices.now right_flags.new.points right_flags.new.faces) }
+        left.entry.indices.now right_point_flags.new right_face_flags.new) }
 {
     if !has_room(left) {
         return Err(TooLarge);
@@ -40,16 +41,16 @@ pub fn flag_meshes(
     flag_side(
         left,
         right,
-        &mut left_flags.points,
-        &mut left_flags.faces,
-        &mut right_flags.faces,
+        left_point_flags,
+        left_face_flags,
+        right_face_flags,
     );
     flag_side(
         right,
         left,
-        &mut right_flags.points,
-        &mut right_flags.faces,
-        &mut left_flags.faces,
+        right_point_flags,
+        right_face_flags,
+        left_face_flags,
     );
     Ok(())
 }

@@ -16,13 +16,13 @@ use compare_table_flags::flags::Flags;
 pub fn count_differences(
     left: SoundMesh,
     right: SoundMesh,
-    left_flags: Option<&Flags>,
-    right_flags: Option<&Flags>,
+    left_flags: Option<Flags>,
+    right_flags: Option<Flags>,
 ) -> usize
     requires left_told { ForSome left_flags (λ f. MeshFlags left.points.now left.indices.now right.points.now right.indices.now
-        f.now.points f.now.faces) }
+        f.points.now f.faces.now) }
     requires right_told { ForSome right_flags (λ f. MeshFlags right.points.now right.indices.now left.points.now left.indices.now
-        f.now.points f.now.faces) }
+        f.points.now f.faces.now) }
     ensures { result ≡ length (differences (read_mesh left.entry.points.now left.entry.indices.now)
         (read_mesh right.entry.points.now right.entry.indices.now)) }
 {
@@ -59,13 +59,13 @@ pub fn write_differences(
     out: &mut [u64],
     left: SoundMesh,
     right: SoundMesh,
-    left_flags: Option<&Flags>,
-    right_flags: Option<&Flags>,
+    left_flags: Option<Flags>,
+    right_flags: Option<Flags>,
 ) -> usize
     requires left_told { ForSome left_flags (λ f. MeshFlags left.points.now left.indices.now right.points.now right.indices.now
-        f.now.points f.now.faces) }
+        f.points.now f.faces.now) }
     requires right_told { ForSome right_flags (λ f. MeshFlags right.points.now right.indices.now left.points.now left.indices.now
-        f.now.points f.now.faces) }
+        f.points.now f.faces.now) }
     requires room { length (difference_words left.points.now left.indices.now right.points.now right.indices.now) ≤ length out.old }
     ensures { Wrote out.old 0 (difference_words left.entry.points.now left.entry.indices.now right.entry.points.now right.entry.indices.now)
         out.new result }

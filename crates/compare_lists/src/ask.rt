@@ -6,9 +6,9 @@ ghost use Rattle.compare_differences.specs.Meshes.{point_row, face_row, same_fac
 
 use crate::side::Side;
 
-pub(crate) fn lacks_point(side: Side, k: usize) -> bool
-    requires { k < length side.mesh.points.now / 3 }
-    ensures { result ≡ lacks same_point (point_row side.entry.mesh.points.now) (point_row side.entry.other.points.now) k }
+pub(crate) fn lacks_point(side: &Side, k: usize) -> bool
+    requires { k < length side.now.mesh.points.now / 3 }
+    ensures { result ≡ lacks same_point (point_row side.now.mesh.points.now) (point_row side.now.other.points.now) k }
 {
     match side.flags {
         Some(flags) => flags.points[k],
@@ -16,10 +16,10 @@ pub(crate) fn lacks_point(side: Side, k: usize) -> bool
     }
 }
 
-pub(crate) fn lacks_face(side: Side, k: usize) -> bool
-    requires { k < length side.mesh.indices.now / 3 }
-    ensures { result ≡ lacks same_face (face_row side.entry.mesh.points.now side.entry.mesh.indices.now)
-        (face_row side.entry.other.points.now side.entry.other.indices.now) k }
+pub(crate) fn lacks_face(side: &Side, k: usize) -> bool
+    requires { k < length side.now.mesh.indices.now / 3 }
+    ensures { result ≡ lacks same_face (face_row side.now.mesh.points.now side.now.mesh.indices.now)
+        (face_row side.now.other.points.now side.now.other.indices.now) k }
 {
     match side.flags {
         Some(flags) => flags.faces[k],

@@ -28,11 +28,11 @@ pub(crate) fn count_points(side: Side) -> usize
 {
     let count = side.mesh.points.len() / 3;
     if let Some(flags) = side.flags {
-        return count_set(&flags.points, count);
+        return count_set(flags.points, count);
     }
     let mut n = 0;
     for k in 0..count {
-        n += usize::from(lacks_point(side, k));
+        n += usize::from(lacks_point(&side, k));
     }
     n
 }
@@ -43,11 +43,11 @@ pub(crate) fn count_faces(side: Side) -> usize
 {
     let count = side.mesh.indices.len() / 3;
     if let Some(flags) = side.flags {
-        return count_set(&flags.faces, count);
+        return count_set(flags.faces, count);
     }
     let mut n = 0;
     for k in 0..count {
-        n += usize::from(lacks_face(side, k));
+        n += usize::from(lacks_face(&side, k));
     }
     n
 }
@@ -71,7 +71,7 @@ pub(crate) fn write_points(out: &mut [u64], at: usize, number: u64, side: Side) 
 {
     let mut to = at;
     for k in 0..side.mesh.points.len() / 3 {
-        to = put_if(out, to, lacks_point(side, k), 0, number, k);
+        to = put_if(out, to, lacks_point(&side, k), 0, number, k);
     }
     to
 }
@@ -85,7 +85,7 @@ pub(crate) fn write_faces(out: &mut [u64], at: usize, number: u64, side: Side) -
 {
     let mut to = at;
     for k in 0..side.mesh.indices.len() / 3 {
-        to = put_if(out, to, lacks_face(side, k), 1, number, k);
+        to = put_if(out, to, lacks_face(&side, k), 1, number, k);
     }
     to
 }

@@ -10,6 +10,6 @@ use compare_table_flags::flags::Flags;
 pub(crate) struct Side<'a> {
     pub mesh: SoundMesh<'a>,
     pub other: SoundMesh<'a>,
-    pub flags: Option<&'a Flags>,
-    pub ghost told: { ForSome flags (λ f. MeshFlags mesh.points.now mesh.indices.now other.points.now other.indices.now f.now.points f.now.faces) },
+    pub flags: Option<Flags<'a>>,
+    pub ghost told: { ForSome flags (λ f. MeshFlags mesh.points.now mesh.indices.now other.points.now other.indices.now f.points.now f.faces.now) },
 }

@@ -47,14 +47,14 @@ fn sound_mesh<'a>(points: &'a [u32], indices: &'a [u16]) -> Result<SoundMesh<'a>
 fn list_by_flags(
     left: SoundMesh,
     right: SoundMesh,
-    left_flags: Option<&Flags>,
-    right_flags: Option<&Flags>,
+    left_flags: Option<Flags>,
+    right_flags: Option<Flags>,
     out: &mut [u64],
 ) -> Result<usize, CompareRefusal>
     requires left_told { ForSome left_flags (λ f. MeshFlags left.points.now left.indices.now right.points.now right.indices.now
-        f.now.points f.now.faces) }
+        f.points.now f.faces.now) }
     requires right_told { ForSome right_flags (λ f. MeshFlags right.points.now right.indices.now left.points.now left.indices.now
-        f.now.points f.now.faces) }
+        f.points.now f.faces.now) }
     ensures { DifferencesListed (differences (read_mesh left.entry.points.now left.entry.indices.now)
         (read_mesh right.entry.points.now right.entry.indices.now)) out.old out.new result }
 {
@@ -81,16 +81,29 @@ fn list_differences(
     if same_mesh(left, right) {
         return Ok(0);
     }
-    let mut left_flags = Flags {
-        points: [true; 8192],
-        faces: [true; 8448],
-    };
-    let mut right_flags = Flags {
-        points: [true; 8192],
-        faces: [true; 8448],
-    };
-    match flag_meshes(left, right, &mut left_flags, &mut right_flags) {
-        Ok(()) => list_by_flags(left, right, Some(&left_flags), Some(&right_flags), out),
+    let mut left_point_flags = [true; 8192];
+    let mut left_face_flags = [true; 8448];
+    let mut right_point_flags = [true; 8192];
+    let mut right_face_flags = [true; 8448];
+    match flag_meshes(
+        left,
+        right,
+        &mut left_point_flags,
+        &mut left_face_flags,
+        &mut right_point_flags,
+        &mut right_face_flags,
+    ) {
+        Ok(()) => {
+            let left_flags = Flags {
+                points: &left_point_flags,
+                faces: &left_face_flags,
+            };
+            let right_flags = Flags {
+                points: &right_point_flags,
+                faces: &right_face_flags,
+            };
+            list_by_flags(left, right, Some(left_flags), Some(right_flags), out)
+        }
         Err(TooLarge) => list_by_flags(left, right, None, None, out),
     }
 }
