@@ -1,21 +1,32 @@
 -- Tests of the elements of a list, in the code's order. Assumes nothing.
-use Prim.Native.Nat.{ℕ, ◌+◌, ◌≤◌}
+use Prim.Native.Nat.{ℕ, ◌+◌, ◌≤◌, ◌<◌}
 use mathlib.Core.Path.{◌≡◌, refl}
 use mathlib.Core.Bool.{Bool, true, false}
 use mathlib.Core.List.{List, [], ◌∷◌}
 use native.Mathlib.Omega.{arith}
 use native.Mathlib.Decide.{dec_le}
 use lib.Dec.{eqb}
-use lib.ListN.{length}
+use lib.ListN.{length, get_or, drop}
 use borrow.Author.Tests.{eq-eqb, ne_eqb}
-use Rattle.std.specs.List.{list_any}
+use Rattle.std.proofs.Math.ListN.{drop_of_length-le}
+use Rattle.std.proofs.lemmas.List.{drop_more}
 use Rattle.patch.specs.Every.{some, every}
 
--- the library's word for the same
-pub some_any : {A : Type 0} (test : A → Bool) (xs : List A) → list_any test xs ≡ some test xs
-unfolding some
-some_any test [] = refl
-some_any test (x ∷ xs) = rw (some_any test xs)
+module _ {A : Type 0} (test : A → Bool) (xs : List A) (k : ℕ) where
+  -- element k passes
+  pub some_here : (d : A) → k < length xs → test (get_or xs k d) ≡ true → some test (drop k xs) ≡ true
+  unfolding some
+  some_here d l h = rw (drop_more xs k d l, h)
+
+  -- element k fails, and the later ones decide
+  pub some_past : (d : A) → k < length xs → test (get_or xs k d) ≡ false → some test (drop k xs) ≡ some test (drop (k + 1) xs)
+  unfolding some
+  some_past d l h = rw (drop_more xs k d l, h)
+
+  -- none is left
+  pub some_none : length xs ≤ k → some test (drop k xs) ≡ false
+  unfolding some
+  some_none l = rw (drop_of_length-le xs l)
 
 -- ---- all counts are 1 exactly if their sum is their number
 unfoldable pub total : {A : Type 0} → (A → ℕ) → List A → ℕ

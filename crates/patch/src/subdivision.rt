@@ -70,7 +70,12 @@ pub fn subdivide(patch: Patch, spacing: Spacing, top: u32) -> Subdivision
 fn discards_any(outer: &[f32]) -> bool
     ensures { result ≡ some discarded outer.now }
 {
-    outer.iter().any(|level| level::discards(*level))
+    for k in 0..outer.len() {
+        if level::discards(outer[k]) {
+            return true;
+        }
+    }
+    false
 }
 
 // Returns the segments of a level.
