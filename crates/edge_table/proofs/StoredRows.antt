@@ -5,7 +5,9 @@ use Prim.Native.Nat.{ℕ, zero, suc, ◌+◌, ◌-◌, ◌*◌, ◌≤◌}
 use native.Mathlib.Nat.{zero-add, add-zero}
 use native.Mathlib.Omega.{arith}
 use lib.ListN.{length, get_or, take, length-append, get_or-append}
-use lib.Seq.{get_or-append-add, take_at}
+use lib.Seq.{get_or-append-add, take_at, take_all}
+use Rattle.buffer.specs.Over.{Wrote}
+use Rattle.buffer.proofs.Laws.{over_front}
 use Rattle.edge.specs.Positions.{position, entry}
 use Rattle.edge.specs.Rows.{edge_row, RowAt}
 use Rattle.edge_table.specs.Stored.{row_start, rows_from, rows_to}
@@ -41,6 +43,13 @@ rows_cut m w xs e h k =
     let whole : m + (64 - m) ≡ 64 = omega arith in
     let l : length (rows_to m) ≡ w = omega (arith, rows_length 1 m) in
     ap (take w) (e ∙ ap rows_to (sym whole) ∙ rows_split 1 m (64 - m)) ∙ take_at (rows_to m) (rows_from (1 + m) (64 - m)) w l
+
+-- they are what is left where they were written over all of a list
+pub rows_written : (m w : ℕ) {xs ys zs : List ℕ} {r : ℕ} → xs ≡ rows_to 64 → 2 * w ≡ m * (m + 3) → m ≤ 64 → length ys ≡ w → Wrote zs 0 (take w xs) ys r → ys ≡ rows_to m
+rows_written m w {xs} {ys} {zs} e whole few n c =
+    let cut = rows_cut m w xs e whole few in
+    let l : length (take w xs) ≡ w = omega (arith, ap length cut, rows_length 1 m) in
+    sym (take_all w ys (omega arith)) ∙ ap (take w) c.is ∙ over_front zs (take w xs) w (sym l) ∙ cut
 
 -- a row, between those before it and those after it
 row_split : (k j : ℕ) → rows_to (k + suc j) ≡ rows_to k ++ (edge_row (suc k) (65536 * suc k) ++ rows_from (suc (suc k)) j)

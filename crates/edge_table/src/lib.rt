@@ -155,8 +155,29 @@ pub fn rows_to<const MOST: usize, const LENGTH: usize>() -> [u32; LENGTH]
 {
     let all = rows_to_64();
     let mut rows = [0u32; LENGTH];
-    rows.copy_from_slice(&all[..LENGTH]);
+    buffer::put_all(&mut rows, 0, &all[..LENGTH]);
     rows
+}
+
+// Returns the rows of 1 to 8 segments.
+pub fn rows_to_8() -> [u32; 44]
+    ensures { result ≡ rows_to 8 }
+{
+    rows_to::<8, 44>()
+}
+
+// Returns the rows of 1 to 16 segments.
+pub fn rows_to_16() -> [u32; 152]
+    ensures { result ≡ rows_to 16 }
+{
+    rows_to::<16, 152>()
+}
+
+// Returns the rows of 1 to 32 segments.
+pub fn rows_to_32() -> [u32; 560]
+    ensures { result ≡ rows_to 32 }
+{
+    rows_to::<32, 560>()
 }
 
 // Returns the row of an edge of equal spacing from `rows`, the first rows of the table.

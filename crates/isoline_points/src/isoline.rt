@@ -82,7 +82,7 @@ fn most_equal(most: u32, s: Segments) -> u32
 }
 
 // Writes an isoline for each place of `lines` but the last, with a point for each place of `along`. Rows of equal spacing come from the
-// table, of which no more rows are copied than these two need.
+// table, of which no more rows are copied than these two need. The table has no name: LLVM copied one that had a name once more.
 pub fn write_isolines(out: &mut [u32], at: usize, lines: Segments, along: Segments) -> usize
     requires fact_1 { Valid lines.count lines.scaled × Valid along.count along.scaled }
     requires fact_2 { at + 3 * length (isoline_points (run lines) (run along)) ≤ length out.old }
@@ -91,17 +91,13 @@ pub fn write_isolines(out: &mut [u32], at: usize, lines: Segments, along: Segmen
     let most = most_equal(0, lines);
     let most = most_equal(most, along);
     if most <= 8 {
-        let table = edge_table::rows_to::<8, 44>();
-        return write_by_spacing(out, at, &table, lines, along);
+        return write_by_spacing(out, at, &edge_table::rows_to_8(), lines, along);
     }
     if most <= 16 {
-        let table = edge_table::rows_to::<16, 152>();
-        return write_by_spacing(out, at, &table, lines, along);
+        return write_by_spacing(out, at, &edge_table::rows_to_16(), lines, along);
     }
     if most <= 32 {
-        let table = edge_table::rows_to::<32, 560>();
-        return write_by_spacing(out, at, &table, lines, along);
+        return write_by_spacing(out, at, &edge_table::rows_to_32(), lines, along);
     }
-    let table = edge_table::rows_to_64();
-    write_by_spacing(out, at, &table, lines, along)
+    write_by_spacing(out, at, &edge_table::rows_to_64(), lines, along)
 }

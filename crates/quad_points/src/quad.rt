@@ -86,11 +86,11 @@ impl QuadSegments {
         ensures { Wrote out.old at (vertex_words (quad_patch_points self)) out.new result }
     {
         if most <= 16 {
-            let table = edge_table::rows_to::<16, 152>();
+            let table = edge_table::rows_to_16();
             return self.write_stored(out, at, &table);
         }
         if most <= 32 {
-            let table = edge_table::rows_to::<32, 560>();
+            let table = edge_table::rows_to_32();
             return self.write_stored(out, at, &table);
         }
         if most <= 64 {
@@ -128,7 +128,7 @@ pub fn write_quad_patch(
     };
     let most = segments.width();
     if most < 9 {
-        let table = edge_table::rows_to::<8, 44>();
+        let table = edge_table::rows_to_8();
         let r0 = row_of(&table, e0);
         let r1 = row_of(&table, e1);
         let r2 = row_of(&table, e2);

@@ -111,15 +111,15 @@ fn write_by_width(
     ensures { Wrote out.old at (vertex_words (patch_points e0 e1 e2 inside)) out.new result }
 {
     if most <= 8 {
-        let table = edge_table::rows_to::<8, 44>();
+        let table = edge_table::rows_to_8();
         return write_stored(out, at, &table, e0, e1, e2, inside);
     }
     if most <= 16 {
-        let table = edge_table::rows_to::<16, 152>();
+        let table = edge_table::rows_to_16();
         return write_stored(out, at, &table, e0, e1, e2, inside);
     }
     if most <= 32 {
-        let table = edge_table::rows_to::<32, 560>();
+        let table = edge_table::rows_to_32();
         return write_stored(out, at, &table, e0, e1, e2, inside);
     }
     if most <= 64 {
@@ -163,7 +163,7 @@ pub fn write_drawn_triangle(
 {
     let most = width_of(e0, e1, e2, inside);
     if most < 9 {
-        let table = edge_table::rows_to::<8, 44>();
+        let table = edge_table::rows_to_8();
         let w = write_stored_outline(out, at, &table, e0, e1, e2);
         let row = row_of(&table, inside);
         return triangle_point_rows::write_small_inside(out, w, row);

@@ -8,7 +8,7 @@ pub row_of-r0-requires : goal.row_of-r0-requires
 row_of-r0-requires c = let a = c.args in
     let v = all_valid a.e0 a.e1 a.e2 a.e3 a.rows a.columns c.requires.outline_valid c.requires.inside_valid in (
       (c.requires.outline_valid.0.some, c.requires.outline_valid.0.few),
-      (all_stored 8 (omega arith) c.rows_to-table.ensures (omega arith) v
+      (all_stored 8 (omega arith) c.rows_to_8-table.ensures (omega arith) v
           c.width-most.ensures).0,
     )
 
@@ -16,7 +16,7 @@ pub row_of-r1-requires : goal.row_of-r1-requires
 row_of-r1-requires c = let a = c.args in
     let v = all_valid a.e0 a.e1 a.e2 a.e3 a.rows a.columns c.requires.outline_valid c.requires.inside_valid in (
       (c.requires.outline_valid.1.some, c.requires.outline_valid.1.few),
-      (all_stored 8 (omega arith) c.rows_to-table.ensures
+      (all_stored 8 (omega arith) c.rows_to_8-table.ensures
           (omega arith) v c.width-most.ensures).1.0,
     )
 
@@ -24,7 +24,7 @@ pub row_of-r2-requires : goal.row_of-r2-requires
 row_of-r2-requires c = let a = c.args in
     let v = all_valid a.e0 a.e1 a.e2 a.e3 a.rows a.columns c.requires.outline_valid c.requires.inside_valid in (
       (c.requires.outline_valid.2.some, c.requires.outline_valid.2.few),
-      (all_stored 8 (omega arith) c.rows_to-table.ensures
+      (all_stored 8 (omega arith) c.rows_to_8-table.ensures
           (omega arith) v
           c.width-most.ensures).1.1.0,
     )
@@ -33,7 +33,7 @@ pub row_of-r3-requires : goal.row_of-r3-requires
 row_of-r3-requires c = let a = c.args in
     let v = all_valid a.e0 a.e1 a.e2 a.e3 a.rows a.columns c.requires.outline_valid c.requires.inside_valid in (
       (c.requires.outline_valid.3.some, c.requires.outline_valid.3.few),
-      (all_stored 8 (omega arith) c.rows_to-table.ensures
+      (all_stored 8 (omega arith) c.rows_to_8-table.ensures
           (omega arith) v
           c.width-most.ensures).1.1.1.0,
     )
@@ -54,7 +54,7 @@ pub row_of-r-requires : goal.row_of-r-requires
 row_of-r-requires c = let a = c.args in
     let v = all_valid a.e0 a.e1 a.e2 a.e3 a.rows a.columns c.requires.outline_valid c.requires.inside_valid in (
       (c.requires.inside_valid.0.some, c.requires.inside_valid.0.few),
-      (all_stored 8 (omega arith) c.rows_to-table.ensures (omega arith)
+      (all_stored 8 (omega arith) c.rows_to_8-table.ensures (omega arith)
           v c.width-most.ensures).1.1.1.1.0,
     )
 
@@ -62,7 +62,7 @@ pub row_of-c-requires : goal.row_of-c-requires
 row_of-c-requires c = let a = c.args in
     let v = all_valid a.e0 a.e1 a.e2 a.e3 a.rows a.columns c.requires.outline_valid c.requires.inside_valid in (
       (c.requires.inside_valid.1.some, c.requires.inside_valid.1.few),
-      (all_stored 8 (omega arith) c.rows_to-table.ensures (omega arith) v
+      (all_stored 8 (omega arith) c.rows_to_8-table.ensures (omega arith) v
           c.width-most.ensures).1.1.1.1.1,
     )
 

@@ -8,7 +8,7 @@ pub row_of-row-requires : goal.row_of-row-requires
 row_of-row-requires c = let a = c.args in
     let v = all_valid a.e0 a.e1 a.e2 a.inside c.requires.fact_1 c.requires.fact_2.0 in (
       (c.requires.fact_2.0.some, c.requires.fact_2.0.few),
-      (all_stored 8 (omega arith) c.rows_to-table.ensures
+      (all_stored 8 (omega arith) c.rows_to_8-table.ensures
           (omega arith) v
           c.width_of-most.ensures).1.1.1,
     )
@@ -33,7 +33,7 @@ pub write_stored_outline-w-requires-clause-fact_2 : goal.write_stored_outline-w-
 write_stored_outline-w-requires-clause-fact_2 c =
     let a = c.args in
     let v = all_valid a.e0 a.e1 a.e2 a.inside c.requires.fact_1 c.requires.fact_2.0 in
-    first_three (all_stored 8 (omega arith) c.rows_to-table.ensures (omega arith) v c.width_of-most.ensures)
+    first_three (all_stored 8 (omega arith) c.rows_to_8-table.ensures (omega arith) v c.width_of-most.ensures)
 
 pub write_stored_outline-w-requires-clause-fact_3 : goal.write_stored_outline-w-requires-clause-fact_3
 write_stored_outline-w-requires-clause-fact_3 c =
