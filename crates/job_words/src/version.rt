@@ -1,6 +1,6 @@
 // A version by its number.
 ghost use Rattle.std.specs.Prelude.{◌≡◌};
-ghost use Rattle.job_words.specs.Inputs.{known_version};
+ghost use Rattle.job_words.specs.Inputs.{known_version, version_of_number};
 
 use job_fields::version::Version;
 
@@ -10,4 +10,14 @@ pub fn known_version(number: u32) -> Option<Version>
     ensures { result ≡ known_version number }
 {
     Version::try_from(number).ok()
+}
+
+// Returns the version with the number 1 or 2; any other number gives version 2.
+pub fn version_in(number: u32) -> Version
+    ensures { result ≡ version_of_number number }
+{
+    match number {
+        1 => Version::One,
+        _ => Version::Two,
+    }
 }
