@@ -72,9 +72,10 @@ pub fn reach(mesh: NumberedMesh) -> Reached
             drawn: 0,
         };
     }
-    // The largest patch has 4225 points, 8192 triangles and 256 pieces of the outline.
+    // Chains for up to 8192 points and 8448 triangles. The largest patch has 4225 points, 8192 triangles and 256 pieces of the
+    // outline.
     if 192 < mesh.points.len() {
-        return reach_by::<ChainTable, 1024, 256>(mesh);
+        return reach_by::<ChainTable<8192, 25344>, 1024, 256>(mesh);
     }
     reach_by::<BitTable, 128, 64>(mesh)
 }

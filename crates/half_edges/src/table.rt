@@ -1,5 +1,5 @@
 // The table of the directed sides of a mesh, and its two forms: rows of bits for a small mesh, else chains.
-ghost use Rattle.std.specs.Prelude.{◌≡◌, ℕ, List, ◌+◌, ◌<◌};
+ghost use Rattle.std.specs.Prelude.{◌≡◌, ℕ, List, ◌+◌, ◌<◌, min};
 ghost use Rattle.strip.specs.declared.triangle.Triangle.{Triangle};
 ghost use Rattle.mesh_geometry.specs.Words.{read_triangles};
 ghost use Rattle.check_searches.specs.First.{some_below};
@@ -63,24 +63,24 @@ impl SideTable for BitTable {
     }
 }
 
-// Up to 8192 vertices and 25344 sides, three of each of 8448 triangles: the sides that start at a vertex are a chain.
+// Up to POINTS vertices, and up to SIDES sides but no more than a u16 can number: the sides that start at a vertex are a chain.
 #[derive(Drop)]
-pub struct ChainTable {
-    heads: [u16; 8192],
-    links: [u32; 25344],
+pub struct ChainTable<const POINTS: usize, const SIDES: usize> {
+    heads: [u16; POINTS],
+    links: [u32; SIDES],
 }
 
-impl SideTable for ChainTable {
-    ghost vertices = { 8192 };
+impl<const POINTS: usize, const SIDES: usize> SideTable for ChainTable<POINTS, SIDES> {
+    ghost vertices = { POINTS };
 
-    ghost room = { 25344 };
+    ghost room = { min SIDES 65535 };
 
     ghost holds = { λ ts n table. Linked ts n table.heads table.links };
 
-    fn empty() -> ChainTable {
+    fn empty() -> ChainTable<POINTS, SIDES> {
         ChainTable {
-            heads: [0; 8192],
-            links: [0; 25344],
+            heads: [0; POINTS],
+            links: [0; SIDES],
         }
     }
 
