@@ -2,6 +2,7 @@
 ghost use Rattle.std.specs.Prelude.{◌+◌, ◌*◌, ◌≤◌, ◌≡◌, [], ◌∷◌, length};
 ghost use Rattle.buffer.specs.Over.{Wrote};
 ghost use Rattle.edge.specs.Rows.{edge_row};
+ghost use Rattle.edge_table.specs.Stored.{rows_to};
 ghost use Rattle.level.specs.Segments.{Valid};
 ghost use Rattle.mesh_geometry.specs.Segmented.{run, isoline_points};
 ghost use Rattle.mesh_geometry.specs.Words.{vertex_words};
@@ -81,8 +82,54 @@ fn most_equal(most: u32, s: Segments) -> u32
     most.max(s.count)
 }
 
+// The same with a table of 8 rows.
+// Kept: a function for each size of table, and not one with the size as a const parameter. Where one function lays out all four tables, LLVM
+// copies each once more, and by `edge_table::rows_to` a table would be laid out here again, not by the functions that all callers share.
+fn write_with_8_rows(out: &mut [u32], at: usize, lines: Segments, along: Segments) -> usize
+    requires valid { AllValid (lines ∷ along ∷ []) }
+    requires stored { StoredIfEqual (rows_to 8) lines × StoredIfEqual (rows_to 8) along }
+    requires room { at + 3 * length (isoline_points (run lines) (run along)) ≤ length out.old }
+    ensures { Wrote out.old at (vertex_words (isoline_points (run lines) (run along))) out.new result }
+{
+    let table = edge_table::rows_to_8();
+    write_by_spacing(out, at, &table, lines, along)
+}
+
+// The same with a table of 16 rows.
+fn write_with_16_rows(out: &mut [u32], at: usize, lines: Segments, along: Segments) -> usize
+    requires valid { AllValid (lines ∷ along ∷ []) }
+    requires stored { StoredIfEqual (rows_to 16) lines × StoredIfEqual (rows_to 16) along }
+    requires room { at + 3 * length (isoline_points (run lines) (run along)) ≤ length out.old }
+    ensures { Wrote out.old at (vertex_words (isoline_points (run lines) (run along))) out.new result }
+{
+    let table = edge_table::rows_to_16();
+    write_by_spacing(out, at, &table, lines, along)
+}
+
+// The same with a table of 32 rows.
+fn write_with_32_rows(out: &mut [u32], at: usize, lines: Segments, along: Segments) -> usize
+    requires valid { AllValid (lines ∷ along ∷ []) }
+    requires stored { StoredIfEqual (rows_to 32) lines × StoredIfEqual (rows_to 32) along }
+    requires room { at + 3 * length (isoline_points (run lines) (run along)) ≤ length out.old }
+    ensures { Wrote out.old at (vertex_words (isoline_points (run lines) (run along))) out.new result }
+{
+    let table = edge_table::rows_to_32();
+    write_by_spacing(out, at, &table, lines, along)
+}
+
+// The same with a table of 64 rows.
+fn write_with_64_rows(out: &mut [u32], at: usize, lines: Segments, along: Segments) -> usize
+    requires valid { AllValid (lines ∷ along ∷ []) }
+    requires stored { StoredIfEqual (rows_to 64) lines × StoredIfEqual (rows_to 64) along }
+    requires room { at + 3 * length (isoline_points (run lines) (run along)) ≤ length out.old }
+    ensures { Wrote out.old at (vertex_words (isoline_points (run lines) (run along))) out.new result }
+{
+    let table = edge_table::rows_to_64();
+    write_by_spacing(out, at, &table, lines, along)
+}
+
 // Writes an isoline for each place of `lines` but the last, with a point for each place of `along`. Rows of equal spacing come from the
-// table, of which no more rows are copied than these two need. The table has no name: LLVM copied one that had a name once more.
+// table, of which no more rows are laid out than these two need.
 pub fn write_isolines(out: &mut [u32], at: usize, lines: Segments, along: Segments) -> usize
     requires fact_1 { Valid lines.count lines.scaled × Valid along.count along.scaled }
     requires fact_2 { at + 3 * length (isoline_points (run lines) (run along)) ≤ length out.old }
@@ -91,13 +138,13 @@ pub fn write_isolines(out: &mut [u32], at: usize, lines: Segments, along: Segmen
     let most = most_equal(0, lines);
     let most = most_equal(most, along);
     if most <= 8 {
-        return write_by_spacing(out, at, &edge_table::rows_to_8(), lines, along);
+        return write_with_8_rows(out, at, lines, along);
     }
     if most <= 16 {
-        return write_by_spacing(out, at, &edge_table::rows_to_16(), lines, along);
+        return write_with_16_rows(out, at, lines, along);
     }
     if most <= 32 {
-        return write_by_spacing(out, at, &edge_table::rows_to_32(), lines, along);
+        return write_with_32_rows(out, at, lines, along);
     }
-    write_by_spacing(out, at, &edge_table::rows_to_64(), lines, along)
+    write_with_64_rows(out, at, lines, along)
 }
