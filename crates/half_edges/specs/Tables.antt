@@ -3,6 +3,13 @@ use Rattle.std.specs.Prelude.{ℕ, ◌*◌, ◌≤◌, ◌<◌, ◌≡◌, List,
 use Rattle.strip.specs.declared.triangle.Triangle.{Triangle}
 use Rattle.half_edge_chains.specs.Sides.{side_start, side_end, Once}
 
+-- how many vertices and sides a table has room for, and the names of the lists that it was lent to write to; a table in memory of its
+-- own was lent none
+pub record Extent : Type 0 where
+  pub vertices : ℕ
+  pub sides : ℕ
+  pub lists : List ℕ
+
 -- side m goes from x to y, and both are among the first `vertices` vertices
 pub record SideAt (ts : List Triangle) (vertices m x y : ℕ) : Type 0 where
   pub start : x ≡ side_start ts m

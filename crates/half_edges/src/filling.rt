@@ -4,15 +4,16 @@ ghost use Rattle.mesh_geometry.specs.Words.{read_triangles};
 ghost use Rattle.check_searches.specs.Indices.{AllNumbered};
 ghost use Rattle.half_edges.specs.Tables.{SideAt, FilledTable, FilledTo};
 
-use crate::table::SideTable;
+use crate::table::GrowingTable;
 use check_searches::triangle::triangle_at;
 
 // Adds side m, which is x→y, unless the table has it already; returns whether it was new.
-fn add_new<T: SideTable>(indices: &[u16], m: usize, table: &mut T, x: u16, y: u16) -> bool
+fn add_new<T: GrowingTable>(indices: &[u16], m: usize, table: &mut T, x: u16, y: u16) -> bool
     requires filled { FilledTable T.holds (read_triangles indices.now) m table.old }
-    requires side { SideAt (read_triangles indices.now) T.vertices m x y }
-    requires room { m < T.room }
-    ensures { result ≡ true → FilledTable T.holds (read_triangles indices.now) (m + 1) table.new }
+    requires side { SideAt (read_triangles indices.now) (T.extent table.old).vertices m x y }
+    requires room { m < (T.extent table.old).sides }
+    ensures filled { result ≡ true → FilledTable T.holds (read_triangles indices.now) (m + 1) table.new }
+    ensures same_extent { T.extent table.new ≡ T.extent table.old }
 {
     if table.has_side(indices, m, x, y) {
         return false;
@@ -22,12 +23,13 @@ fn add_new<T: SideTable>(indices: &[u16], m: usize, table: &mut T, x: u16, y: u1
 }
 
 // Adds the sides of triangle k until one is repeated; returns whether all were new.
-fn add_triangle<T: SideTable>(indices: &[u16], k: usize, table: &mut T) -> bool
+fn add_triangle<T: GrowingTable>(indices: &[u16], k: usize, table: &mut T) -> bool
     requires filled { FilledTable T.holds (read_triangles indices.now) (k * 3) table.old }
-    requires numbered { AllNumbered T.vertices indices.now }
-    requires room { length indices.now ≤ T.room }
+    requires numbered { AllNumbered (T.extent table.old).vertices indices.now }
+    requires room { length indices.now ≤ (T.extent table.old).sides }
     requires within { (k < length indices.now / 3) × (length indices.now < 65536) }
-    ensures { result ≡ true → FilledTable T.holds (read_triangles indices.now) (k * 3 + 3) table.new }
+    ensures filled { result ≡ true → FilledTable T.holds (read_triangles indices.now) (k * 3 + 3) table.new }
+    ensures same_extent { T.extent table.new ≡ T.extent table.old }
 {
     let t = triangle_at(indices, k);
     let m = k * 3;
@@ -41,12 +43,13 @@ fn add_triangle<T: SideTable>(indices: &[u16], k: usize, table: &mut T) -> bool
 }
 
 // Fills the table up to the first triangle with a repeated side; returns the number of that triangle, or of all triangles.
-pub fn fill<T: SideTable>(indices: &[u16], table: &mut T) -> usize
+pub fn fill<T: GrowingTable>(indices: &[u16], table: &mut T) -> usize
     requires empty { T.holds (read_triangles indices.now) 0 table.old }
-    requires numbered { AllNumbered T.vertices indices.now }
-    requires room { length indices.now ≤ T.room }
+    requires numbered { AllNumbered (T.extent table.old).vertices indices.now }
+    requires room { length indices.now ≤ (T.extent table.old).sides }
     requires few { length indices.now < 65536 }
-    ensures { FilledTo T.holds (read_triangles indices.now) result table.new }
+    ensures filled { FilledTo T.holds (read_triangles indices.now) result table.new }
+    ensures same_extent { T.extent table.new ≡ T.extent table.old }
 {
     let count = indices.len() / 3;
     for k in 0..count {

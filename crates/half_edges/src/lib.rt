@@ -3,5 +3,7 @@
 #![tactic(auto)]
 
 pub mod filling;
+pub mod lent;
 pub mod opens;
+pub mod shared;
 pub mod table;

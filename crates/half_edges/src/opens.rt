@@ -5,7 +5,7 @@ ghost use Rattle.check_searches.specs.Indices.{AllNumbered};
 ghost use Rattle.half_edges.specs.Tables.{SideAt};
 ghost use Rattle.half_edges.specs.Opens.{Opens};
 
-use crate::table::SideTable;
+use crate::table::SearchedTable;
 use check_searches::triangle::triangle_at;
 
 // Appends side m to the list; returns the new count, or more than the list has room for if it is full.
@@ -23,7 +23,7 @@ fn list_side(indices: &[u16], opens: &mut [u16], count: usize, m: usize) -> usiz
 }
 
 // Appends side m, which is x→y, to the list if it has no reverse.
-fn list_open<T: SideTable>(
+fn list_open<T: SearchedTable>(
     indices: &[u16],
     table: &T,
     opens: &mut [u16],
@@ -33,7 +33,7 @@ fn list_open<T: SideTable>(
     y: u16,
 ) -> usize
     requires all { T.holds (read_triangles indices.now) (length (read_triangles indices.now) * 3) table.now }
-    requires side { SideAt (read_triangles indices.now) T.vertices m x y }
+    requires side { SideAt (read_triangles indices.now) (T.extent table.now).vertices m x y }
     requires listed { Opens (read_triangles indices.now) m opens.old count }
     requires within { (m < length indices.now / 3 * 3) × (m < 65536) }
     ensures { Opens (read_triangles indices.now) (m + 1) opens.new result }
@@ -46,7 +46,7 @@ fn list_open<T: SideTable>(
 }
 
 // Appends the sides of triangle k that have no reverse.
-fn list_triangle<T: SideTable>(
+fn list_triangle<T: SearchedTable>(
     indices: &[u16],
     k: usize,
     table: &T,
@@ -54,7 +54,7 @@ fn list_triangle<T: SideTable>(
     count: usize,
 ) -> usize
     requires all { T.holds (read_triangles indices.now) (length (read_triangles indices.now) * 3) table.now }
-    requires numbered { AllNumbered T.vertices indices.now }
+    requires numbered { AllNumbered (T.extent table.now).vertices indices.now }
     requires listed { Opens (read_triangles indices.now) (k * 3) opens.old count }
     requires within { (k < length indices.now / 3) × (length indices.now < 65536) }
     ensures { Opens (read_triangles indices.now) (k * 3 + 3) opens.new result }
@@ -67,9 +67,9 @@ fn list_triangle<T: SideTable>(
 }
 
 // Lists all sides without a reverse; returns how many there are, or more than the list has room for.
-pub fn open_sides<T: SideTable>(indices: &[u16], table: &T, opens: &mut [u16]) -> usize
+pub fn open_sides<T: SearchedTable>(indices: &[u16], table: &T, opens: &mut [u16]) -> usize
     requires all { T.holds (read_triangles indices.now) (length (read_triangles indices.now) * 3) table.now }
-    requires numbered { AllNumbered T.vertices indices.now }
+    requires numbered { AllNumbered (T.extent table.now).vertices indices.now }
     requires few { length indices.now < 65536 }
     ensures { Opens (read_triangles indices.now) (length (read_triangles indices.now) * 3) opens.new result }
 {
