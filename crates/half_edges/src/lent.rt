@@ -58,7 +58,7 @@ impl<'a> GrowingTable for LentChains<'a> {
     }
 }
 
-// Fills rows, which are 0, up to the first triangle with a repeated side; returns the number of that triangle, or of all triangles.
+// Fills rows that are all 0, up to the first triangle with a repeated side; returns the number of that triangle, or of all triangles.
 pub fn fill_rows(indices: &[u16], rows: &mut [u64]) -> usize
     requires empty { Zeros rows.old }
     requires size { length rows.old ≡ 64 }
@@ -72,7 +72,7 @@ pub fn fill_rows(indices: &[u16], rows: &mut [u64]) -> usize
     crate::filling::fill(indices, &mut table)
 }
 
-// The same for chains, whose heads are 0.
+// The same for chains whose heads are all 0.
 pub fn fill_chains(indices: &[u16], heads: &mut [u16], links: &mut [u32]) -> usize
     requires empty { Zeros heads.old }
     requires numbered { AllNumbered (length heads.old) indices.now }

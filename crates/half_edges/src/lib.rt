@@ -5,5 +5,5 @@
 pub mod filling;
 pub mod lent;
 pub mod opens;
-pub mod shared;
 pub mod table;
+pub mod views;

@@ -8,7 +8,7 @@ ghost use Rattle.half_edge_chains.specs.Links.{Linked};
 ghost use Rattle.half_edge_bits.specs.Rows.{Rowed};
 ghost use Rattle.half_edges.specs.Tables.{Extent, SideAt};
 
-// A table that is searched.
+// A table of sides that can be searched.
 pub trait SearchedTable: Drop {
     // What a table has room for, and the lists that it was lent to write to.
     ghost extent: { Self → Extent };
@@ -47,7 +47,7 @@ pub trait SideTable: GrowingTable {
     fn empty() -> Self
         ensures { (ts : List Triangle) → Self.holds ts 0 result };
 
-    // Every table of the type has room for as much.
+    // Each table of the type has room for so many vertices and sides, and was lent no list.
     ghost one_extent: { (table : Self) → Self.extent table ≡ record { vertices = vertices; sides = room; lists = [] } };
 }
 

@@ -82,7 +82,7 @@ fn most_equal(most: u32, s: Segments) -> u32
     most.max(s.count)
 }
 
-// The same with a table of 8 rows.
+// Writes isolines, with the rows of equal spacing from a table of 8 rows.
 // Kept: a function for each size of table, and not one with the size as a const parameter. Where one function lays out all four tables, LLVM
 // copies each once more, and by `edge_table::rows_to` a table would be laid out here again, not by the functions that all callers share.
 fn write_with_8_rows(out: &mut [u32], at: usize, lines: Segments, along: Segments) -> usize

@@ -1,4 +1,4 @@
-// The table in lists that the caller lends to be read alone: rows of bits, or chains. Sides cannot be added.
+// Views of the table, in lists that the caller lends to be read alone: rows of bits, or chains. Sides cannot be added.
 ghost use Rattle.std.specs.Prelude.{[], ◌*◌, ◌<◌, length, min};
 ghost use Rattle.mesh_geometry.specs.Words.{read_triangles};
 ghost use Rattle.check_searches.specs.Indices.{AllNumbered};
@@ -10,11 +10,11 @@ use crate::table::SearchedTable;
 
 // The rows of `BitTable` and `LentRows`.
 #[derive(Clone, Copy)]
-pub struct SharedRows<'a> {
+pub struct RowsView<'a> {
     pub rows: &'a [u64],
 }
 
-impl<'a> SearchedTable for SharedRows<'a> {
+impl<'a> SearchedTable for RowsView<'a> {
     ghost extent = { λ table. record { vertices = 64; sides = 65535; lists = [] } };
 
     ghost holds = { λ ts n table. Rowed ts n table.rows.now };
@@ -26,12 +26,12 @@ impl<'a> SearchedTable for SharedRows<'a> {
 
 // The chains of `ChainTable` and `LentChains`.
 #[derive(Clone, Copy)]
-pub struct SharedChains<'a> {
+pub struct ChainsView<'a> {
     pub heads: &'a [u16],
     pub links: &'a [u32],
 }
 
-impl<'a> SearchedTable for SharedChains<'a> {
+impl<'a> SearchedTable for ChainsView<'a> {
     ghost extent = { λ table. record { vertices = length table.heads.now; sides = min (length table.links.now) 65535; lists = [] } };
 
     ghost holds = { λ ts n table. Linked ts n table.heads.now table.links.now };
@@ -48,7 +48,7 @@ pub fn open_sides_by_rows(indices: &[u16], rows: &[u64], opens: &mut [u16]) -> u
     requires few { length indices.now < 65536 }
     ensures { Opens (read_triangles indices.now) (length (read_triangles indices.now) * 3) opens.new result }
 {
-    let table = SharedRows { rows };
+    let table = RowsView { rows };
     crate::opens::open_sides(indices, &table, opens)
 }
 
@@ -64,6 +64,6 @@ pub fn open_sides_by_chains(
     requires few { length indices.now < 65536 }
     ensures { Opens (read_triangles indices.now) (length (read_triangles indices.now) * 3) opens.new result }
 {
-    let table = SharedChains { heads, links };
+    let table = ChainsView { heads, links };
     crate::opens::open_sides(indices, &table, opens)
 }
