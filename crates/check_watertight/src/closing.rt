@@ -6,7 +6,7 @@ ghost use Rattle.check_faults.specs.Judged.{judged_by};
 ghost use Rattle.check_watertight.specs.Closing.{Shown};
 
 use check_faults::mesh::NumberedMesh;
-use half_edges::table::{BitTable, ChainTable, SideTable};
+use half_edges::table::{BitTable, ChainTable, SizedTable};
 
 // How many triangles, from the first on, have no side in common with an earlier one; how many sides, from the first on, are
 // closed; and how many pieces of the outline, from the first on, are sides.
@@ -19,7 +19,7 @@ pub struct Reached {
 
 // How far no fault of sides or outline occurs, by a table of the form T, a list with room for OPENS sides without a reverse,
 // and marks for MARKS pieces.
-fn reach_by<T: SideTable, const OPENS: usize, const MARKS: usize>(mesh: NumberedMesh) -> Reached
+fn reach_by<T: SizedTable, const OPENS: usize, const MARKS: usize>(mesh: NumberedMesh) -> Reached
     requires vertices { length (read_points mesh.points.now) ≤ T.vertices }
     requires room { length mesh.indices.now ≤ T.room }
     requires few { length mesh.indices.now < 65536 }

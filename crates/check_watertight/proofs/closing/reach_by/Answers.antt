@@ -11,10 +11,10 @@ pub fill-once-requires-clause-empty : goal.fill-once-requires-clause-empty
 fill-once-requires-clause-empty g c = c.empty-table.ensures _
 
 pub fill-once-requires-clause-numbered : goal.fill-once-requires-clause-numbered
-fill-once-requires-clause-numbered g c = rw (g.met.T.SideTable.one_extent c.empty-table.result) (numbered_wider c.args.mesh.numbered c.requires.vertices)
+fill-once-requires-clause-numbered g c = rw (g.met.T.SizedTable.one_extent c.empty-table.result) (numbered_wider c.args.mesh.numbered c.requires.vertices)
 
 pub fill-once-requires-clause-room : goal.fill-once-requires-clause-room
-fill-once-requires-clause-room g c = rw (g.met.T.SideTable.one_extent c.empty-table.result) c.requires.room
+fill-once-requires-clause-room g c = rw (g.met.T.SizedTable.one_extent c.empty-table.result) c.requires.room
 
 pub returns-then-once-mesh : goal.returns-then-once-mesh
 returns-then-once-mesh g c = shown_once _ _ c.fill-once.ensures.filled.most c.fill-once.ensures.filled.once
@@ -28,7 +28,7 @@ open_sides-count-requires-clause-all g c =
 
 pub open_sides-count-requires-clause-numbered : goal.open_sides-count-requires-clause-numbered
 open_sides-count-requires-clause-numbered g c =
-    rw (g.met.T.SideTable.one_extent c.fill-once.new.table) (numbered_wider c.args.mesh.numbered c.requires.vertices)
+    rw (g.met.T.SizedTable.one_extent c.fill-once.new.table) (numbered_wider c.args.mesh.numbered c.requires.vertices)
 
 pub returns-then-count : goal.returns-then-count
 returns-then-count g c = shown_once _ _
