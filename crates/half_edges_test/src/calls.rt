@@ -39,7 +39,7 @@ fn numbered(indices: &[u16]) -> bool
 
 // Writes how many triangles, from the first on, have no side in common with an earlier one; if these are all triangles, then also how many
 // sides have no reverse, and which. A mesh has at most 8 vertices and 12 triangles, so it has at most 36 sides.
-pub fn write<T: SideTable>(out: Stdout, indices: &[u16]) -> io::Result<()>
+pub(crate) fn write<T: SideTable>(out: Stdout, indices: &[u16]) -> io::Result<()>
     requires vertices { 8 ≤ T.vertices }
     requires room { 36 ≤ T.room }
 {

@@ -5,7 +5,7 @@ use half_edges::table::{BitTable, SideTable};
 
 // Up to 8 vertices, in the first 8 rows of bits.
 #[derive(Drop)]
-pub struct EightTable {
+pub(crate) struct EightTable {
     bits: BitTable,
 }
 
